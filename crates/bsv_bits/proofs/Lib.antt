@@ -1,0 +1,4 @@
+pub mod ConstantTexts
+pub mod Digits
+pub mod Modulo
+pub mod Signs

@@ -1,0 +1,4 @@
+pub mod Constants
+pub mod Operators
+pub mod Signed
+pub mod Words
