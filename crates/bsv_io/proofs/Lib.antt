@@ -1,0 +1,7 @@
+pub mod Appended
+pub mod Counts
+mod Fronts
+pub mod NoFaults
+pub mod Pieces
+pub mod Sequences
+mod Written

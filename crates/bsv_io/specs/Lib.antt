@@ -1,0 +1,11 @@
+pub mod Blame
+pub mod Calls
+pub mod Disk
+pub mod Faults
+pub mod InMemory
+pub mod Prefixes
+pub mod Reading
+pub mod Standing
+pub mod Sure
+pub mod Writer
+pub mod Writing

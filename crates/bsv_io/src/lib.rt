@@ -1,0 +1,36 @@
+//! Sources and sinks: all that the compiler reads from the outside and writes to it.
+//!
+//! Modules in reading order: `failed` (the one error), `files` (sources, chosen by name and read
+//! piece by piece), `sink` (where bytes are put), `put_buffer` (bytes that wait to be put in one
+//! call). For tests and for texts that the program makes itself: `calls` (calls that fail by their
+//! numbers), `progress` (where a source stands), `contents` (files in memory, and how a piece of
+//! one is given), `mem_files`, `sure_files`, `mem_sink`, `sure_sink`. The trusted edge, which
+//! passes calls on to the runtime: `disk_files`, `std_sink`.
+#![tactic(auto)]
+
+mod calls;
+mod contents;
+mod disk_files;
+mod failed;
+mod files;
+mod mem_files;
+mod mem_sink;
+mod progress;
+mod put_buffer;
+mod sink;
+mod std_sink;
+mod sure_files;
+mod sure_sink;
+#[cfg(test)]
+mod tests;
+
+pub use disk_files::DiskFiles;
+pub use failed::Failed;
+pub use files::Files;
+pub use mem_files::MemFiles;
+pub use mem_sink::MemSink;
+pub use put_buffer::PutBuffer;
+pub use sink::Sink;
+pub use std_sink::StdSink;
+pub use sure_files::SureFiles;
+pub use sure_sink::SureSink;
