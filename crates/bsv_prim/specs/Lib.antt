@@ -1,0 +1,15 @@
+pub mod CallLists
+pub mod Calls
+pub mod Laws
+pub mod Orderly
+pub mod QueueState
+pub mod RegisterLaws
+pub mod Registers
+pub mod Shape
+pub mod Signals
+pub mod Speaks
+pub mod Table
+pub mod Widths
+pub mod WireKinds
+pub mod WireLaws
+pub mod WireTables

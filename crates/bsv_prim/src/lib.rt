@@ -1,0 +1,35 @@
+//! The primitives of a hardware design, registers and wires, and the laws that each kind keeps.
+//! What holds of many rules in one clock rests on these tables and laws alone.
+//!
+//! Modules in reading order: `queue` (words in a row, with their room), `part` (the state of a
+//! primitive), `piece` (an expression over registers and calls), `primitive` (what every kind
+//! answers, and its laws), `cells` (what the kinds share), `reg` and `regu` (registers), `wire`,
+//! `dwire`, `rwire` and `pulse` (wires). The tables stand in `specs/Registers.antt` and
+//! `specs/WireTables.antt`, the laws in `specs/Laws.antt`, and what follows from them alone in
+//! `specs/Orderly.antt`.
+#![tactic(auto)]
+
+mod cells;
+mod dwire;
+mod part;
+mod piece;
+mod primitive;
+mod pulse;
+mod queue;
+mod reg;
+mod regu;
+mod rwire;
+#[cfg(test)]
+mod tests;
+mod wire;
+
+pub use dwire::DWireKind;
+pub use part::Part;
+pub use piece::Piece;
+pub use primitive::{Primitive, RegisterInfo, Rel};
+pub use pulse::PulseKind;
+pub use queue::Queue;
+pub use reg::RegKind;
+pub use regu::RegUKind;
+pub use rwire::RWireKind;
+pub use wire::WireKind;
