@@ -1,0 +1,9 @@
+pub mod Complete
+pub mod Limits
+pub mod Places
+pub mod Splitting
+pub mod Symbols
+pub mod Tables
+pub mod TokenKinds
+pub mod Turns
+pub mod Values

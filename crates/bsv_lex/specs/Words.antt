@@ -1,0 +1,102 @@
+-- The words of the grammar: its keywords, the keywords that it reserves and does not use (those of the
+-- Bluespec reference guide, and the remaining ones of IEEE 1364-2005, annex B), and its symbols.
+use Rattle.std.specs.Prelude.{ℕ, Bool, true, false, if◌then◌else◌, List, [], ◌∷◌, Option, Some, None, unwrap_or, codes}
+use Rattle.std.specs.Str.{bytes_eq}
+use Rattle.bsv_lex.specs.declared.token.TokenKind.{TokenKind}
+use Rattle.bsv_lex.specs.declared.token.TokenKind.TheVariants as kind
+use Rattle.bsv_lex.specs.declared.terminal.Terminal.{Terminal}
+use Rattle.bsv_lex.specs.declared.terminal.Terminal.TheVariants as word
+
+-- a word of the grammar, and what it is to the grammar
+abbrev pub Entry : Type 0
+Entry = List ℕ × Terminal
+
+-- the keywords that stand in a production
+unfoldable pub keywords : List Entry
+keywords =
+    (codes "package", word.Package) ∷ (codes "endpackage", word.EndPackage) ∷ (codes "import", word.Import) ∷
+    (codes "typedef", word.Typedef) ∷ (codes "enum", word.Enum) ∷ (codes "struct", word.Struct) ∷
+    (codes "deriving", word.Deriving) ∷ (codes "interface", word.Interface) ∷
+    (codes "endinterface", word.EndInterface) ∷ (codes "method", word.Method) ∷
+    (codes "endmethod", word.EndMethod) ∷ (codes "function", word.Function) ∷
+    (codes "endfunction", word.EndFunction) ∷ (codes "module", word.Module) ∷
+    (codes "endmodule", word.EndModule) ∷ (codes "rule", word.Rule) ∷ (codes "endrule", word.EndRule) ∷
+    (codes "let", word.Let) ∷ (codes "return", word.Return) ∷ (codes "if", word.If) ∷
+    (codes "else", word.Else) ∷ (codes "case", word.Case) ∷ (codes "matches", word.Matches) ∷
+    (codes "tagged", word.Tagged) ∷ (codes "default", word.Default) ∷ (codes "endcase", word.EndCase) ∷
+    (codes "for", word.For) ∷ (codes "begin", word.Begin) ∷ (codes "end", word.End) ∷
+    (codes "noAction", word.NoAction) ∷ (codes "int", word.Int) ∷ []
+
+-- the keywords that stand in none
+unfoldable pub reserved_words : List (List ℕ)
+reserved_words =
+    codes "action" ∷ codes "endaction" ∷ codes "actionvalue" ∷ codes "endactionvalue" ∷ codes "rules" ∷
+    codes "endrules" ∷ codes "seq" ∷ codes "endseq" ∷ codes "par" ∷ codes "endpar" ∷ codes "typeclass" ∷
+    codes "endtypeclass" ∷ codes "endinstance" ∷ codes "provisos" ∷ codes "union" ∷ codes "export" ∷
+    codes "while" ∷ codes "when" ∷ codes "type" ∷ codes "always" ∷ codes "and" ∷ codes "assign" ∷
+    codes "automatic" ∷ codes "buf" ∷ codes "bufif0" ∷ codes "bufif1" ∷ codes "casex" ∷ codes "casez" ∷
+    codes "cell" ∷ codes "cmos" ∷ codes "config" ∷ codes "deassign" ∷ codes "defparam" ∷ codes "design" ∷
+    codes "disable" ∷ codes "edge" ∷ codes "endconfig" ∷ codes "endgenerate" ∷ codes "endprimitive" ∷
+    codes "endspecify" ∷ codes "endtable" ∷ codes "endtask" ∷ codes "event" ∷ codes "force" ∷ codes "forever" ∷
+    codes "fork" ∷ codes "generate" ∷ codes "genvar" ∷ codes "highz0" ∷ codes "highz1" ∷ codes "ifnone" ∷
+    codes "incdir" ∷ codes "include" ∷ codes "initial" ∷ codes "inout" ∷ codes "input" ∷ codes "instance" ∷
+    codes "integer" ∷ codes "join" ∷ codes "large" ∷ codes "liblist" ∷ codes "library" ∷ codes "localparam" ∷
+    codes "macromodule" ∷ codes "medium" ∷ codes "nand" ∷ codes "negedge" ∷ codes "nmos" ∷ codes "nor" ∷
+    codes "noshowcancelled" ∷ codes "not" ∷ codes "notif0" ∷ codes "notif1" ∷ codes "or" ∷ codes "output" ∷
+    codes "parameter" ∷ codes "pmos" ∷ codes "posedge" ∷ codes "primitive" ∷ codes "pull0" ∷ codes "pull1" ∷
+    codes "pulldown" ∷ codes "pullup" ∷ codes "pulsestyle_ondetect" ∷ codes "pulsestyle_onevent" ∷
+    codes "rcmos" ∷ codes "real" ∷ codes "realtime" ∷ codes "reg" ∷ codes "release" ∷ codes "repeat" ∷
+    codes "rnmos" ∷ codes "rpmos" ∷ codes "rtran" ∷ codes "rtranif0" ∷ codes "rtranif1" ∷ codes "scalared" ∷
+    codes "showcancelled" ∷ codes "signed" ∷ codes "small" ∷ codes "specify" ∷ codes "specparam" ∷
+    codes "strong0" ∷ codes "strong1" ∷ codes "supply0" ∷ codes "supply1" ∷ codes "table" ∷ codes "task" ∷
+    codes "time" ∷ codes "tran" ∷ codes "tranif0" ∷ codes "tranif1" ∷ codes "tri" ∷ codes "tri0" ∷
+    codes "tri1" ∷ codes "triand" ∷ codes "trior" ∷ codes "trireg" ∷ codes "unsigned" ∷ codes "use" ∷
+    codes "uwire" ∷ codes "vectored" ∷ codes "wait" ∷ codes "wand" ∷ codes "weak0" ∷ codes "weak1" ∷
+    codes "wire" ∷ codes "wor" ∷ codes "xnor" ∷ codes "xor" ∷ []
+
+-- the symbols
+unfoldable pub symbols : List Entry
+symbols =
+    (codes "(", word.OpenParen) ∷ (codes ")", word.CloseParen) ∷ (codes "[", word.OpenBracket) ∷
+    (codes "]", word.CloseBracket) ∷ (codes "{", word.OpenBrace) ∷ (codes "}", word.CloseBrace) ∷
+    (codes "(*", word.OpenAttribute) ∷ (codes "*)", word.CloseAttribute) ∷ (codes ";", word.Semicolon) ∷
+    (codes ":", word.Colon) ∷ (codes "::", word.DoubleColon) ∷ (codes ",", word.Comma) ∷ (codes ".", word.Dot) ∷
+    (codes "#", word.Hash) ∷ (codes "?", word.Question) ∷ (codes "=", word.Equal) ∷
+    (codes "==", word.DoubleEqual) ∷ (codes "!=", word.NotEqual) ∷ (codes "<", word.Less) ∷
+    (codes "<=", word.LessEqual) ∷ (codes "<-", word.LeftArrow) ∷ (codes "<<", word.ShiftLeft) ∷
+    (codes ">", word.Greater) ∷ (codes ">=", word.GreaterEqual) ∷ (codes ">>", word.ShiftRight) ∷
+    (codes "+", word.Plus) ∷ (codes "-", word.Minus) ∷ (codes "*", word.Star) ∷ (codes "&", word.And) ∷
+    (codes "&&", word.DoubleAnd) ∷ (codes "^", word.Caret) ∷ (codes "|", word.Or) ∷
+    (codes "||", word.DoubleOr) ∷ (codes "!", word.Not) ∷ (codes "~", word.Tilde) ∷ []
+
+-- what the entries have for a text
+abbrev pub lookup : List Entry → List ℕ → Option Terminal
+lookup [] text = None
+lookup (entry ∷ entries) text = if bytes_eq entry.0 text then Some entry.1 else lookup entries text
+
+-- whether a text is one of the words
+abbrev pub is_listed : List (List ℕ) → List ℕ → Bool
+is_listed [] text = false
+is_listed (entry ∷ entries) text = if bytes_eq entry text then true else is_listed entries text
+
+-- what was found for a text, else `Reserved` where it is a reserved word
+abbrev pub or_reserved : Option Terminal → List ℕ → Option Terminal
+or_reserved (Some found) text = Some found
+or_reserved None text = if is_listed reserved_words text then Some word.Reserved else None
+
+-- the keyword that a text is
+unfoldable pub keyword : List ℕ → Option Terminal
+keyword text = or_reserved (lookup keywords text) text
+
+-- the symbol that a text is
+unfoldable pub symbol : List ℕ → Option Terminal
+symbol text = lookup symbols text
+
+-- what a token of this kind and text is to the grammar; a keyword that is none of the grammar's is reserved
+abbrev pub terminal_of : TokenKind → List ℕ → Terminal
+terminal_of kind.Lower text = word.Lower
+terminal_of kind.Upper text = word.Upper
+terminal_of kind.Keyword text = unwrap_or (keyword text) word.Reserved
+terminal_of kind.Number text = word.Number
+terminal_of kind.Text text = word.Text
+terminal_of kind.Symbol text = unwrap_or (symbol text) word.Reserved
