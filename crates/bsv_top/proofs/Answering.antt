@@ -1,0 +1,53 @@
+-- All words and contents have an answer, and all their answers have one status.
+use Rattle.std.proofs.Common.{◌≡◌, ℕ, ◌+◌, Bool, true, false, List, [], ◌∷◌, codes, refl, sym, ap, ◌∙◌}
+use Rattle.std.specs.Str.{bytes_eq}
+use Rattle.std.proofs.lemmas.Slice.Eq.{bytes_eq-Decides}
+use Rattle.bsv_top.specs.declared.status.Status.{Status}
+use Rattle.bsv_top.specs.declared.status.Status.TheVariants as status
+use Rattle.bsv_top.specs.Answers as a
+use Rattle.bsv_top.specs.Answers.{Answer, HasAnswer, HasNoForm, sim_words, usage_line, refused_line, trace_fault_line}
+use Rattle.bsv_top.specs.Running.{report_so_far}
+use Rattle.bsv_top.specs.Traces.{clocks_of}
+use Rattle.bsv_top.proofs.Decided.{Decides, Verdict, decide, verdict, done_answer, bad_answer, status_of_usage, status_once}
+
+-- words have a form or none
+data Spells (words : List (List ℕ)) : Type 0 where
+  form : (file top trace : List ℕ) → words ≡ sim_words file top trace → Spells words
+  none : HasNoForm words → Spells words
+
+spells_by : (command file top trace : List ℕ) (b : Bool) → bytes_eq command (codes "sim") ≡ b → Spells (command ∷ file ∷ top ∷ trace ∷ [])
+spells_by command file top trace true same =
+    form file top trace (ap (λ (first : List ℕ). first ∷ file ∷ top ∷ trace ∷ []) ((bytes_eq-Decides command (codes "sim")).0 same))
+spells_by command file top trace false other =
+    none (λ f t r h.
+    let first : command ≡ codes "sim" = cc in
+    let same = (bytes_eq-Decides command (codes "sim")).1 first in
+    let no_value : ⊥ = cc in no_value)
+
+spells : (words : List (List ℕ)) → Spells words
+spells [] = none (λ f t r h. let no_value : ⊥ = cc in no_value)
+spells (command ∷ []) = none (λ f t r h. let no_value : ⊥ = cc in no_value)
+spells (command ∷ file ∷ []) = none (λ f t r h. let no_value : ⊥ = cc in no_value)
+spells (command ∷ file ∷ top ∷ []) = none (λ f t r h. let no_value : ⊥ = cc in no_value)
+spells (command ∷ file ∷ top ∷ trace ∷ []) = spells_by command file top trace (bytes_eq command (codes "sim")) refl
+spells (command ∷ file ∷ top ∷ trace ∷ more ∷ rest) = none (λ f t r h. let no_value : ⊥ = cc in no_value)
+
+pub an_answer : (words : List (List ℕ)) (contents : List ℕ → List ℕ) → HasAnswer words contents
+an_answer words contents =
+    elim (spells words) [
+      | none h ↦ record { decided = status.Usage; output = []; text = usage_line; answer = a.Answer.usage h }
+      | form file top trace spelled ↦ elim (decide top (contents file)) [
+        | Decides.not no_machine ↦ record { decided = status.Refused; output = []; text = refused_line; answer = a.Answer.refused spelled no_machine }
+        | Decides.is m is_plain ↦ elim (verdict (contents trace)) [
+          | Verdict.clean whole ↦ record { decided = status.Done; output = report_so_far m (clocks_of (contents trace)); text = []; answer = done_answer words contents file top trace spelled m is_plain whole }
+          | Verdict.bad wrong ↦ record { decided = status.TraceFault; output = report_so_far m (clocks_of (contents trace)); text = trace_fault_line (clocks_of (contents trace) + 1); answer = bad_answer words contents file top trace spelled m is_plain wrong }
+        ]
+      ]
+    ]
+
+pub one_status : (words : List (List ℕ)) (contents : List ℕ → List ℕ) (s s' : Status) (output text output' text' : List ℕ) → Answer words contents s output text → Answer words contents s' output' text' → s ≡ s'
+one_status words contents s s' output text output' text' answer other =
+    elim (spells words) [
+      | none h ↦ status_of_usage words contents s output text h answer ∙ sym (status_of_usage words contents s' output' text' h other)
+      | form file top trace spelled ↦ status_once words contents file top trace s s' output text output' text' spelled answer other
+    ]

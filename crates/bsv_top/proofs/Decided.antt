@@ -1,0 +1,163 @@
+-- The answer to words and contents: there is one, and its status is determined.
+use Rattle.std.proofs.Common.{◌≡◌, ℕ, suc, ◌+◌, ◌≤◌, inl, inr, true, false, cond, List, [], ◌∷◌, length, Option, None, Some, refl, sym, ap, ◌∙◌, subst, arith}
+use Rattle.std.proofs.lemmas.Bool.{cases_lt}
+use Rattle.bsv_io.specs.Writing.{Writing, AppendsPrefix}
+use Rattle.bsv_io.proofs.Appended.{nothing_put}
+use Rattle.bsv_top.specs.declared.machine.Machine.{Machine}
+use Rattle.bsv_top.specs.declared.status.Status.{Status}
+use Rattle.bsv_top.specs.declared.status.Status.TheVariants as status
+use Rattle.bsv_top.specs.Answers as a
+use Rattle.bsv_top.specs.Answers.{Answer, HasNoForm, sim_words, usage_line, refused_line, trace_fault_line}
+use Rattle.bsv_top.specs.Outcomes.{OutputBegun}
+use Rattle.bsv_top.specs.Plain.{Plain}
+use Rattle.bsv_top.specs.Reading.{plain_of}
+use Rattle.bsv_top.specs.Rules.{opening}
+use Rattle.bsv_top.specs.Running.{report_so_far, rows_from}
+use Rattle.bsv_top.specs.Traces.{lines_of, is_clock, clocks_from, clocks_of, IsClean, HasBadLine}
+use Rattle.bsv_top.proofs.Complete.{plain_complete}
+use Rattle.bsv_top.proofs.Fired.{rows_continue, length-rows_from}
+use Rattle.bsv_top.proofs.PlainMachines.{plain_machine}
+use Rattle.bsv_top.proofs.Reported.{report_is}
+use Rattle.bsv_top.proofs.Sound.{plain_sound}
+
+-- a source is plain or it is not
+pub data Decides (top source : List ℕ) : Type 0 where
+  is : (m : Machine) → Plain top source m → Decides top source
+  not : ((m : Machine) → Plain top source m → ⊥) → Decides top source
+
+decide_by : (top source : List ℕ) (o : Option Machine) → plain_of top source ≡ o → Decides top source
+decide_by top source None h = not (λ m is_plain. let e = sym h ∙ plain_complete top source m is_plain in let no_value : ⊥ = cc in no_value)
+decide_by top source (Some m) h = is m (plain_sound top source m h)
+
+pub decide : (top source : List ℕ) → Decides top source
+decide top source = decide_by top source (plain_of top source) refl
+
+clocks_at_most : (start : ℕ) (lines : List (List ℕ)) → clocks_from start lines ≤ length lines
+clocks_at_most start [] = omega arith
+clocks_at_most start (line ∷ lines) =
+    elim (is_clock (start + length line) line) as (λ b. cond b (suc (clocks_from (start + length line) lines)) 0 ≤ suc (length lines))
+    [ true ↦ omega (arith, clocks_at_most (start + length line) lines) | false ↦ omega arith ]
+
+-- a trace is clean or has a bad line
+pub data Verdict (trace : List ℕ) : Type 0 where
+  clean : IsClean trace → Verdict trace
+  bad : HasBadLine trace → Verdict trace
+
+at_most : (trace : List ℕ) → clocks_of trace ≤ length (lines_of trace)
+unfolding clocks_of
+at_most trace = clocks_at_most 0 (lines_of trace)
+
+pub verdict : (trace : List ℕ) → Verdict trace
+verdict trace =
+    elim (cases_lt (clocks_of trace) (length (lines_of trace))) [
+      | inl below ↦ bad below
+      | inr above ↦ clean (omega (arith, at_most trace))
+    ]
+
+module _ (words : List (List ℕ)) (contents : List ℕ → List ℕ) (file top trace : List ℕ) (spelled : words ≡ sim_words file top trace) (m : Machine) (is_plain : Plain top (contents file) m) where
+  -- all lines are clocks
+  pub done_answer : IsClean (contents trace) → Answer words contents status.Done (report_so_far m (clocks_of (contents trace))) []
+  done_answer h =
+      let n = clocks_of (contents trace) in
+      subst (λ (t : List ℕ). Answer words contents status.Done t []) (sym (report_is m n))
+      (a.Answer.done m (rows_from m (opening m) n) spelled is_plain h (rows_continue m (opening m) n (plain_machine top (contents file) m is_plain)) (length-rows_from m (opening m) n))
+
+  -- a line is bad
+  pub bad_answer : HasBadLine (contents trace) → Answer words contents status.TraceFault (report_so_far m (clocks_of (contents trace))) (trace_fault_line (clocks_of (contents trace) + 1))
+  bad_answer h =
+      let n = clocks_of (contents trace) in
+      subst (λ (t : List ℕ). Answer words contents status.TraceFault t (trace_fault_line (n + 1))) (sym (report_is m n))
+      (a.Answer.trace_fault m (rows_from m (opening m) n) spelled is_plain h (rows_continue m (opening m) n (plain_machine top (contents file) m is_plain)) (length-rows_from m (opening m) n))
+
+  -- a prefix of the report is one of an answer's output
+  pub begun_plain : (out out' : Writing) → AppendsPrefix (report_so_far m (clocks_of (contents trace))) out out' → OutputBegun words contents out out'
+  begun_plain out out' h =
+      elim (verdict (contents trace)) [
+        | clean c ↦ record { decided = status.Done; output = report_so_far m (clocks_of (contents trace)); text = []; answer = done_answer c; prefix = h }
+        | bad b ↦ record { decided = status.TraceFault; output = report_so_far m (clocks_of (contents trace)); text = trace_fault_line (clocks_of (contents trace) + 1); answer = bad_answer b; prefix = h }
+      ]
+
+-- nothing put is a prefix of any output
+pub begun_nothing : (words : List (List ℕ)) (contents : List ℕ → List ℕ) (out out' : Writing) (s : Status) (output text : List ℕ) → Answer words contents s output text → out' ≡ out → OutputBegun words contents out out'
+begun_nothing words contents out out' s output text answer same =
+    record { decided = s; output = output; text = text; answer = answer; prefix = subst (λ (w : Writing). AppendsPrefix output out w) (sym same) (nothing_put output out) }
+
+-- the output of words with a form has begun: a prefix of the report where the source is plain, and nothing where it is not
+pub begun : (words : List (List ℕ)) (contents : List ℕ → List ℕ) (file top trace : List ℕ) → words ≡ sim_words file top trace → (out out' : Writing) → ((m : Machine) → Plain top (contents file) m → AppendsPrefix (report_so_far m (clocks_of (contents trace))) out out') → (((m : Machine) → Plain top (contents file) m → ⊥) → out' ≡ out) → OutputBegun words contents out out'
+begun words contents file top trace spelled out out' prefix none =
+    elim (decide top (contents file)) [
+      | is m is_plain ↦ begun_plain words contents file top trace spelled m is_plain out out' (prefix m is_plain)
+      | not no_machine ↦ begun_nothing words contents out out' status.Refused [] refused_line (a.Answer.refused spelled no_machine) (none no_machine)
+    ]
+
+-- an answer to words without a form is how the program is called
+pub status_of_usage : (words : List (List ℕ)) (contents : List ℕ → List ℕ) (s : Status) (output text : List ℕ) → HasNoForm words → Answer words contents s output text → s ≡ status.Usage
+status_of_usage words contents s output text none (a.Answer.usage h) = refl
+status_of_usage words contents s output text none (a.Answer.refused spelled h) = absurd (none _ _ _ spelled)
+status_of_usage words contents s output text none (a.Answer.done m rows spelled is_plain h runs count) = absurd (none _ _ _ spelled)
+status_of_usage words contents s output text none (a.Answer.trace_fault m rows spelled is_plain h runs count) = absurd (none _ _ _ spelled)
+
+-- the words of a form tell its parts
+second_of : List (List ℕ) → List ℕ
+second_of [] = []
+second_of (x ∷ []) = []
+second_of (x ∷ y ∷ rest) = y
+
+third_of : List (List ℕ) → List ℕ
+third_of [] = []
+third_of (x ∷ rest) = second_of rest
+
+fourth_of : List (List ℕ) → List ℕ
+fourth_of [] = []
+fourth_of (x ∷ rest) = third_of rest
+
+-- the same words have the same parts
+record SameParts (file top trace file' top' trace' : List ℕ) : Type 0 where
+  file_is : file' ≡ file
+  top_is : top' ≡ top
+  trace_is : trace' ≡ trace
+
+same_parts : (file top trace file' top' trace' : List ℕ) → sim_words file' top' trace' ≡ sim_words file top trace → SameParts file top trace file' top' trace'
+unfolding second_of third_of fourth_of
+same_parts file top trace file' top' trace' h = record { file_is = ap second_of h; top_is = ap third_of h; trace_is = ap fourth_of h }
+
+-- what decides a run over words with a form
+pub data Decided (words : List (List ℕ)) (contents : List ℕ → List ℕ) (file top trace : List ℕ) : Status → Type 0 where
+  refused : ((m : Machine) → Plain top (contents file) m → ⊥) → Decided words contents file top trace status.Refused
+  done : (m : Machine) → Plain top (contents file) m → IsClean (contents trace) → Decided words contents file top trace status.Done
+  trace_fault : (m : Machine) → Plain top (contents file) m → HasBadLine (contents trace) → Decided words contents file top trace status.TraceFault
+
+decided_same : (words : List (List ℕ)) (contents : List ℕ → List ℕ) (file top trace file' top' trace' : List ℕ) (s : Status) → SameParts file top trace file' top' trace' → Decided words contents file' top' trace' s → Decided words contents file top trace s
+decided_same words contents file top trace file' top' trace' s same h =
+    subst (λ (t : List ℕ). Decided words contents file top t s) same.trace_is
+    (subst (λ (t : List ℕ). Decided words contents file t trace' s) same.top_is
+    (subst (λ (f : List ℕ). Decided words contents f top' trace' s) same.file_is h))
+
+-- an answer to them is decided so
+decided_of : (words : List (List ℕ)) (contents : List ℕ → List ℕ) (file top trace : List ℕ) (s : Status) (output text : List ℕ) → words ≡ sim_words file top trace → Answer words contents s output text → Decided words contents file top trace s
+decided_of words contents file top trace s output text spelled (a.Answer.usage none) = absurd (none file top trace spelled)
+decided_of words contents file top trace s output text spelled (a.Answer.refused {file = f} {top = t} {trace = r} other no_machine) =
+    decided_same words contents file top trace f t r status.Refused (same_parts file top trace f t r (sym other ∙ spelled)) (refused no_machine)
+decided_of words contents file top trace s output text spelled (a.Answer.done {file = f} {top = t} {trace = r} m rows other is_plain h runs count) =
+    decided_same words contents file top trace f t r status.Done (same_parts file top trace f t r (sym other ∙ spelled)) (done m is_plain h)
+decided_of words contents file top trace s output text spelled (a.Answer.trace_fault {file = f} {top = t} {trace = r} m rows other is_plain h runs count) =
+    decided_same words contents file top trace f t r status.TraceFault (same_parts file top trace f t r (sym other ∙ spelled)) (trace_fault m is_plain h)
+
+decided_once : (words : List (List ℕ)) (contents : List ℕ → List ℕ) (file top trace : List ℕ) (s s' : Status) → Decided words contents file top trace s → Decided words contents file top trace s' → s ≡ s'
+decided_once words contents file top trace s s' (refused no_machine) (refused again) = refl
+decided_once words contents file top trace s s' (refused no_machine) (done m is_plain whole) = absurd (no_machine m is_plain)
+decided_once words contents file top trace s s' (refused no_machine) (trace_fault m is_plain wrong) = absurd (no_machine m is_plain)
+decided_once words contents file top trace s s' (done m is_plain whole) (refused no_machine) = absurd (no_machine m is_plain)
+decided_once words contents file top trace s s' (done m is_plain whole) (done n again also) = refl
+decided_once words contents file top trace s s' (done m is_plain whole) (trace_fault n again wrong) = absurd (omega (arith, whole, wrong))
+decided_once words contents file top trace s s' (trace_fault m is_plain wrong) (refused no_machine) = absurd (no_machine m is_plain)
+decided_once words contents file top trace s s' (trace_fault m is_plain wrong) (done n again whole) = absurd (omega (arith, whole, wrong))
+decided_once words contents file top trace s s' (trace_fault m is_plain wrong) (trace_fault n again also) = refl
+
+-- the status of an answer to words with a form is the one that is decided
+pub status_of_form : (words : List (List ℕ)) (contents : List ℕ → List ℕ) (file top trace : List ℕ) (s s' : Status) (output text : List ℕ) → words ≡ sim_words file top trace → Decided words contents file top trace s → Answer words contents s' output text → s ≡ s'
+status_of_form words contents file top trace s s' output text spelled h answer = decided_once words contents file top trace s s' h (decided_of words contents file top trace s' output text spelled answer)
+
+pub status_once : (words : List (List ℕ)) (contents : List ℕ → List ℕ) (file top trace : List ℕ) (s s' : Status) (output text output' text' : List ℕ) → words ≡ sim_words file top trace → Answer words contents s output text → Answer words contents s' output' text' → s ≡ s'
+status_once words contents file top trace s s' output text output' text' spelled answer other =
+    decided_once words contents file top trace s s' (decided_of words contents file top trace s output text spelled answer) (decided_of words contents file top trace s' output' text' spelled other)

@@ -1,0 +1,95 @@
+-- A trace read piece by piece from a source that tells its contents.
+use Rattle.std.proofs.Common.{◌≡◌, ℕ, ◌+◌, ◌≤◌, List, [], ◌++◌, length, take, drop, Option, None, Some, IsSome, IfSome, refl, sym, ap, ◌∙◌, subst, arith}
+use Rattle.std.proofs.lemmas.List.{take-append-drop, drop-drop}
+use Rattle.std.specs.Option.{option_map}
+use Rattle.bsv_io.specs.Reading.{Reading, Current, Gives, advanced, rest, rest_of, current_name}
+use Rattle.bsv_top.specs.declared.trace.Lines.{Lines}
+use Rattle.bsv_top.specs.Scanning.{IsReached, ReadsTo, EndsBad, clocks_ahead, lines_ahead, lines_in_all, IsStart}
+use Rattle.bsv_top.specs.Traces.{lines_of, clocks_of, IsClean, HasBadLine}
+use Rattle.bsv_top.proofs.Reading.{clocks_at_least}
+use Rattle.bsv_top.proofs.Scanned.{clocks_start, lines_start, clocks_end, lines_end}
+
+rest_of_advanced : (contents : Option (List ℕ → List ℕ)) (at : Option Current) (n : ℕ) (left : List ℕ) → rest_of contents at ≡ Some left → rest_of contents (option_map (λ (c : Current). record c { place = c.place + n }) at) ≡ Some (drop n left)
+rest_of_advanced None at n left h = absurd (let no_value : ⊥ = cc in no_value)
+rest_of_advanced (Some contents) None n left h = absurd (let no_value : ⊥ = cc in no_value)
+rest_of_advanced (Some contents) (Some at) n left h =
+    let same : drop at.place (contents at.name) ≡ left = cc in
+    ap Some (sym (drop-drop n at.place (contents at.name)) ∙ ap (drop n) same)
+
+-- what is left after a read
+pub rest_advanced : (r : Reading) (n : ℕ) (left : List ℕ) → rest r ≡ Some left → rest (advanced n r) ≡ Some (drop n left)
+rest_advanced r n left h = rest_of_advanced r.contents r.current n left h
+
+-- a piece that was read stands in front of what is left
+pub piece_read : (n : ℕ) (buffer left : List ℕ) → Gives n buffer left → left ≡ take n buffer ++ drop n left
+piece_read n buffer left h = sym (take-append-drop n left) ∙ ap (λ (t : List ℕ). t ++ drop n left) h.next
+
+-- what is known of a trace of which this is left
+pub record Ahead (trace left : List ℕ) (l : Lines) : Type 0 where
+  pub clocks : clocks_of trace ≡ clocks_ahead l left
+  pub lines : length (lines_of trace) ≡ lines_ahead l left
+
+pub ahead_start : (trace : List ℕ) (l : Lines) → IsStart l → Ahead trace trace l
+ahead_start trace l h =
+    record {
+      clocks = sym (clocks_start trace) ∙ ap (λ (x : Lines). clocks_ahead x trace) (sym h);
+      lines = sym (lines_start trace) ∙ ap (λ (x : Lines). lines_ahead x trace) (sym h);
+    }
+
+pub reached_start : (l : Lines) → IsStart l → IsReached l
+reached_start l h =
+    let lines = ap (λ (x : Lines). x.done) h in
+    let at = ap (λ (x : Lines). x.at) h in
+    let returned = ap (λ (x : Lines). x.after_return) h in
+    record { lines = omega arith; line = λ e. absurd (let no_value : ⊥ = cc in no_value); limit = omega arith }
+
+-- a piece is taken whole
+pub ahead_more : (trace left piece after : List ℕ) (l a : Lines) → left ≡ piece ++ after → Ahead trace left l → ReadsTo piece [] l a → Ahead trace after a
+ahead_more trace left piece after l a split h reads =
+    record {
+      clocks = h.clocks ∙ ap (clocks_ahead l) split ∙ reads.clocks after;
+      lines = h.lines ∙ ap (lines_ahead l) split ∙ reads.lines after;
+    }
+
+-- a piece has a bad line
+pub ahead_bad : (trace left piece after : List ℕ) (l : Lines) (done : ℕ) → left ≡ piece ++ after → Ahead trace left l → EndsBad piece l done → (clocks_of trace ≡ done) × HasBadLine trace
+ahead_bad trace left piece after l done split h bad =
+    let clocks = h.clocks ∙ ap (clocks_ahead l) split ∙ bad.clocks after in
+    let lines = h.lines ∙ ap (lines_ahead l) split in
+    let above = bad.lines after in
+    (clocks, omega arith)
+
+-- the clocks so far are among those of the trace
+pub ahead_at_least : (trace left : List ℕ) (l : Lines) → Ahead trace left l → l.done ≤ clocks_of trace
+ahead_at_least trace left l h = subst (λ (n : ℕ). l.done ≤ n) (sym h.clocks) (clocks_at_least l left)
+
+-- so are those of a piece
+pub ahead_piece : (trace left piece after : List ℕ) (l : Lines) (n : ℕ) → left ≡ piece ++ after → Ahead trace left l → n ≤ clocks_ahead l (piece ++ after) → n ≤ clocks_of trace
+ahead_piece trace left piece after l n split h some =
+    subst (λ (k : ℕ). n ≤ k) (sym (h.clocks ∙ ap (clocks_ahead l) split)) some
+
+-- the trace ends
+pub ahead_end : (trace left : List ℕ) (l : Lines) → IsReached l → left ≡ [] → Ahead trace left l → (clocks_of trace ≡ lines_in_all l) × IsClean trace
+ahead_end trace left l reached none h =
+    let clocks = h.clocks ∙ ap (clocks_ahead l) none ∙ clocks_end l reached in
+    let lines = h.lines ∙ ap (lines_ahead l) none ∙ lines_end l in
+    (clocks, clocks ∙ sym lines)
+
+name_of_advanced : (at : Option Current) (n : ℕ) → option_map (λ (c : Current). c.name) (option_map (λ (c : Current). record c { place = c.place + n }) at) ≡ option_map (λ (c : Current). c.name) at
+name_of_advanced None n = refl
+name_of_advanced (Some at) n = refl
+
+-- a read keeps the current file
+pub name_advanced : (r : Reading) (n : ℕ) → current_name (advanced n r) ≡ current_name r
+name_advanced r n = name_of_advanced r.current n
+
+still_current : (at : Option Current) (n : ℕ) → IsSome at → IsSome (option_map (λ (c : Current). record c { place = c.place + n }) at)
+still_current None n h = h
+still_current (Some at) n h = refl
+
+pub current_advanced : (r : Reading) (n : ℕ) → IsSome r.current → IsSome (advanced n r).current
+current_advanced r n h = still_current r.current n h
+
+-- what is told is given
+pub if_told : {A : Type 0} (o : Option A) (P : A → Type 0) (x : A) → o ≡ Some x → IfSome o P → P x
+if_told {A} o P x e h = subst (λ (v : Option A). IfSome v P) e h

@@ -1,0 +1,12 @@
+use Rattle.std.proofs.Common.{ℕ, List, ◌++◌, codes, ap, ◌∙◌}
+use Rattle.bsv_io.specs.Writing.{appended}
+use Rattle.bsv_top.specs.Answers.{trace_fault_line}
+use Rattle.bsv_top.specs.Reports.{line_feed}
+use Rattle.bsv_top.proofs.faults.tell_bad_line.Goals as goal
+
+pub returns-clause-told : goal.returns-clause-told
+unfolding trace_fault_line
+returns-clause-told g c =
+    λ h.
+    let told = c.tell.ensures.told h in
+    (told.0, told.1 ∙ ap (λ (digits : List ℕ). appended (codes "trace line " ++ digits ++ line_feed) (g.E.Sink.writing c.args.err.now)) (c.as_bytes.ensures.value ∙ c.format.ensures.text))

@@ -1,0 +1,5 @@
+use Rattle.bsv_top.proofs.PlainSources.{plain_once}
+use Rattle.bsv_top.proofs.plain.one_machine.Goals as goal
+
+pub returns : goal.returns
+returns c = plain_once

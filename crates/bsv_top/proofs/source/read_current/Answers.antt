@@ -1,0 +1,39 @@
+use Rattle.std.proofs.Common.{drop, ◌∙◌, arith, length-append, length-drop}
+use Rattle.std.proofs.lemmas.List.{length-take}
+use Rattle.bsv_top.proofs.Sourced.{read_whole, read_front}
+use Rattle.bsv_top.proofs.source.read_current.Goals as goal
+use Rattle.bsv_top.proofs.source.read_current.Goals.{then-len-eq0-via-then-len-eq0, then-len-eq0-via-else-len-eq0+then-len-eq-READ_LIMIT}
+
+pub returns-then-len-eq0-clause-source : goal.returns-then-len-eq0-clause-source
+returns-then-len-eq0-clause-source g c =
+    let before = c.loop-turn.invariant in
+    let this = c.in_ok-len.ensures in
+    let source = c.read_more.new.source in
+    let ok = source.ok in
+    λ text told.
+    let so_far = before.text text told in
+    let more = this.source so_far.0 so_far.1 in
+    let split = so_far.2 ∙ more.moved in
+    elim c.then-len-eq0.branch [
+      | then-len-eq0-via-then-len-eq0 w ↦ read_whole text source.items more.after split (more.end w.if-len-eq0.true)
+          (omega (arith, ok.0, before.short, this.long.0, this.long.1, c.min-room.ensures, c.len.ensures, length-take c.min-room.result c.loop-turn.buffer))
+      | then-len-eq0-via-else-len-eq0+then-len-eq-READ_LIMIT w ↦ read_front text source.items more.after split (omega (arith, ok.0, w.len-else-len-eq0.ensures, w.if-len-eq-READ_LIMIT.true))
+    ]
+
+pub loop-turn-preserved : goal.loop-turn-preserved
+loop-turn-preserved g c =
+    let before = c.loop-turn.invariant in
+    let this = c.in_ok-len.ensures in
+    record {
+      text = λ text told.
+          let so_far = before.text text told in
+          let more = this.source so_far.0 so_far.1 in
+          (more.after, more.told_after, so_far.2 ∙ more.moved);
+      turns = omega (arith, before.turns, this.long.1, c.if-len-eq0.false);
+      short = omega (arith, before.short, this.long.0, this.long.1, c.min-room.ensures, c.len.ensures, length-take c.min-room.result c.loop-turn.buffer, c.len-else-len-eq0.ensures, c.if-len-eq-READ_LIMIT.false);
+      room = omega (arith, before.room, c.read_more.auto.buffer, length-append c.read_more.new.buffer (drop c.min-room.result c.loop-turn.buffer), length-take c.min-room.result c.loop-turn.buffer, length-drop c.min-room.result c.loop-turn.buffer);
+      contents = this.contents ∙ before.contents;
+      faults = this.kept (λ e. let no_value : ⊥ = cc in no_value) ∙ before.faults;
+      name = this.file.name ∙ before.name;
+      current = this.file.current;
+    }

@@ -1,0 +1,15 @@
+pub mod Answers
+pub mod Clocks
+pub mod Machines
+pub mod Outcomes
+pub mod Plain
+pub mod Reading
+pub mod Reports
+pub mod Rules
+pub mod Running
+pub mod Scanning
+pub mod Sources
+pub mod Stepping
+pub mod Stops
+pub mod Tokens
+pub mod Traces

@@ -1,0 +1,65 @@
+-- What a run leaves, whatever its sources and sinks do.
+use Rattle.std.specs.Prelude.{◌≡◌, ℕ, List, Some}
+use Rattle.bsv_io.specs.Faults.{MayFault}
+use Rattle.bsv_io.specs.Reading.{Reading}
+use Rattle.bsv_io.specs.Writing.{Writing, appended, AppendsPrefix}
+use Rattle.bsv_top.specs.declared.machine.Machine.{Machine}
+use Rattle.bsv_top.specs.declared.status.Status.{Status}
+use Rattle.bsv_top.specs.declared.status.Status.TheVariants as status
+use Rattle.bsv_top.specs.Answers.{Answer, sim_words, cannot_read_line, no_memory_line}
+use Rattle.bsv_top.specs.Plain.{Plain}
+
+-- the statuses that the words and the contents decide
+abbrev pub IsDecided : Status → Type 0
+IsDecided status.Done = Unit {0}
+IsDecided status.Refused = Unit {0}
+IsDecided status.Usage = Unit {0}
+IsDecided status.ReadFault = ⊥
+IsDecided status.WriteFault = ⊥
+IsDecided status.OutOfMemory = ⊥
+IsDecided status.TraceFault = Unit {0}
+
+-- the statuses that may come where something failed
+abbrev pub IsFault : Status → Type 0
+IsFault status.Done = ⊥
+IsFault status.Refused = ⊥
+IsFault status.Usage = ⊥
+IsFault status.ReadFault = Unit {0}
+IsFault status.WriteFault = Unit {0}
+IsFault status.OutOfMemory = Unit {0}
+IsFault status.TraceFault = ⊥
+
+-- the whole output and the whole fault text of an answer are put
+pub record Answered (words : List (List ℕ)) (contents : List ℕ → List ℕ) (s : Status) (out out' err err' : Writing) : Type 0 where
+  pub output : List ℕ
+  pub text : List ℕ
+  pub answer : Answer words contents s output text
+  pub put : out' ≡ appended output out
+  pub told : err' ≡ appended text err
+
+-- a prefix of the output of an answer is put
+pub record OutputBegun (words : List (List ℕ)) (contents : List ℕ → List ℕ) (out out' : Writing) : Type 0 where
+  pub decided : Status
+  pub output : List ℕ
+  pub text : List ℕ
+  pub answer : Answer words contents decided output text
+  pub prefix : AppendsPrefix output out out'
+
+-- the fault texts that a run may put: that of an answer, a name that the run may blame, or want of memory
+pub data FaultText (words : List (List ℕ)) (contents : List ℕ → List ℕ) : List ℕ → Type 0 where
+  of_answer : {s : Status} (output : List ℕ) {text : List ℕ} → Answer words contents s output text → FaultText words contents text
+  of_source : {file : List ℕ} (top trace : List ℕ) → words ≡ sim_words file top trace → FaultText words contents (cannot_read_line file)
+  of_trace : (file top : List ℕ) {trace : List ℕ} (m : Machine) → words ≡ sim_words file top trace → Plain top (contents file) m → FaultText words contents (cannot_read_line trace)
+  of_memory : FaultText words contents no_memory_line
+
+-- a prefix of such a text is put
+pub record TextBegun (words : List (List ℕ)) (contents : List ℕ → List ℕ) (err err' : Writing) : Type 0 where
+  pub text : List ℕ
+  pub fault_text : FaultText words contents text
+  pub prefix : AppendsPrefix text err err'
+
+-- a file could not be read: its name is the one that the last failed call was about, and it is told whole.
+-- It is the source, and then nothing is put to the output; or it is the trace of a source that is plain.
+pub data Unreadable (words : List (List ℕ)) (files files' : Reading) (out out' err err' : Writing) : Type 0 where
+  source : (file top trace : List ℕ) → words ≡ sim_words file top trace → MayFault files.faults files'.faults → files'.blamed ≡ Some file → out' ≡ out → err' ≡ appended (cannot_read_line file) err → Unreadable words files files' out out' err err'
+  trace : (file top trace : List ℕ) → words ≡ sim_words file top trace → MayFault files.faults files'.faults → files'.blamed ≡ Some trace → ((contents : List ℕ → List ℕ) → files.contents ≡ Some contents → (m : Machine) × Plain top (contents file) m) → err' ≡ appended (cannot_read_line trace) err → Unreadable words files files' out out' err err'

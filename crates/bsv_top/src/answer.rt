@@ -1,0 +1,215 @@
+ghost use Rattle.std.specs.Prelude.{◌≡◌, ℕ, ◌+◌, ◌<◌, ◌≤◌, List, length, Some, Err, IfOk, OnOk, IsSome};
+ghost use Rattle.bsv_io.specs.Faults.{MayFault};
+ghost use Rattle.bsv_io.specs.Reading.{current_name, rest};
+ghost use Rattle.bsv_io.specs.Writing.{AppendsPrefix};
+ghost use Rattle.bsv_top.specs.Machines.{IsMachine};
+ghost use Rattle.bsv_top.specs.Plain.{Plain};
+ghost use Rattle.bsv_top.specs.Rules.{opening};
+ghost use Rattle.bsv_top.specs.Running.{HasReport, report_so_far};
+ghost use Rattle.bsv_top.specs.Stops.{IsQuiet, stop_of};
+ghost use Rattle.bsv_top.specs.Traces.{clocks_of, IsClean, HasBadLine};
+ghost use Rattle.bsv_top.specs.declared.answer.Stop.TheVariants as stop;
+ghost use Rattle.bsv_top.specs.declared.machine.Machine.{Machine as TheMachine};
+
+use crate::follow::run_trace;
+use crate::form::Form;
+use crate::machine::Machine;
+use crate::plain::machine_of;
+use crate::report::write_opening;
+use crate::simulate::Halt;
+use crate::source::{Unread, read_source};
+use crate::trace::Lines;
+use bsv_bits::{Name, OutOfMemory, Word};
+use bsv_io::{Failed, Files, Sink};
+use std::alloc::{AllocError, Global};
+
+/// Why a run with words that have a form is not done.
+#[derive(Clone, Copy)]
+pub(crate) enum Stop {
+    Refused,
+    SourceUnread,
+    TraceUnread,
+    Unwritable,
+    OutOfMemory,
+    BadLine(u64),
+}
+
+impl From<OutOfMemory> for Stop {
+    ghost from_gives = { λ _ s. s ≡ stop.OutOfMemory };
+
+    fn from(_error: OutOfMemory) -> Stop {
+        Stop::OutOfMemory
+    }
+}
+
+impl From<Unread> for Stop {
+    ghost from_gives = { λ u s. s ≡ stop_of u };
+
+    fn from(unread: Unread) -> Stop {
+        match unread {
+            Unread::Failed => Stop::SourceUnread,
+            Unread::OutOfMemory => Stop::OutOfMemory,
+        }
+    }
+}
+
+impl From<AllocError> for Stop {
+    ghost from_gives = { λ _ s. s ≡ stop.OutOfMemory };
+
+    fn from(_error: AllocError) -> Stop {
+        Stop::OutOfMemory
+    }
+}
+
+/// The words that the registers start with.
+fn opening_state(alloc: Global, machine: &Machine) -> Result<Vec<Word>, AllocError>
+    ensures { IfOk result (λ state. state.items ≡ opening machine.now) }
+{
+    let registers = machine.registers.as_slice();
+    registers
+        .iter()
+        .map(|register| register.start)
+        .collect(alloc)
+}
+
+/// Runs the clocks of the file that was just chosen, and puts their report.
+fn report_clocks<F: Files, O: Sink>(
+    files: &mut F,
+    machine: &Machine,
+    state: &mut [Word],
+    next: &mut [Word],
+    buffer: &mut [u8],
+    out: &mut O,
+) -> Result<(), Stop>
+    requires machine { IsMachine machine.now }
+    requires state { state.old ≡ opening machine.now }
+    requires next { length next.old ≡ length state.old }
+    requires room { 0 < length buffer.old }
+    requires current { IsSome (F.reading files.old).current }
+    ensures done { OnOk result ((trace : List ℕ) → rest (F.reading files.old) ≡ Some trace
+        → IsClean trace × HasReport machine.now (O.writing out.old) (clocks_of trace) (O.writing out.new)) }
+    ensures bad { (number : ℕ) → result ≡ Err (Stop.BadLine number) → (trace : List ℕ)
+        → rest (F.reading files.old) ≡ Some trace
+        → HasBadLine trace × (number ≡ clocks_of trace + 1)
+        × HasReport machine.now (O.writing out.old) (clocks_of trace) (O.writing out.new) }
+    ensures unread { result ≡ Err Stop.TraceUnread
+        → MayFault (F.reading files.old).faults (F.reading files.new).faults
+        × ((F.reading files.new).blamed ≡ current_name (F.reading files.old)) }
+    ensures unwritable { result ≡ Err Stop.Unwritable
+        → MayFault (O.writing out.old).faults (O.writing out.new).faults }
+    ensures own { (result ≡ Err Stop.Refused → ⊥) × (result ≡ Err Stop.SourceUnread → ⊥)
+        × (result ≡ Err Stop.OutOfMemory → ⊥) }
+    ensures prefix { (trace : List ℕ) → rest (F.reading files.old) ≡ Some trace
+        → AppendsPrefix (report_so_far machine.now (clocks_of trace)) (O.writing out.old) (O.writing out.new) }
+    ensures files_count { (F.reading files.old).faults ≤ (F.reading files.new).faults }
+    ensures files_kept { (result ≡ Err Stop.TraceUnread → ⊥)
+        → (F.reading files.new).faults ≡ (F.reading files.old).faults }
+    ensures out_count { (O.writing out.old).faults ≤ (O.writing out.new).faults }
+    ensures out_kept { (result ≡ Err Stop.Unwritable → ⊥)
+        → (O.writing out.new).faults ≡ (O.writing out.old).faults }
+{
+    if let Err(Failed) = write_opening(machine, state, out) {
+        return Err(Stop::Unwritable);
+    }
+    let mut lines = Lines::START;
+    match run_trace(files, machine, state, next, &mut lines, buffer, out) {
+        Ok(()) => Ok(()),
+        Err(Halt::BadLine) => Err(Stop::BadLine(lines.done + 1)),
+        Err(Halt::Unreadable) => Err(Stop::TraceUnread),
+        Err(Halt::Unwritable) => Err(Stop::Unwritable),
+    }
+}
+
+/// Runs the machine over the trace of a name.
+fn simulate<F: Files, O: Sink>(
+    alloc: Global,
+    files: &mut F,
+    machine: &Machine,
+    trace: &str,
+    out: &mut O,
+) -> Result<(), Stop>
+    requires machine { IsMachine machine.now }
+    ensures done { OnOk result ((contents : List ℕ → List ℕ) → (F.reading files.old).contents ≡ Some contents
+        → IsClean (contents trace.now)
+        × HasReport machine.now (O.writing out.old) (clocks_of (contents trace.now)) (O.writing out.new)) }
+    ensures bad { (number : ℕ) → result ≡ Err (Stop.BadLine number) → (contents : List ℕ → List ℕ)
+        → (F.reading files.old).contents ≡ Some contents
+        → HasBadLine (contents trace.now) × (number ≡ clocks_of (contents trace.now) + 1)
+        × HasReport machine.now (O.writing out.old) (clocks_of (contents trace.now)) (O.writing out.new) }
+    ensures unread { result ≡ Err Stop.TraceUnread
+        → MayFault (F.reading files.old).faults (F.reading files.new).faults
+        × ((F.reading files.new).blamed ≡ Some trace.now) }
+    ensures unwritable { result ≡ Err Stop.Unwritable
+        → MayFault (O.writing out.old).faults (O.writing out.new).faults }
+    ensures no_memory { result ≡ Err Stop.OutOfMemory → O.writing out.new ≡ O.writing out.old }
+    ensures own { (result ≡ Err Stop.Refused → ⊥) × (result ≡ Err Stop.SourceUnread → ⊥) }
+    ensures prefix { (contents : List ℕ → List ℕ) → (F.reading files.old).contents ≡ Some contents
+        → AppendsPrefix (report_so_far machine.now (clocks_of (contents trace.now)))
+        (O.writing out.old) (O.writing out.new) }
+    ensures files_count { (F.reading files.old).faults ≤ (F.reading files.new).faults }
+    ensures files_kept { (result ≡ Err Stop.TraceUnread → ⊥)
+        → (F.reading files.new).faults ≡ (F.reading files.old).faults }
+    ensures out_count { (O.writing out.old).faults ≤ (O.writing out.new).faults }
+    ensures out_kept { (result ≡ Err Stop.Unwritable → ⊥)
+        → (O.writing out.new).faults ≡ (O.writing out.old).faults }
+{
+    let mut state = opening_state(alloc, machine)?;
+    let mut next = opening_state(alloc, machine)?;
+    let mut buffer = vec![in alloc; 0u8; 4096]?;
+    let name = Name::new(alloc, trace.as_bytes())?;
+    if let Err(Failed) = files.choose(name) {
+        return Err(Stop::TraceUnread);
+    }
+    report_clocks(files, machine, &mut state, &mut next, &mut buffer, out)
+}
+
+/// Reads the source, and runs its machine over the trace.
+pub(crate) fn answer<F: Files, O: Sink>(
+    alloc: Global,
+    form: Form<'_>,
+    files: &mut F,
+    out: &mut O,
+) -> Result<(), Stop>
+    ensures done { OnOk result ((contents : List ℕ → List ℕ) → (F.reading files.old).contents ≡ Some contents
+        → (m : TheMachine) × Plain form.entry.top.now (contents form.entry.file.now) m
+        × IsClean (contents form.entry.trace.now)
+        × HasReport m (O.writing out.old) (clocks_of (contents form.entry.trace.now)) (O.writing out.new)) }
+    ensures bad { (number : ℕ) → result ≡ Err (Stop.BadLine number) → (contents : List ℕ → List ℕ)
+        → (F.reading files.old).contents ≡ Some contents
+        → (m : TheMachine) × Plain form.entry.top.now (contents form.entry.file.now) m
+        × HasBadLine (contents form.entry.trace.now) × (number ≡ clocks_of (contents form.entry.trace.now) + 1)
+        × HasReport m (O.writing out.old) (clocks_of (contents form.entry.trace.now)) (O.writing out.new) }
+    ensures refused { result ≡ Err Stop.Refused → (contents : List ℕ → List ℕ)
+        → (F.reading files.old).contents ≡ Some contents
+        → (m : TheMachine) → Plain form.entry.top.now (contents form.entry.file.now) m → ⊥ }
+    ensures source_unread { result ≡ Err Stop.SourceUnread
+        → MayFault (F.reading files.old).faults (F.reading files.new).faults
+        × ((F.reading files.new).blamed ≡ Some form.entry.file.now) }
+    ensures trace_unread { result ≡ Err Stop.TraceUnread
+        → MayFault (F.reading files.old).faults (F.reading files.new).faults
+        × ((F.reading files.new).blamed ≡ Some form.entry.trace.now)
+        × ((contents : List ℕ → List ℕ) → (F.reading files.old).contents ≡ Some contents
+        → (m : TheMachine) × Plain form.entry.top.now (contents form.entry.file.now) m) }
+    ensures unwritable { result ≡ Err Stop.Unwritable
+        → MayFault (O.writing out.old).faults (O.writing out.new).faults }
+    ensures quiet { IsQuiet result → O.writing out.new ≡ O.writing out.old }
+    ensures prefix { (contents : List ℕ → List ℕ) → (F.reading files.old).contents ≡ Some contents
+        → (m : TheMachine) → Plain form.entry.top.now (contents form.entry.file.now) m
+        → AppendsPrefix (report_so_far m (clocks_of (contents form.entry.trace.now)))
+        (O.writing out.old) (O.writing out.new) }
+    ensures none { (contents : List ℕ → List ℕ) → (F.reading files.old).contents ≡ Some contents
+        → ((m : TheMachine) → Plain form.entry.top.now (contents form.entry.file.now) m → ⊥)
+        → O.writing out.new ≡ O.writing out.old }
+    ensures files_count { (F.reading files.old).faults ≤ (F.reading files.new).faults }
+    ensures files_kept { (result ≡ Err Stop.SourceUnread → ⊥) → (result ≡ Err Stop.TraceUnread → ⊥)
+        → (F.reading files.new).faults ≡ (F.reading files.old).faults }
+    ensures out_count { (O.writing out.old).faults ≤ (O.writing out.new).faults }
+    ensures out_kept { (result ≡ Err Stop.Unwritable → ⊥)
+        → (O.writing out.new).faults ≡ (O.writing out.old).faults }
+{
+    let source = read_source(alloc, files, form.file)?;
+    match machine_of(alloc, source.as_slice(), form.top.as_bytes())? {
+        None => Err(Stop::Refused),
+        Some(machine) => simulate(alloc, files, &machine, form.trace, out),
+    }
+}

@@ -1,0 +1,111 @@
+ghost use Rattle.std.specs.Prelude.{◌≡◌, ◌≤◌, ◌⊎◌, OnOk, OnErr};
+ghost use Rattle.bsv_io.specs.Faults.{MayFault};
+ghost use Rattle.bsv_io.specs.Writing.{appended, joined, AppendsPrefix};
+ghost use Rattle.bsv_top.specs.Answers.{usage_line, refused_line, cannot_read_line, no_memory_line, trace_fault_line};
+ghost use Rattle.bsv_top.specs.Stops.{status_of, text_of};
+
+use crate::answer::Stop;
+use crate::form::Form;
+use crate::status::Status;
+use bsv_io::{Failed, PutBuffer, Sink};
+use itoa::Buffer;
+
+/// Puts a text that comes in pieces.
+fn put_all<E: Sink>(err: &mut E, pieces: &[&[u8]]) -> Result<(), Failed>
+    ensures ok { OnOk result (E.writing err.new ≡ appended (joined pieces.now) (E.writing err.old)) }
+    ensures prefix { AppendsPrefix (joined pieces.now) (E.writing err.old) (E.writing err.new) }
+    ensures count { (E.writing err.old).faults ≤ (E.writing err.new).faults }
+    ensures counted { OnErr result (MayFault (E.writing err.old).faults (E.writing err.new).faults) }
+{
+    let mut buffer = PutBuffer::new();
+    buffer.add_all(err, pieces)?;
+    buffer.flush(err)
+}
+
+/// Puts the fault text of a status, and answers the status; it is a write fault where the text
+/// could not be put.
+fn tell<E: Sink>(err: &mut E, pieces: &[&[u8]], status: Status) -> Status
+    requires { status ≡ Status.WriteFault → ⊥ }
+    ensures told { (result ≡ Status.WriteFault → ⊥)
+        → (result ≡ status) × (E.writing err.new ≡ appended (joined pieces.now) (E.writing err.old)) }
+    ensures failed { result ≡ Status.WriteFault
+        → MayFault (E.writing err.old).faults (E.writing err.new).faults }
+    ensures prefix { AppendsPrefix (joined pieces.now) (E.writing err.old) (E.writing err.new) }
+    ensures count { (E.writing err.old).faults ≤ (E.writing err.new).faults }
+{
+    match put_all(err, pieces) {
+        Ok(()) => status,
+        Err(Failed) => Status::WriteFault,
+    }
+}
+
+/// Tells how the program is called.
+#[tactic(auto, unfolding(crate::specs::Answers::usage_line))]
+pub(crate) fn tell_usage<E: Sink>(err: &mut E) -> Status
+    ensures told { (result ≡ Status.WriteFault → ⊥)
+        → (result ≡ Status.Usage) × (E.writing err.new ≡ appended usage_line (E.writing err.old)) }
+    ensures failed { result ≡ Status.WriteFault
+        → MayFault (E.writing err.old).faults (E.writing err.new).faults }
+    ensures prefix { AppendsPrefix usage_line (E.writing err.old) (E.writing err.new) }
+    ensures count { (E.writing err.old).faults ≤ (E.writing err.new).faults }
+{
+    let line = b"usage: bsvc verilog FILE TOP | schedule FILE TOP | sim FILE TOP TRACE | made N\n";
+    tell(err, &[line], Status::Usage)
+}
+
+/// Tells that a file cannot be read.
+#[tactic(auto, unfolding(crate::specs::Answers::cannot_read_line))]
+fn tell_unread<E: Sink>(err: &mut E, name: &str) -> Status
+    ensures told { (result ≡ Status.WriteFault → ⊥)
+        → (result ≡ Status.ReadFault) × (E.writing err.new ≡ appended (cannot_read_line name.now) (E.writing err.old)) }
+    ensures failed { result ≡ Status.WriteFault
+        → MayFault (E.writing err.old).faults (E.writing err.new).faults }
+    ensures prefix { AppendsPrefix (cannot_read_line name.now) (E.writing err.old) (E.writing err.new) }
+    ensures count { (E.writing err.old).faults ≤ (E.writing err.new).faults }
+{
+    tell(
+        err,
+        &[b"cannot read ", name.as_bytes(), b"\n"],
+        Status::ReadFault,
+    )
+}
+
+/// Tells that a line of the trace is bad.
+#[tactic(auto, unfolding(crate::specs::Answers::trace_fault_line))]
+fn tell_bad_line<E: Sink>(err: &mut E, number: u64) -> Status
+    ensures told { (result ≡ Status.WriteFault → ⊥)
+        → (result ≡ Status.TraceFault) × (E.writing err.new ≡ appended (trace_fault_line number) (E.writing err.old)) }
+    ensures failed { result ≡ Status.WriteFault
+        → MayFault (E.writing err.old).faults (E.writing err.new).faults }
+    ensures prefix { AppendsPrefix (trace_fault_line number) (E.writing err.old) (E.writing err.new) }
+    ensures count { (E.writing err.old).faults ≤ (E.writing err.new).faults }
+{
+    let mut digits = Buffer::new();
+    tell(
+        err,
+        &[b"trace line ", digits.format(number).as_bytes(), b"\n"],
+        Status::TraceFault,
+    )
+}
+
+/// Tells why a run with words of this form stopped. A sink that failed is told of by the status
+/// alone.
+#[tactic(auto, unfolding(crate::specs::Answers::refused_line, crate::specs::Answers::no_memory_line))]
+pub(crate) fn tell_stop<E: Sink>(err: &mut E, form: Form<'_>, stop: Stop) -> Status
+    ensures told { (result ≡ Status.WriteFault → ⊥) → (result ≡ status_of stop)
+        × (E.writing err.new ≡ appended (text_of form.entry.file.now form.entry.trace.now stop) (E.writing err.old)) }
+    ensures failed { result ≡ Status.WriteFault → (stop ≡ Stop.Unwritable)
+        ⊎ MayFault (E.writing err.old).faults (E.writing err.new).faults }
+    ensures prefix { AppendsPrefix (text_of form.entry.file.now form.entry.trace.now stop)
+        (E.writing err.old) (E.writing err.new) }
+    ensures count { (E.writing err.old).faults ≤ (E.writing err.new).faults }
+{
+    match stop {
+        Stop::Refused => tell(err, &[b"refused 0 NotYet\n"], Status::Refused),
+        Stop::SourceUnread => tell_unread(err, form.file),
+        Stop::TraceUnread => tell_unread(err, form.trace),
+        Stop::Unwritable => Status::WriteFault,
+        Stop::OutOfMemory => tell(err, &[b"out of memory\n"], Status::OutOfMemory),
+        Stop::BadLine(number) => tell_bad_line(err, number),
+    }
+}

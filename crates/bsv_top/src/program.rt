@@ -1,0 +1,116 @@
+ghost use Rattle.std.specs.Prelude.{◌≡◌, ℕ, ◌<◌, ◌≤◌, ◌⊎◌, List, [], Some, map, string_bytes};
+ghost use Rattle.bsv_io.specs.Faults.{MayFault};
+ghost use Rattle.bsv_io.specs.InMemory.{contents_of};
+ghost use Rattle.bsv_io.specs.Sure.{NoFault};
+ghost use Rattle.bsv_io.specs.Writing.{appended};
+ghost use Rattle.bsv_top.specs.Answers.{Answer, HasAnswer, HasNoForm, sim_words, no_memory_line};
+ghost use Rattle.bsv_top.specs.Outcomes.{Answered, IsDecided, IsFault, OutputBegun, TextBegun, Unreadable};
+ghost use Rattle.bsv_top.specs.Plain.{Plain};
+ghost use Rattle.bsv_top.specs.Traces.{IsClean};
+ghost use Rattle.bsv_top.specs.declared.machine.Machine.{Machine as TheMachine};
+ghost use Rattle.bsv_top.specs.declared.status.Status.{Status as TheStatus};
+
+use crate::answer::answer;
+use crate::faults::{tell_stop, tell_usage};
+use crate::form::form_of;
+use crate::status::Status;
+use bsv_io::{Files, Sink, SureFiles, SureSink};
+use std::alloc::Global;
+use std::thread::Threads;
+
+/// Does all that the program does. `words` are those behind the program's name, `files` are read,
+/// the output goes to `out`, and a fault text of one line to `err`. The answer is the exit status.
+///
+/// The clauses that begin with `contents` speak of a source of files that tells its contents.
+/// Want of memory may come at any point before the first byte is put to `out`.
+pub fn run<R: Threads + Sync, F: Files, O: Sink, E: Sink>(
+    _rt: &R,
+    alloc: Global,
+    words: &[String],
+    files: &mut F,
+    out: &mut O,
+    err: &mut E,
+) -> Status
+    // Words without a form: nothing is read and nothing is put to the output.
+    ensures usage { result ≡ Status.Usage → HasNoForm (map string_bytes words.now) }
+    ensures no_form { HasNoForm (map string_bytes words.now)
+        → (result ≡ Status.Usage ⊎ result ≡ Status.WriteFault)
+        × (F.reading files.new ≡ F.reading files.old) × (O.writing out.new ≡ O.writing out.old) }
+
+    // What the words and the contents decide: the status, the whole output, the whole fault text.
+    ensures answer { (contents : List ℕ → List ℕ) → (F.reading files.old).contents ≡ Some contents
+        → IsDecided result → Answered (map string_bytes words.now) contents result
+        (O.writing out.old) (O.writing out.new) (E.writing err.old) (E.writing err.new) }
+
+    // At every status a prefix of an answer's output and of a fault text is put.
+    ensures output { (contents : List ℕ → List ℕ) → (F.reading files.old).contents ≡ Some contents
+        → OutputBegun (map string_bytes words.now) contents (O.writing out.old) (O.writing out.new) }
+    ensures text { (contents : List ℕ → List ℕ) → (F.reading files.old).contents ≡ Some contents
+        → TextBegun (map string_bytes words.now) contents (E.writing err.old) (E.writing err.new) }
+
+    // Nothing at all is put to the output where the source is refused or memory is wanting.
+    ensures refused { result ≡ Status.Refused → O.writing out.new ≡ O.writing out.old }
+    ensures no_memory { result ≡ Status.OutOfMemory → (O.writing out.new ≡ O.writing out.old)
+        × (E.writing err.new ≡ appended no_memory_line (E.writing err.old)) }
+
+    // The causes of faults.
+    ensures read_fault { result ≡ Status.ReadFault → Unreadable (map string_bytes words.now)
+        (F.reading files.old) (F.reading files.new) (O.writing out.old) (O.writing out.new)
+        (E.writing err.old) (E.writing err.new) }
+    ensures write_fault { result ≡ Status.WriteFault
+        → MayFault (O.writing out.old).faults (O.writing out.new).faults
+        ⊎ MayFault (E.writing err.old).faults (E.writing err.new).faults }
+
+    // Where a count of faults rose, the status is that of a fault.
+    ensures files_rose { (F.reading files.old).faults < (F.reading files.new).faults → IsFault result }
+    ensures out_rose { (O.writing out.old).faults < (O.writing out.new).faults → IsFault result }
+    ensures err_rose { (E.writing err.old).faults < (E.writing err.new).faults → IsFault result }
+    ensures files_count { (F.reading files.old).faults ≤ (F.reading files.new).faults }
+    ensures out_count { (O.writing out.old).faults ≤ (O.writing out.new).faults }
+    ensures err_count { (E.writing err.old).faults ≤ (E.writing err.new).faults }
+
+    // Where no count rose, the status is that of the answer, or memory is wanting.
+    ensures complete { (contents : List ℕ → List ℕ) → (F.reading files.old).contents ≡ Some contents
+        → NoFault (F.reading files.old).faults (F.reading files.new).faults
+        → NoFault (O.writing out.old).faults (O.writing out.new).faults
+        → NoFault (E.writing err.old).faults (E.writing err.new).faults
+        → (status : TheStatus) (output text : List ℕ) → Answer (map string_bytes words.now) contents status output text
+        → result ≡ status ⊎ result ≡ Status.OutOfMemory }
+{
+    let Some(form) = form_of(words) else {
+        return tell_usage(err);
+    };
+    match answer(alloc, form, files, out) {
+        Ok(()) => Status::Done,
+        Err(stop) => tell_stop(err, form, stop),
+    }
+}
+
+/// Does the same over files and sinks that never fail: the status is that of the answer, or memory
+/// is wanting.
+pub fn run_surely<R: Threads + Sync>(
+    rt: &R,
+    alloc: Global,
+    words: &[String],
+    files: &mut SureFiles,
+    out: &mut SureSink,
+    err: &mut SureSink,
+) -> Status
+    ensures complete { (status : TheStatus) (output text : List ℕ)
+        → Answer (map string_bytes words.now) (contents_of files.old.files) status output text
+        → result ≡ status ⊎ result ≡ Status.OutOfMemory }
+{
+    run(rt, alloc, words, files, out, err)
+}
+
+/// All words and contents have an answer, and its status is the only one. Words with a form, a
+/// plain source and a trace without a bad line have an answer of status 0.
+pub fn one_answer()
+    ensures some { (words : List (List ℕ)) (contents : List ℕ → List ℕ) → HasAnswer words contents }
+    ensures one_status { (words : List (List ℕ)) (contents : List ℕ → List ℕ)
+        (status other : TheStatus) (output text more said : List ℕ)
+        → Answer words contents status output text → Answer words contents other more said → status ≡ other }
+    ensures done { (contents : List ℕ → List ℕ) (file top trace : List ℕ) (m : TheMachine)
+        → Plain top (contents file) m → IsClean (contents trace)
+        → (output : List ℕ) × Answer (sim_words file top trace) contents Status.Done output [] }
+{}
