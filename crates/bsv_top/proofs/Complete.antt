@@ -14,6 +14,7 @@ use Rattle.bsv_top.specs.declared.machine.Condition.{Condition}
 use Rattle.bsv_top.specs.declared.machine.Rule.{Rule}
 use Rattle.bsv_top.specs.declared.machine.Machine.{Machine}
 use Rattle.bsv_top.specs.declared.plain.Operand.TheVariants as operand
+use Rattle.bsv_top.specs.Keywords.{keywords}
 use Rattle.bsv_top.specs.Tokens.{Text, is_lower, is_keyword, is_number, number_after, number_of}
 use Rattle.bsv_top.specs.Plain as p
 use Rattle.bsv_top.specs.Plain.{find, distinct_names, distinct_targets, IsRead, IsConstant, Phrase, Many, IsRegister, IsSide, IsWrite, IsCondition, IsRule, IsRules, IsModule, Plain, most_registers, most_bytes}
@@ -102,7 +103,7 @@ unfolding registers_at
 registers_complete rs ts rest m stops = repeat_complete goes_register register_at IsRegister register_complete register_goes register_short (length ts) [] rs ts rest m stops (omega arith)
 
 endrule_not_lower : is_lower (codes "endrule") ≡ false
-unfolding is_lower is_keyword
+unfolding is_lower is_keyword keywords
 endrule_not_lower = refl
 
 not_endrule : (text : Text) (b : Bool) → bytes_eq text (codes "endrule") ≡ b → is_lower text ≡ true → not b ≡ true

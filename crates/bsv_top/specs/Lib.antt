@@ -1,5 +1,6 @@
 pub mod Answers
 pub mod Clocks
+pub mod Keywords
 pub mod Machines
 pub mod Outcomes
 pub mod Plain

@@ -4,7 +4,7 @@ use Rattle.std.specs.Prelude.{◌≡◌, ℕ, ◌+◌, ◌*◌, ◌-◌, Bool, t
 use Rattle.std.specs.List.{prefix_len, list_any, list_all}
 use Rattle.std.specs.Char.{is_ascii_digit, is_ascii_lowercase, is_ascii_alphabetic, is_ascii_alphanumeric}
 use Rattle.std.specs.Str.{bytes_eq}
-use Rattle.bsv_top.specs.declared.keyword.TheConstants.{KEYWORDS}
+use Rattle.bsv_top.specs.Keywords.{keywords}
 
 abbrev pub Text : Type 0
 Text = List ℕ
@@ -54,7 +54,7 @@ abbrev pub longest : ℕ
 longest = 255
 
 unfoldable pub is_keyword : Text → Bool
-is_keyword text = list_any (λ word. bytes_eq word.now text) KEYWORDS
+is_keyword text = list_any (λ word. bytes_eq word text) keywords
 
 abbrev pub starts_lower : Text → Bool
 starts_lower [] = false

@@ -137,10 +137,11 @@ const REFUSED: &[u8] = b"refused 0 NotYet\n";
 const USAGE: &[u8] =
     b"usage: bsvc verilog FILE TOP | schedule FILE TOP | sim FILE TOP TRACE | made N\n";
 
+/// What fires, and what it leaves.
 #[test]
-fn machines(rt: HostRuntime) -> Result<(), Fail> {
+fn rules(rt: HostRuntime) -> Result<(), Fail> {
     let alloc = rt.alloc();
-    let rows: [(&str, &[u8], &[u8]); 15] = [
+    let rows: [(&str, &[u8], &[u8]); 8] = [
         // A swap: a rule's reads see the state before it.
         (
             "Reg#(Bit#(4)) x <- mkReg(1); Reg#(Bit#(4)) y <- mkReg(2); rule s; x <= y; y <= x; endrule",
@@ -176,6 +177,20 @@ fn machines(rt: HostRuntime) -> Result<(), Fail> {
             b"\n",
             b"opening\nx = 4'h0\nclock 1\nfired\nx = 4'h0\n",
         ),
+    ];
+    for (row, (body, trace, report)) in rows.iter().enumerate() {
+        let source = module_of(alloc, body)?;
+        let seen = run_of(&rt, alloc, source.as_slice(), trace)?;
+        expect_seen(&rt, row, &seen, Status::Done, report, b"");
+    }
+    Ok(())
+}
+
+/// Words that wrap, of several widths, and clocks of two digits.
+#[test]
+fn words_and_widths(rt: HostRuntime) -> Result<(), Fail> {
+    let alloc = rt.alloc();
+    let rows: [(&str, &[u8], &[u8]); 7] = [
         // A rule without a condition; the sum wraps.
         (
             "Reg#(Bit#(4)) x <- mkReg(14); rule r; x <= x + 1; endrule",

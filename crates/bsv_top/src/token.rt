@@ -169,7 +169,6 @@ fn is_one_of(words: &[&[u8]], text: &[u8]) -> bool
     false
 }
 
-#[tactic(auto, unfolding(crate::specs::Tokens::is_keyword))]
 fn is_keyword(text: &[u8]) -> bool
     ensures { result ≡ spec.is_keyword text.now }
 {
