@@ -1,0 +1,11 @@
+pub mod ByTable
+pub mod CountWidth
+pub mod Plain
+pub mod PlainLaws
+pub mod QueueCalls
+pub mod QueueLaws
+pub mod QueueLists
+pub mod QueueRuns
+pub mod QueueTable
+pub mod QueueWidths
+pub mod Queues

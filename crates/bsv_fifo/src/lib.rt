@@ -1,0 +1,17 @@
+//! Queues of a hardware design, as primitives that keep the laws.
+//!
+//! Modules in reading order: `method` (the methods of a queue), `meaning` (what they ask, answer and
+//! do), `pieces` (the pieces that several queues have), `plain` (a queue of any depth whose methods
+//! see no call of the same clock). The tables stand in `specs/Queues.antt` and
+//! `specs/QueueTable.antt`, and for each queue in a file of its name. What a queue needs to keep the
+//! laws stands in `specs/QueueLaws.antt`.
+#![tactic(auto)]
+
+mod meaning;
+mod method;
+mod pieces;
+mod plain;
+#[cfg(test)]
+mod tests;
+
+pub use plain::PlainKind;
