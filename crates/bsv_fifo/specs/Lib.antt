@@ -1,5 +1,10 @@
 pub mod ByTable
+pub mod Bypass
+pub mod BypassLaws
 pub mod CountWidth
+pub mod OneItem
+pub mod Pipeline
+pub mod PipelineLaws
 pub mod Plain
 pub mod PlainLaws
 pub mod QueueCalls

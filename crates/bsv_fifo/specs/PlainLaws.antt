@@ -17,7 +17,7 @@ use Rattle.bsv_fifo.specs.Queues.{changes, queue_guard, queue_result, queue_resu
 use Rattle.bsv_fifo.specs.QueueTable.{number}
 use Rattle.bsv_fifo.specs.Plain.{plain_row, plain_table, plain_guard_piece, plain_result_piece, plain_next_piece, count_with, count_without, next_count, next_item, filled, behind}
 use Rattle.bsv_fifo.specs.QueueLists.{with_item, closed}
-use Rattle.bsv_fifo.specs.QueueLaws.{IsQueue, IsTold, Seen, Shown, WereReady, queue_laws}
+use Rattle.bsv_fifo.specs.QueueLaws.{IsQueue, IsTold, Seen, Shown, WereReady, front_shown, queue_laws}
 use Rattle.bsv_fifo.specs.QueueWidths.{always_has, number_has, count_has, room_has, item_has, front_has}
 use Rattle.bsv_fifo.specs.CountWidth.{depth_fits}
 
@@ -56,10 +56,6 @@ guards width depth First xs e d v s u = rw (u.enq refl, u.deq refl, s.items.coun
 guards width depth NotFull xs e d v s u = refl
 guards width depth NotEmpty xs e d v s u = refl
 guards width depth Clear xs e d v s u = refl
-
-pub front_shown : (width depth : ℕ) (xs : List Bits) (registers : ℕ → Bits) → ShowsItems depth xs registers → nat_lt 0 (length xs) ≡ true → registers 1 ≡ queue_result width depth First xs
-front_shown width depth [] registers s r = cc
-front_shown width depth (x ∷ xs) registers s r = s.item 0 (omega arith)
 
 results : (width depth : ℕ) (n : Method) (xs : List Bits) (e d : Option (List Bits)) (v : Signals) → Shown (plain_row width depth) xs e d v → Seen (plain_row width depth) n e d → changes n ≡ false → queue_guard depth n (closed xs e d None) ≡ true
     → word_of v (plain_result_piece depth n) ≡ queue_result width depth n (closed xs e d None)

@@ -64,6 +64,11 @@ pub record IsQueue (row : QueueRow) : Type 0 where
   pub guard_speaks : (n : Method) → SpeaksOf (λ m. row.sees (queue_method m) n ≡ true) (λ m. row.sees (queue_method m) n ≡ true) (row.guard_piece n)
   pub result_speaks : (y : ℕ) (n : Method) → changes n ≡ false → SpeaksOf (λ m. row.sees (queue_method m) n ≡ true) (λ m. (row.sees (queue_method m) n ≡ true) ⊎ (m ≡ y)) (row.result_piece n)
 
+-- the front is in the first item's register
+pub front_shown : (width depth : ℕ) (xs : List Bits) (registers : ℕ → Bits) → ShowsItems depth xs registers → nat_lt 0 (length xs) ≡ true → registers 1 ≡ queue_result width depth First xs
+front_shown width depth [] registers s r = cc
+front_shown width depth (x ∷ xs) registers s r = s.item 0 (omega arith)
+
 -- ---- words
 
 zero_is_word : (width : ℕ) → 1 ≤ width → width ≤ 128 → IsWordOf width (zero_word width)

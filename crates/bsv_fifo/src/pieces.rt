@@ -1,7 +1,7 @@
 ghost use Rattle.std.specs.Prelude.{◌≡◌, ◌≤◌, IfOk};
 ghost use Rattle.bsv_prim.specs.Shape.{shape_of};
 ghost use Rattle.bsv_prim.specs.Registers.{always};
-ghost use Rattle.bsv_fifo.specs.QueueTable.{number, has_room, has_item};
+ghost use Rattle.bsv_fifo.specs.QueueTable.{number, has_room, has_item, newest_item};
 
 use crate::method::count_width_of;
 use bsv_bits::{Operator, OutOfMemory, Word};
@@ -53,5 +53,17 @@ pub(crate) fn item_piece(alloc: Global, depth: u32) -> Result<Piece, OutOfMemory
         Operator::Less,
         number_piece(depth, 0),
         Piece::register(0),
+    )
+}
+
+/// The item that comes, or else that of the first item's register.
+pub(crate) fn newest_piece(alloc: Global) -> Result<Piece, OutOfMemory>
+    ensures { IfOk result (λ piece. shape_of piece ≡ newest_item) }
+{
+    Piece::pick(
+        alloc,
+        Piece::called(0),
+        Piece::argument(0, 0),
+        Piece::register(1),
     )
 }

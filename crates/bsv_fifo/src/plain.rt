@@ -153,12 +153,12 @@ impl Primitive for PlainKind {
         match (Method::of(first), Method::of(second)) {
             (Method::Enq, Method::Enq) | (Method::Deq, Method::Deq) => Rel::C,
             (Method::Clear, Method::Clear) => Rel::Sbr,
-            (Method::Clear, _) => Rel::Sa,
             (_, Method::Clear) => Rel::Sb,
-            (Method::Enq, Method::NotFull | Method::NotEmpty) => Rel::Sa,
+            (Method::Clear, _) => Rel::Sa,
             (Method::NotFull | Method::NotEmpty, Method::Enq) => Rel::Sb,
-            (Method::Deq, Method::First | Method::NotFull | Method::NotEmpty) => Rel::Sa,
+            (Method::Enq, Method::NotFull | Method::NotEmpty) => Rel::Sa,
             (Method::First | Method::NotFull | Method::NotEmpty, Method::Deq) => Rel::Sb,
+            (Method::Deq, Method::First | Method::NotFull | Method::NotEmpty) => Rel::Sa,
             _ => Rel::Cf,
         }
     }
