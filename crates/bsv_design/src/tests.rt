@@ -318,6 +318,7 @@ fn registers(rt: HostRuntime) -> Result<(), Fail> {
     walk(&rt, rt.alloc(), &reg, &register_sheet())?;
     check_names(&rt, rt.alloc(), &reg, &["_read", "_write"])?;
     check_guards(&rt, &reg, &reg.opening(rt.alloc())?, [true; 6]);
+    check_guards(&rt, &reg, &Part::Number(byte(1)), [true; 6]);
     let register = reg.register(0);
     assert!(rt; register.width == 8 && register.start == byte(0x0c) && register.resets);
     let regu = Kind::RegU(RegUKind { width: 8 });
@@ -353,6 +354,9 @@ fn wires(rt: HostRuntime) -> Result<(), Fail> {
     check_guards(&rt, &dwire, &dwire.opening(alloc)?, [true; 6]);
     check_guards(&rt, &rwire, &rwire.opening(alloc)?, [true; 6]);
     check_guards(&rt, &pulse, &pulse.opening(alloc)?, [true; 6]);
+    check_guards(&rt, &dwire, &Part::Held(Some(byte(1))), [true; 6]);
+    check_guards(&rt, &rwire, &Part::Held(Some(byte(1))), [true; 6]);
+    check_guards(&rt, &pulse, &Part::Held(Some(Word::bit(true))), [true; 6]);
     assert_eq!(rt;
         wire.registers() + dwire.registers() + rwire.registers() + pulse.registers(),
         0

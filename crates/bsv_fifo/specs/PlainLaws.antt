@@ -18,7 +18,7 @@ use Rattle.bsv_fifo.specs.QueueTable.{number}
 use Rattle.bsv_fifo.specs.Plain.{plain_row, plain_table, plain_guard_piece, plain_result_piece, plain_next_piece, count_with, count_without, next_count, next_item, filled, behind}
 use Rattle.bsv_fifo.specs.QueueLists.{with_item, closed}
 use Rattle.bsv_fifo.specs.QueueLaws.{IsQueue, IsTold, Seen, Shown, WereReady, front_shown, queue_laws}
-use Rattle.bsv_fifo.specs.QueueWidths.{always_has, number_has, count_has, room_has, item_has, front_has}
+use Rattle.bsv_fifo.specs.QueueWidths.{always_has, number_has, count_has, room_has, item_has, place_has}
 use Rattle.bsv_fifo.specs.CountWidth.{depth_fits}
 
 less_mod : (n m : ℕ) → n < m → n % m ≡ n
@@ -152,7 +152,7 @@ module _ (width depth : ℕ) (some : 1 ≤ depth) (most : depth ≤ 64) where
   guard_has Clear = always_has (plain_row width depth) some most
 
   result_has : (n : Method) → changes n ≡ false → HasWidth t (plain_result_piece depth n) (queue_result_width width n)
-  result_has First e = front_has (plain_row width depth) some most 1 (omega arith) (omega arith)
+  result_has First e = place_has (plain_row width depth) some most 1 (omega arith) (omega arith)
   result_has NotFull e = room_has (plain_row width depth) some most
   result_has NotEmpty e = item_has (plain_row width depth) some most
   result_has Enq e = cc
@@ -180,7 +180,7 @@ module _ (width depth : ℕ) (some : 1 ≤ depth) (most : depth ≤ 64) where
   filled_has n r h p l =
       let c = count_has (plain_row width depth) some most in
       let k = number_has (plain_row width depth) some most n h in
-      ((1, 1, (omega arith, refl), (count_width depth, count_width depth, c, k, refl, refl), refl, refl), (omega arith, omega arith, refl), front_has (plain_row width depth) some most r p l)
+      ((1, 1, (omega arith, refl), (count_width depth, count_width depth, c, k, refl, refl), refl, refl), (omega arith, omega arith, refl), place_has (plain_row width depth) some most r p l)
 
   next_has : (r : ℕ) → r < depth + 1 → HasWidth t (plain_next_piece depth r) (queue_register_width width depth r)
   next_has zero h = next_count_has

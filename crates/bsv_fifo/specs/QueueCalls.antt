@@ -143,10 +143,6 @@ front_append : (width depth : ℕ) (xs : List Bits) (x : Bits) → nat_lt 0 (len
 front_append width depth [] x h = cc
 front_append width depth (y ∷ ys) x h = refl
 
-value_keeps : (width depth : ℕ) (m n : Method) (xs args : List Bits) → not (changes m) ≡ true → Keeps width depth n xs (changed m xs args)
-value_keeps width depth m n xs args e =
-    kept width depth n xs (changed m xs args) (leaves_items m xs args (not_true (changes m) e))
-
 keep : (width depth : ℕ) (m n : Method) (xs args : List Bits) → keeps m n ≡ true → Keeps width depth n xs (changed m xs args)
 keep width depth m Clear xs args e = record { ready = λ r. refl; same = λ a r. cc }
 keep width depth Deq Enq xs args e = record { ready = room_after depth xs; same = λ a r. cc }

@@ -25,10 +25,10 @@ module _ (row : QueueRow) (some : 1 ≤ row.depth) (most : row.depth ≤ 64) whe
   pub item_has : HasWidth (queue_table row) (has_item row.depth) 1
   item_has = (count_width row.depth, count_width row.depth, number_has 0 (omega arith), count_has, refl, refl)
 
-  -- the first item's register
-  pub front_has : (r : ℕ) → 0 < r → r < row.depth + 1 → (r < row.depth + 1) × (row.width ≡ queue_register_width row.width row.depth r)
-  front_has zero h l = absurd (omega arith)
-  front_has (suc i) h l = (l, refl)
+  -- the register of a place
+  pub place_has : (r : ℕ) → 0 < r → r < row.depth + 1 → (r < row.depth + 1) × (row.width ≡ queue_register_width row.width row.depth r)
+  place_has zero h l = absurd (omega arith)
+  place_has (suc i) h l = (l, refl)
 
   pub newest_has : HasWidth (queue_table row) newest_item row.width
   newest_has = ((omega arith, refl), (omega arith, omega arith, refl), (omega arith, refl))

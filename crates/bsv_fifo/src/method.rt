@@ -58,6 +58,7 @@ impl Method {
 }
 
 /// The least width that holds a depth.
+#[tactic(auto, using(crate::proofs::CountDigits::count_digits))]
 pub(crate) fn count_width_of(depth: u32) -> u32
     requires some { 1 ≤ depth }
     requires most { depth ≤ 64 }
