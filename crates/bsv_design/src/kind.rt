@@ -1,4 +1,4 @@
-ghost use Rattle.std.specs.Prelude.{◌≡◌, ◌<◌, ◌↔◌, ℕ, Some, slice_get};
+ghost use Rattle.std.specs.Prelude.{◌≡◌, ◌<◌, ◌↔◌, ℕ, Some, IfSome, slice_get};
 ghost use Rattle.bsv_design.specs.Kinds.{kind_table};
 ghost use Rattle.bsv_design.specs.MethodNames.{method_names};
 
@@ -42,8 +42,9 @@ impl Kind {
 
     /// The number of the method of a name, if there is one.
     pub fn method_number(&self, name: &Name) -> Option<u32>
-        ensures { (number : ℕ) →
+        ensures named { (number : ℕ) →
             (result ≡ Some number) ↔ (slice_get (method_names self.now) number ≡ Some name.now) }
+        ensures within { IfSome result (λ number. number < (kind_table self.now).methods) }
     {
         for number in 0..self.methods() {
             if self.method_name(number).as_bytes() == name.bytes() {
