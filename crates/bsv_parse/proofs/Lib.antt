@@ -1,0 +1,10 @@
+pub mod Deepest
+pub mod DefinitionLaws
+pub mod HoleLaws
+pub mod ModuleKnot
+pub mod PackageLaws
+pub mod PlaceLaws
+pub mod SimpleLaws
+pub mod StatementKnot
+pub mod TypeKnot
+pub mod Whole
