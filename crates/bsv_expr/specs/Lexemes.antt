@@ -1,5 +1,5 @@
 -- Tokens as the grammar sees them, and sets of words of the grammar.
-use Rattle.std.specs.Prelude.{ℕ, Bool, true, false, not, ◌&&◌, List, [], ◌∷◌, map, slice_range}
+use Rattle.std.specs.Prelude.{ℕ, Bool, true, false, not, ◌&&◌, List, [], ◌∷◌, length, ◌-◌, map, slice_get, slice_range, Option, Some, None}
 use Rattle.std.specs.List.{list_any}
 use denote.Enum.Bare.{sameb}
 use Rattle.bsv_lex.specs.contracts.terminal.Terminal.{the_type}
@@ -38,3 +38,12 @@ lexeme source t = record { terminal = terminal_of t.kind (slice_range source t.s
 -- the tokens of the source as the grammar sees them
 unfoldable pub lexemes : List ℕ → List Token → List Lexeme
 lexemes source ts = map (lexeme source) ts
+
+-- the byte at which the token of a number begins, or the end of the source
+abbrev pub start_or_end : List ℕ → Option Token → ℕ
+start_or_end source None = length source
+start_or_end source (Some t) = t.start
+
+-- the byte at which the last tokens begin, of which there are so many, or the end of the source
+abbrev pub place : List ℕ → List Token → ℕ → ℕ
+place source tokens left = start_or_end source (slice_get tokens (length tokens - left))

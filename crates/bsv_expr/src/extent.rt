@@ -63,13 +63,14 @@ pub fn lexemes(alloc: Global, source: &[u8], tokens: &[Token]) -> Result<Vec<Lex
     Ok(out)
 }
 
-/// The byte at which the token begins behind which so many are left, or the end of the source.
-fn place(source: &[u8], tokens: &[Token], left: usize) -> u32
-    requires { length source.now ≤ 1048576 }
+/// The byte at which the last tokens begin, of which there are so many, or the end of the source.
+pub fn place(source: &[u8], tokens: &[Token], left: usize) -> u32
+    requires limit { length source.now ≤ 1048576 }
+    ensures { result ≡ spec.place source.now tokens.now left }
 {
-    match tokens.len().checked_sub(left) {
-        Some(at) if at < tokens.len() => tokens[at].start,
-        _ => source.len() as u32,
+    match tokens.get(tokens.len().saturating_sub(left)) {
+        Some(token) => token.start,
+        None => source.len() as u32,
     }
 }
 

@@ -48,7 +48,7 @@ pub fn to(start: Span, end: Span) -> Span
     }
 }
 
-/// The bytes of a place in the source; none where it does not lie in it.
+/// The bytes of a place in the source: those of it that the source has.
 pub fn text(source: &[u8], span: Span) -> &[u8]
     ensures { result.now ≡ grammar.text source.now span }
 {

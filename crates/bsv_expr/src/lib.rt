@@ -18,7 +18,7 @@ mod reader;
 #[cfg(test)]
 mod tests;
 
-pub use extent::{ExprFault, MAX_OPEN, expression, lexemes};
+pub use extent::{ExprFault, MAX_OPEN, expression, lexemes, place};
 pub use fault::{ReadFault, forgives};
 pub use input::{expect, name, number, refusal};
 pub use lexeme::{Lexeme, is_in, same_terminal, starts, text, to};
