@@ -1,6 +1,5 @@
 -- Where too many brackets are open at once, and only there, is a first one of them.
-use Rattle.std.proofs.Common.{◌≡◌, ◌⊎◌, inl, inr, ℕ, zero, suc, ◌+◌, ◌<◌, ◌≤◌, Bool, true, false, nat_lt, if◌then◌else◌, List, [], ◌∷◌, length, drop, get_or, Option, Some, None, refl, ap, subst, sym, ◌∙◌, drop-cons, arith}
-use Rattle.std.proofs.lemmas.Grind.{common_steps}
+use Rattle.std.proofs.Common.{◌≡◌, ℕ, suc, ◌+◌, ◌<◌, ◌≤◌, Bool, true, false, nat_lt, if◌then◌else◌, List, [], ◌∷◌, length, drop, get_or, Some, None, refl, ap, subst, sym, ◌∙◌, drop-cons, arith}
 use Rattle.bsv_expr.specs.declared.lexeme.Lexeme.{Lexeme}
 use Rattle.bsv_expr.specs.Brackets.{open_behind, Reaches}
 use Rattle.bsv_parse.specs.Depths.{FirstDeep, first_deep}

@@ -1,6 +1,8 @@
+pub mod Closed
 pub mod Deepest
 pub mod DefinitionLaws
 pub mod HoleLaws
+pub mod Judged
 pub mod ModuleKnot
 pub mod PackageLaws
 pub mod PlaceLaws

@@ -134,7 +134,7 @@ module _ (source : List ℕ) (n : ℕ) (laws : MstmtLaws source n) where
   is_good g e names = good source (inner source n (mstmt source n)) (Inner source n (IsModuleStmt source n)) place_begins place_goes_on place_completes place_starts place_shorter g e names
 
   arm_named : names_of grammar.arm
-  unfolding Names grammar.arm grammar.block mstmts grammar.ruled
+  unfolding Names grammar.arm grammar.block grammar.nested mstmts grammar.ruled
   arm_named = ((tt, tt), (tt, tt))
 
   branch_named : names_of grammar.branch
@@ -159,7 +159,7 @@ module _ (source : List ℕ) (n : ℕ) (laws : MstmtLaws source n) where
 
   -- the reader of a statement of a module reads what the grammar says
   pub body_good : good_of mstmt_body
-  unfolding test first more nullable mstmts grammar.block grammar.ruled grammar.arm grammar.branch grammar.else_part grammar.branches grammar.if_stmt grammar.arm_or_if grammar.inner_for grammar.for_body grammar.for_stmt grammar.methodical mstmt_body type_first simple_first mstmt_first mstmt_more same_terminal
+  unfolding test first more nullable grammar.nested mstmts grammar.block grammar.ruled grammar.arm grammar.branch grammar.else_part grammar.branches grammar.if_stmt grammar.arm_or_if grammar.inner_for grammar.for_body grammar.for_stmt grammar.methodical mstmt_body type_first simple_first mstmt_first mstmt_more same_terminal
   body_good = is_good mstmt_body refl body_named
 
   module_behind_within : (front : ModuleFront) → within_of (word.Colon ∷ []) (word.Colon ∷ []) (module_behind front)
@@ -168,20 +168,20 @@ module _ (source : List ℕ) (n : ℕ) (laws : MstmtLaws source n) where
       record { firsts = refl; mores = refl; good = is_good (module_behind ((attributes, (start, (name, (params, interface)))), (found, close))) refl (tt, tt) }
 
   module_named : names_of module_whole
-  unfolding Names module_whole module_front mstmts
+  unfolding Names module_whole module_front grammar.nested mstmts
   module_named = ((tt, ((tt, (tt, tt)), tt)), module_behind_within)
 
   -- and that of a module
   pub module_good : good_of module_whole
-  unfolding test first more nullable module_whole module_front mstmts mstmt_first mstmt_more same_terminal
+  unfolding test first more nullable module_whole module_front grammar.nested mstmts mstmt_first mstmt_more same_terminal
   module_good = is_good module_whole refl module_named
 
 next_completes : (source : List ℕ) (n : ℕ) → MstmtLaws source n → (x : ModuleStmt) (ts rest : List Lexeme) → IsModuleStmt source (suc n) x ts rest → starts mstmt_more rest ≡ false → mstmt source (suc n) ts ≡ Ok (x, rest)
-unfolding mstmt IsModuleStmt first more nullable mstmts grammar.block grammar.ruled grammar.arm grammar.branch grammar.else_part grammar.branches grammar.if_stmt grammar.arm_or_if grammar.inner_for grammar.for_body grammar.for_stmt grammar.methodical mstmt_body type_first simple_first mstmt_first mstmt_more same_terminal
+unfolding mstmt IsModuleStmt first more nullable grammar.nested mstmts grammar.block grammar.ruled grammar.arm grammar.branch grammar.else_part grammar.branches grammar.if_stmt grammar.arm_or_if grammar.inner_for grammar.for_body grammar.for_stmt grammar.methodical mstmt_body type_first simple_first mstmt_first mstmt_more same_terminal
 next_completes source n laws x ts rest d stop = (body_good source n laws).completes false x ts rest d (within_stops (more place_begins place_goes_on mstmt_body) mstmt_more rest refl stop)
 
 next_begins : (source : List ℕ) (n : ℕ) → MstmtLaws source n → (x : ModuleStmt) (ts rest : List Lexeme) → IsModuleStmt source (suc n) x ts rest → starts mstmt_first ts ≡ true
-unfolding IsModuleStmt first more nullable mstmts grammar.block grammar.ruled grammar.arm grammar.branch grammar.else_part grammar.branches grammar.if_stmt grammar.arm_or_if grammar.inner_for grammar.for_body grammar.for_stmt grammar.methodical mstmt_body type_first simple_first mstmt_first mstmt_more same_terminal
+unfolding IsModuleStmt first more nullable grammar.nested mstmts grammar.block grammar.ruled grammar.arm grammar.branch grammar.else_part grammar.branches grammar.if_stmt grammar.arm_or_if grammar.inner_for grammar.for_body grammar.for_stmt grammar.methodical mstmt_body type_first simple_first mstmt_first mstmt_more same_terminal
 next_begins source n laws x ts rest d =
     elim ((body_good source n laws).begins x ts rest d) [
       | inl e ↦ within_starts (first place_begins place_goes_on mstmt_body) mstmt_first ts refl e
@@ -189,7 +189,7 @@ next_begins source n laws x ts rest d =
     ]
 
 next_shorter : (source : List ℕ) (n : ℕ) → MstmtLaws source n → (x : ModuleStmt) (ts rest : List Lexeme) → IsModuleStmt source (suc n) x ts rest → length rest < length ts
-unfolding IsModuleStmt nullable mstmts grammar.block grammar.ruled grammar.arm grammar.branch grammar.else_part grammar.branches grammar.if_stmt grammar.arm_or_if grammar.inner_for grammar.for_body grammar.for_stmt grammar.methodical mstmt_body
+unfolding IsModuleStmt nullable grammar.nested mstmts grammar.block grammar.ruled grammar.arm grammar.branch grammar.else_part grammar.branches grammar.if_stmt grammar.arm_or_if grammar.inner_for grammar.for_body grammar.for_stmt grammar.methodical mstmt_body
 next_shorter source n laws x ts rest d = shorter source (Inner source n (IsModuleStmt source n)) (place_shorter source n laws) mstmt_body x ts rest refl d
 
 -- the reader of statements of a module reads each of them, one begins with its words and takes a token, at each number of blocks
@@ -205,7 +205,7 @@ abbrev Tamed : {A : Type 0} → Of A → Type 0
 Tamed g = Tame outside g
 
 mstmts_tame : Tamed mstmts
-unfolding Tame mstmts
+unfolding Tame grammar.nested mstmts
 mstmts_tame = (tt, tt)
 
 arm_tame : Tamed grammar.arm
@@ -235,7 +235,7 @@ mstmt_body_tame = (if_tame, (for_tame, (tt, arm_tame)))
 
 -- a statement in a block stands between `begin` and `end`
 pub mstmt_body_guarded : guarded outside mstmt_body ≡ true
-unfolding guarded mstmts grammar.block grammar.ruled grammar.arm grammar.branch grammar.else_part grammar.branches grammar.if_stmt grammar.arm_or_if grammar.inner_for grammar.for_body grammar.for_stmt grammar.methodical mstmt_body
+unfolding guarded grammar.nested mstmts grammar.block grammar.ruled grammar.arm grammar.branch grammar.else_part grammar.branches grammar.if_stmt grammar.arm_or_if grammar.inner_for grammar.for_body grammar.for_stmt grammar.methodical mstmt_body
 mstmt_body_guarded = refl
 
 module_behind_tame : (front : ModuleFront) → (guarded outside (module_behind front) ≡ true) × Tamed (module_behind front)

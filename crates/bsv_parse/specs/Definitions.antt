@@ -1,7 +1,6 @@
 -- The grammar of what definitions are made of: attributes, parameters, rules, methods and functions, types and
 -- interfaces, and the statements of a module that hold no other (Bluespec reference guide, "Modules and interfaces").
-use Rattle.std.specs.Prelude.{ℕ, Bool, zero, suc, false, if◌then◌else◌, List, [], ◌∷◌, Option, Some, None, unwrap_or}
-use Rattle.std.specs.Str.{bytes_eq}
+use Rattle.std.specs.Prelude.{ℕ, List, [], ◌∷◌, Option, Some, unwrap_or}
 use Rattle.bsv_ast.specs.declared.text.Span.{Span}
 use Rattle.bsv_ast.specs.declared.text.Ident.{Ident}
 use Rattle.bsv_ast.specs.declared.expressions.Expr.{Expr}
@@ -27,6 +26,7 @@ use Rattle.bsv_expr.specs.declared.lexeme.Lexeme.{Lexeme}
 use Rattle.bsv_expr.specs.Grammar.{Grammar}
 use Rattle.bsv_expr.specs.Expressions.{always, snoc, text, the, behind, listed, many, lower, upper, pair}
 use Rattle.bsv_parse.specs.Places.{Hole, Of, stmts}
+use Rattle.bsv_parse.specs.Simple.{told_as}
 use Rattle.bsv_parse.specs.Types.{type_first}
 use Rattle.bsv_parse.specs.ModuleTrees.{unquoted, attribute_of, group_of, param_of, make_of, typed_of, let_of, changed_of, statements_of, value_of, RuleFront, rule_of, Header, method_of, function_of, ModuleHead, opened, alias_of, Named, enum_of, struct_of, field_of, import_of, method_header_of, InterfaceFront, interface_of}
 use Rattle.bsv_parse.specs.declared.simple_module.Given.{Given}
@@ -124,14 +124,10 @@ simple = Grammar.choose type_first typed (Grammar.choose (word.Let ∷ []) defin
 unfoldable pub asked : Of Expr
 asked = Grammar.between (λ o x c. x) word.OpenParen expression word.CloseParen
 
--- where a token stands that is this name
-abbrev pub same_told : List ℕ → List ℕ → Lexeme → Option Span
-same_told name source w = if bytes_eq (text source w.span) name then Some w.span else None
-
 module _ {H : Type 0} {T : H → Type 0} where
   -- the name that an `end..` word ends, if it stands there again; and where the definition ends
   abbrev pub ending : Terminal → List ℕ → Span → Grammar H T Span
-  ending kind name close = Grammar.made (λ found. unwrap_or found close) (Grammar.maybe (word.Colon ∷ []) (behind word.Colon (Grammar.leaf (kind ∷ []) (same_told name))))
+  ending kind name close = Grammar.made (λ found. unwrap_or found close) (Grammar.maybe (word.Colon ∷ []) (behind word.Colon (Grammar.leaf (kind ∷ []) (told_as name))))
 
 -- `;`, statements and this `end..` word
 unfoldable pub statements_front : Terminal → Of (Span × (List Stmt × Span))

@@ -5,6 +5,7 @@ pub mod ModuleTrees
 pub mod Modules
 pub mod Packages
 pub mod Places
+pub mod Reads
 pub mod Simple
 pub mod StatementTrees
 pub mod Statements

@@ -1,5 +1,5 @@
 -- Nodes of the syntax tree of a package, from the parts that a production has.
-use Rattle.std.specs.Prelude.{ℕ, Bool, List, [], ◌∷◌, ◌++◌, length, ◌-◌, slice_get, slice_range, Option, Some, None, is_none, unwrap_or}
+use Rattle.std.specs.Prelude.{ℕ, Bool, List, [], ◌∷◌, ◌++◌, length, ◌-◌, slice_get, slice_range, Option, Some, None, is_none}
 use Rattle.bsv_ast.specs.declared.text.Span.{Span}
 use Rattle.bsv_ast.specs.declared.text.Ident.{Ident}
 use Rattle.bsv_ast.specs.declared.types.WrittenType.{WrittenType}

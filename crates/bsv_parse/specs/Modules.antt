@@ -50,8 +50,12 @@ Of A = Grammar Nested Filled A
 unfoldable pub mstmt_first : List Terminal
 mstmt_first = word.Upper ∷ word.Int ∷ word.Let ∷ word.Lower ∷ word.Begin ∷ word.If ∷ word.For ∷ word.OpenAttribute ∷ word.Rule ∷ word.Method ∷ []
 
+-- a statement in a block
+unfoldable pub nested : Of ModuleStmt
+nested = Grammar.hole Nested.statement
+
 unfoldable pub mstmts : Of (List ModuleStmt)
-mstmts = many mstmt_first (Grammar.hole Nested.statement)
+mstmts = many mstmt_first nested
 
 unfoldable pub block : Of ModuleStmt
 block = Grammar.between block_of word.Begin mstmts word.End
@@ -121,13 +125,13 @@ Inner source n Block Nested.heading = Says source n definitions.module_head
 Inner source n Block Nested.statement = Block
 
 unfoldable pub inner : List ℕ → ℕ → (List Lexeme → Read ModuleStmt) → (h : Nested) → List Lexeme → Read (Filled h)
-inner source n mstmts Nested.simple ts = part source n definitions.simple ts
-inner source n mstmts Nested.rule ts = part source n definitions.rule ts
-inner source n mstmts Nested.method ts = part source n definitions.method ts
-inner source n mstmts Nested.condition ts = part source n definitions.asked ts
-inner source n mstmts Nested.head ts = simple_places.part source n simple_grammar.head ts
-inner source n mstmts Nested.heading ts = part source n definitions.module_head ts
-inner source n mstmts Nested.statement ts = mstmts ts
+inner source n blocks Nested.simple ts = part source n definitions.simple ts
+inner source n blocks Nested.rule ts = part source n definitions.rule ts
+inner source n blocks Nested.method ts = part source n definitions.method ts
+inner source n blocks Nested.condition ts = part source n definitions.asked ts
+inner source n blocks Nested.head ts = simple_places.part source n simple_grammar.head ts
+inner source n blocks Nested.heading ts = part source n definitions.module_head ts
+inner source n blocks Nested.statement ts = blocks ts
 
 -- a statement of a module in which fewer than so many blocks are open at once, and fewer than so many brackets and
 -- blocks in each expression, each type and each statement

@@ -1,6 +1,5 @@
 -- The grammar of packages (Bluespec reference guide, "Packages and the outermost structure of a BSV design").
 use Rattle.std.specs.Prelude.{ℕ, false, List, [], ◌∷◌, unwrap_or}
-use Rattle.bsv_ast.specs.declared.text.Span.{Span}
 use Rattle.bsv_ast.specs.declared.modules.Module.{Module}
 use Rattle.bsv_ast.specs.declared.package.Import.{Import}
 use Rattle.bsv_ast.specs.declared.package.Typedef.{Typedef}

@@ -1,5 +1,5 @@
 -- The places at which the grammar of definitions goes on with an expression, a type or a statement, and their readers.
-use Rattle.std.specs.Prelude.{ℕ, false, List, [], ◌∷◌}
+use Rattle.std.specs.Prelude.{ℕ, false, List}
 use Rattle.bsv_ast.specs.declared.text.Span.{Span}
 use Rattle.bsv_ast.specs.declared.expressions.Expr.{Expr}
 use Rattle.bsv_ast.specs.declared.types.WrittenType.{WrittenType}

@@ -1,7 +1,7 @@
 -- The grammar of the statements that hold no other, of conditions and of the heads of loops (Bluespec reference guide,
 -- the statements of rules, methods and functions). What begins alike is read once: a place, and then what says what is
 -- done with it.
-use Rattle.std.specs.Prelude.{◌≡◌, ℕ, zero, suc, Bool, true, false, if◌then◌else◌, List, [], ◌∷◌, Option, Some, None, Err, codes}
+use Rattle.std.specs.Prelude.{ℕ, if◌then◌else◌, List, [], ◌∷◌, Option, Some, None, codes}
 use Rattle.std.specs.Str.{bytes_eq}
 use Rattle.bsv_ast.specs.declared.text.Span.{Span}
 use Rattle.bsv_ast.specs.declared.text.Ident.{Ident}
@@ -15,23 +15,15 @@ use Rattle.bsv_ast.specs.declared.statements.Condition.{Condition}
 use Rattle.bsv_ast.specs.declared.statements.Head.{Head}
 use Rattle.bsv_ast.specs.declared.statements.Stmt.{Stmt}
 use Rattle.bsv_ast.specs.declared.statements.Stmt.TheVariants as form
-use Rattle.bsv_ast.specs.declared.statements.Branch.{Branch}
-use Rattle.bsv_ast.specs.declared.statements.CaseArm.{CaseArm}
-use Rattle.bsv_ast.specs.declared.modules.ModuleStmt.{ModuleStmt}
-use Rattle.bsv_ast.specs.Spans.{expr_span, type_span, place_span}
+use Rattle.bsv_ast.specs.Spans.{type_span}
 use Rattle.bsv_lex.specs.declared.terminal.Terminal.{Terminal}
 use Rattle.bsv_lex.specs.declared.terminal.Terminal.TheVariants as word
 use Rattle.bsv_expr.specs.declared.lexeme.Lexeme.{Lexeme}
-use Rattle.bsv_expr.specs.declared.fault.ReadFault.TheVariants as fault
-use Rattle.bsv_expr.specs.Grammar.{Grammar, Phrase, Means}
-use Rattle.bsv_expr.specs.Reading.{Read, read, refuse}
+use Rattle.bsv_expr.specs.Grammar.{Grammar}
 use Rattle.bsv_expr.specs.Trees.{to}
-use Rattle.bsv_expr.specs.Expressions.{always, pair, snoc, text, the, behind, listed, many, lower, upper, expression_first}
-use Rattle.bsv_parse.specs.declared.statements.Branches.{Branches}
-use Rattle.bsv_parse.specs.declared.statements.ElsePart.{ElsePart}
-use Rattle.bsv_parse.specs.declared.statements.ElsePart.TheVariants as otherwise
-use Rattle.bsv_parse.specs.Holes.{Hole, Of, Inner, inner, part}
-use Rattle.bsv_parse.specs.StatementTrees.{place_of, Called, call_of, write_of, call_statement, assign_of, bind_of, declare_of, condition_of, branch_of, is_open, one_branch, with_else, if_of, case_arm_of, for_of}
+use Rattle.bsv_expr.specs.Expressions.{pair, text, the, behind, lower}
+use Rattle.bsv_parse.specs.Holes.{Hole, Of}
+use Rattle.bsv_parse.specs.StatementTrees.{place_of, Called, call_of, write_of, call_statement, assign_of, bind_of, declare_of, condition_of}
 
 abbrev pub expression : Of Expr
 expression = Grammar.hole Hole.expression

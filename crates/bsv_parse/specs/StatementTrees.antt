@@ -1,5 +1,5 @@
 -- Nodes of statements, from the parts that a production has.
-use Rattle.std.specs.Prelude.{ℕ, Bool, List, [], ◌∷◌, ◌++◌, length, ◌-◌, is_none, slice_get, Option, Some, None}
+use Rattle.std.specs.Prelude.{Bool, List, [], ◌∷◌, ◌++◌, is_none, slice_get, Option, Some, None}
 use Rattle.bsv_ast.specs.declared.text.Span.{Span}
 use Rattle.bsv_ast.specs.declared.text.Ident.{Ident}
 use Rattle.bsv_ast.specs.declared.expressions.Expr.{Expr}
@@ -7,7 +7,6 @@ use Rattle.bsv_ast.specs.declared.statements.Place.{Place}
 use Rattle.bsv_ast.specs.declared.statements.Place.TheVariants as places
 use Rattle.bsv_ast.specs.declared.statements.Call.{Call}
 use Rattle.bsv_ast.specs.declared.statements.DeclaredType.{DeclaredType}
-use Rattle.bsv_ast.specs.declared.statements.Declaration.{Declaration}
 use Rattle.bsv_ast.specs.declared.statements.Condition.{Condition}
 use Rattle.bsv_ast.specs.declared.statements.Condition.TheVariants as asks
 use Rattle.bsv_ast.specs.declared.statements.Head.{Head}
@@ -15,7 +14,7 @@ use Rattle.bsv_ast.specs.declared.statements.Stmt.{Stmt}
 use Rattle.bsv_ast.specs.declared.statements.Stmt.TheVariants as form
 use Rattle.bsv_ast.specs.declared.statements.Branch.{Branch, roll-Branch, out-Branch}
 use Rattle.bsv_ast.specs.declared.statements.CaseArm.{CaseArm, roll-CaseArm}
-use Rattle.bsv_ast.specs.Spans.{expr_span, place_span, declared_span, condition_span, stmt_span}
+use Rattle.bsv_ast.specs.Spans.{expr_span, place_span, declared_span, stmt_span}
 use Rattle.bsv_expr.specs.Reading.{on_some}
 use Rattle.bsv_expr.specs.Trees.{to, last}
 use Rattle.bsv_parse.specs.declared.statements.Branches.{Branches}

@@ -1,37 +1,27 @@
 -- The grammar of statements (Bluespec reference guide, the statements of rules, methods and functions).
-use Rattle.std.specs.Prelude.{◌≡◌, ℕ, zero, suc, Bool, true, false, if◌then◌else◌, List, [], ◌∷◌, Option, Some, None, Err, codes}
-use Rattle.std.specs.Str.{bytes_eq}
-use Rattle.bsv_ast.specs.declared.text.Span.{Span}
-use Rattle.bsv_ast.specs.declared.text.Ident.{Ident}
+use Rattle.std.specs.Prelude.{ℕ, zero, suc, false, List, [], ◌∷◌, Option, Err}
 use Rattle.bsv_ast.specs.declared.expressions.Expr.{Expr}
-use Rattle.bsv_ast.specs.declared.statements.Place.{Place}
-use Rattle.bsv_ast.specs.declared.statements.Place.TheVariants as places
-use Rattle.bsv_ast.specs.declared.statements.Call.{Call}
-use Rattle.bsv_ast.specs.declared.statements.DeclaredType.{DeclaredType}
-use Rattle.bsv_ast.specs.declared.statements.DeclaredType.TheVariants as declares
 use Rattle.bsv_ast.specs.declared.statements.Condition.{Condition}
 use Rattle.bsv_ast.specs.declared.statements.Head.{Head}
 use Rattle.bsv_ast.specs.declared.statements.Stmt.{Stmt}
 use Rattle.bsv_ast.specs.declared.statements.Stmt.TheVariants as form
 use Rattle.bsv_ast.specs.declared.statements.Branch.{Branch}
 use Rattle.bsv_ast.specs.declared.statements.CaseArm.{CaseArm}
-use Rattle.bsv_ast.specs.declared.modules.ModuleStmt.{ModuleStmt}
-use Rattle.bsv_ast.specs.Spans.{expr_span, type_span, place_span}
 use Rattle.bsv_lex.specs.declared.terminal.Terminal.{Terminal}
 use Rattle.bsv_lex.specs.declared.terminal.Terminal.TheVariants as word
 use Rattle.bsv_expr.specs.declared.lexeme.Lexeme.{Lexeme}
 use Rattle.bsv_expr.specs.declared.fault.ReadFault.TheVariants as fault
 use Rattle.bsv_expr.specs.Grammar.{Grammar, Phrase, Means}
-use Rattle.bsv_expr.specs.Reading.{Read, read, refuse}
+use Rattle.bsv_expr.specs.Reading.{Read, read}
 use Rattle.bsv_expr.specs.Trees.{to}
-use Rattle.bsv_expr.specs.Expressions.{always, pair, snoc, text, the, behind, listed, many, lower, upper, expression_first}
+use Rattle.bsv_expr.specs.Expressions.{pair, the, behind, many, expression_first}
 use Rattle.bsv_parse.specs.declared.statements.Branches.{Branches}
 use Rattle.bsv_parse.specs.declared.statements.Cases.{Cases}
 use Rattle.bsv_parse.specs.declared.statements.ElsePart.{ElsePart}
 use Rattle.bsv_parse.specs.declared.statements.ElsePart.TheVariants as otherwise
 use Rattle.bsv_parse.specs.Holes.{Hole, Says, part}
 use Rattle.bsv_parse.specs.Simple as simple_grammar
-use Rattle.bsv_parse.specs.StatementTrees.{place_of, Called, call_of, write_of, call_statement, assign_of, bind_of, declare_of, condition_of, branch_of, is_open, one_branch, with_else, if_of, case_arm_of, cases_of, case_of, for_of}
+use Rattle.bsv_parse.specs.StatementTrees.{branch_of, is_open, one_branch, with_else, if_of, case_arm_of, cases_of, case_of, for_of}
 
 -- the places at which a statement goes on with what holds no statement, or with a statement in a block
 pub data Nested : Type 0 where
@@ -123,12 +113,12 @@ Inner source n Block Nested.subject = Says source n (Grammar.hole Hole.expressio
 Inner source n Block Nested.statement = Block
 
 unfoldable pub inner : List ℕ → ℕ → (List Lexeme → Read Stmt) → (h : Nested) → List Lexeme → Read (Filled h)
-inner source n stmts Nested.simple ts = part source n simple_grammar.simple ts
-inner source n stmts Nested.condition ts = part source n simple_grammar.condition ts
-inner source n stmts Nested.head ts = part source n simple_grammar.head ts
-inner source n stmts Nested.labels ts = part source n (Grammar.hole Hole.expressions) ts
-inner source n stmts Nested.subject ts = part source n (Grammar.hole Hole.expression) ts
-inner source n stmts Nested.statement ts = stmts ts
+inner source n blocks Nested.simple ts = part source n simple_grammar.simple ts
+inner source n blocks Nested.condition ts = part source n simple_grammar.condition ts
+inner source n blocks Nested.head ts = part source n simple_grammar.head ts
+inner source n blocks Nested.labels ts = part source n (Grammar.hole Hole.expressions) ts
+inner source n blocks Nested.subject ts = part source n (Grammar.hole Hole.expression) ts
+inner source n blocks Nested.statement ts = blocks ts
 
 -- a statement in which fewer than so many blocks and cases are open at once, and fewer than so many brackets in each
 -- expression and each type

@@ -1,5 +1,5 @@
 -- The grammar of types, and their reader (Bluespec reference guide, "Types").
-use Rattle.std.specs.Prelude.{◌≡◌, ℕ, zero, suc, Bool, true, false, ◌&&◌, nat_le, is_none, if◌then◌else◌, List, [], ◌∷◌, Option, Some, None, Err}
+use Rattle.std.specs.Prelude.{ℕ, zero, suc, false, ◌&&◌, nat_le, is_none, if◌then◌else◌, List, [], ◌∷◌, Option, Some, None, Err}
 use Rattle.bsv_ast.specs.declared.text.Span.{Span}
 use Rattle.bsv_ast.specs.declared.text.Ident.{Ident}
 use Rattle.bsv_ast.specs.declared.text.Literal.{Literal}
@@ -16,7 +16,7 @@ use Rattle.bsv_expr.specs.declared.fault.ReadFault.TheVariants as fault
 use Rattle.bsv_expr.specs.Grammar.{Grammar, Phrase, Means}
 use Rattle.bsv_expr.specs.Reading.{Read, read}
 use Rattle.bsv_expr.specs.Trees.{to}
-use Rattle.bsv_expr.specs.Expressions.{text, the, behind, upper, pair}
+use Rattle.bsv_expr.specs.Expressions.{text, the, behind, upper}
 
 abbrev pub Of : Type 0 → Type 1
 Of A = Grammar (Unit {0}) (λ h. WrittenType) A

@@ -1,14 +1,14 @@
-ghost use Rattle.std.specs.Prelude.{◌≡◌, ℕ, [], ◌∷◌};
-ghost use Rattle.bsv_expr.specs.Reading as reading;
+ghost use Rattle.std.specs.Prelude.{◌≡◌};
 ghost use Rattle.bsv_expr.specs.Reading.{Gives};
 ghost use Rattle.bsv_parse.specs.Places as places;
 ghost use Rattle.bsv_parse.specs.Places.{part};
 ghost use Rattle.bsv_parse.specs.Definitions as grammar;
 ghost use Rattle.bsv_parse.specs.ModuleTrees as trees;
 
+use crate::simple::word;
 use crate::statements::{STMT_FIRST, stmt};
 use bsv_ast::{Body, Expr, Items, Span, Stmt};
-use bsv_expr::{Lexeme, ReadFault, expect, expr, refusal, same_terminal, starts, text, to};
+use bsv_expr::{Lexeme, ReadFault, expect, expr, starts, to};
 use bsv_lex::Terminal;
 use std::alloc::Global;
 
@@ -51,28 +51,6 @@ pub fn asked<'a>(
     Ok((found, rest))
 }
 
-/// A token that is this name, and the tokens behind it.
-#[tactic(auto, unfolding(bsv_expr::specs::Reading::take_leaf))]
-fn same<'a>(
-    source: &[u8],
-    kind: Terminal,
-    name: &[u8],
-    lexemes: &'a [Lexeme],
-) -> Result<(Span, &'a [Lexeme]), ReadFault>
-    ensures { Gives (λ x. (x.0, x.1.now)) result (reading.take_leaf source.now (kind ∷ []) (grammar.same_told name.now) lexemes.now) }
-{
-    match lexemes {
-        [next, rest @ ..] if same_terminal(next.terminal, kind) => {
-            if text(source, next.span) == name {
-                Ok((next.span, rest))
-            } else {
-                Err(refusal(lexemes))
-            }
-        }
-        _ => Err(refusal(lexemes)),
-    }
-}
-
 /// The name that an `end..` word ends, if it stands there again, as in `[ ":" Lower ]`; and where the
 /// definition ends.
 #[tactic(auto, unfolding(bsv_expr::specs::Reading::read))]
@@ -89,7 +67,7 @@ pub fn ending<'a>(
         return Ok((close, lexemes));
     }
     let (_, rest) = expect(Terminal::Colon, lexemes)?;
-    same(source, kind, name, rest)
+    word(source, kind, name, rest)
 }
 
 /// Where the statements of a body stand, with the `;` in front of them.

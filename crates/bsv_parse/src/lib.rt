@@ -1,18 +1,18 @@
-//! Packages: their grammar with its laws, and the readers of its parts.
+//! Packages: the tree of a whole file, exactly where its grammar has one.
 //!
 //! Modules in reading order: `types`; `simple` (statements that hold no other, conditions and the
 //! heads of loops), `statements`; `attributes`, `params`, `bodies` (of rules, methods and
 //! functions), `simple_module` (statements of a module that hold no other), `rules` (rules, methods
-//! and functions), `definitions` (types, interfaces and imports), `modules` (what the grammar of
-//! modules reads), `depth` (how many brackets are open at once), `laws` (what holds of the grammar
-//! of a whole file).
+//! and functions), `definitions` (types, interfaces and imports), `modules`, `items` (files),
+//! `depth` (how many brackets are open at once), `answer` (the public call).
 #![tactic(auto)]
 
+mod answer;
 mod attributes;
 mod bodies;
 mod definitions;
 mod depth;
-mod laws;
+mod items;
 mod modules;
 mod params;
 mod rules;
@@ -21,11 +21,5 @@ mod simple_module;
 mod statements;
 mod types;
 
-pub use attributes::groups;
-pub use definitions::{import, interface, typedef};
-pub use depth::first_deep;
-pub use laws::one_file;
+pub use answer::{ParseFault, one_package, package};
 pub use modules::{ModuleBranches, ModuleElse};
-pub use rules::{function, method, rule};
-pub use statements::stmt;
-pub use types::written;

@@ -1,4 +1,3 @@
-ghost use Rattle.std.specs.Prelude.{◌≡◌};
 ghost use Rattle.bsv_expr.specs.Reading.{Gives};
 ghost use Rattle.bsv_parse.specs.Places.{part};
 ghost use Rattle.bsv_parse.specs.Definitions as grammar;

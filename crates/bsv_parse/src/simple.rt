@@ -1,4 +1,4 @@
-ghost use Rattle.std.specs.Prelude.{◌≡◌, [], ◌∷◌, List, IfOk};
+ghost use Rattle.std.specs.Prelude.{◌≡◌, [], ◌∷◌};
 ghost use Rattle.bsv_expr.specs.Reading.{Gives, take_leaf};
 ghost use Rattle.bsv_parse.specs.Holes.{part};
 ghost use Rattle.bsv_parse.specs.Simple as grammar;

@@ -1,4 +1,4 @@
-ghost use Rattle.std.specs.Prelude.{◌≡◌, [], ◌∷◌, false, IfOk};
+ghost use Rattle.std.specs.Prelude.{◌≡◌, [], ◌∷◌, IfOk};
 ghost use Rattle.bsv_lex.specs.declared.terminal.Terminal.TheVariants as word;
 ghost use Rattle.bsv_expr.specs.Reading as reading;
 ghost use Rattle.bsv_expr.specs.Reading.{Gives};
