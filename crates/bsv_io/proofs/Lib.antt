@@ -3,5 +3,6 @@ pub mod Counts
 mod Fronts
 pub mod NoFaults
 pub mod Pieces
+pub mod Readings
 pub mod Sequences
 mod Written

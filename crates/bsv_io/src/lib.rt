@@ -29,7 +29,7 @@ pub use failed::Failed;
 pub use files::Files;
 pub use mem_files::MemFiles;
 pub use mem_sink::MemSink;
-pub use put_buffer::PutBuffer;
+pub use put_buffer::{PutBuffer, put_all};
 pub use sink::Sink;
 pub use std_sink::StdSink;
 pub use sure_files::SureFiles;

@@ -103,3 +103,15 @@ impl PutBuffer {
         Ok(())
     }
 }
+
+/// Puts a text that comes in pieces.
+pub fn put_all<S: Sink>(sink: &mut S, pieces: &[&[u8]]) -> Result<(), Failed>
+    ensures ok { OnOk result (S.writing sink.new ≡ appended (joined pieces.now) (S.writing sink.old)) }
+    ensures prefix { AppendsPrefix (joined pieces.now) (S.writing sink.old) (S.writing sink.new) }
+    ensures count { (S.writing sink.old).faults ≤ (S.writing sink.new).faults }
+    ensures counted { OnErr result (MayFault (S.writing sink.old).faults (S.writing sink.new).faults) }
+{
+    let mut buffer = PutBuffer::new();
+    buffer.add_all(sink, pieces)?;
+    buffer.flush(sink)
+}

@@ -1,5 +1,5 @@
 use Rattle.bsv_io.proofs.Sequences.{prefix_flushing}
-use Rattle.bsv_top.proofs.faults.put_all.Goals as goal
+use Rattle.bsv_io.proofs.put_buffer.put_all.Goals as goal
 
 pub returns-clause-prefix : goal.returns-clause-prefix
 returns-clause-prefix g c =
