@@ -3,8 +3,8 @@ use Rattle.std.proofs.Common.{◌≡◌, ℕ, ◌≤◌, List, [], ◌++◌, len
 use Rattle.std.proofs.Math.Seq.{drop-nil, take-append_seam}
 use Rattle.std.proofs.lemmas.List.{take_all}
 use Rattle.bsv_io.specs.Reading.{Reading, Gives, advanced, chosen, rest, rest_of}
-use Rattle.bsv_top.specs.Sources.{Moves, read_limit}
-use Rattle.bsv_top.proofs.Following.{piece_read, rest_advanced}
+use Rattle.bsv_flow.specs.Sources.{Moves, read_limit}
+use Rattle.bsv_io.proofs.Readings.{piece_read, rest_advanced}
 
 -- a read moves bytes over
 pub moves : (n : ℕ) (old new buffer left : List ℕ) (r s : Reading) → s ≡ advanced n r → rest r ≡ Some left → Gives n buffer left → new ≡ old ++ take n buffer → Moves n old new left (rest s)

@@ -2,13 +2,15 @@
 use Rattle.std.proofs.Common.{◌≡◌, ℕ, ◌+◌, Bool, true, false, List, [], ◌∷◌, codes, refl, sym, ap, ◌∙◌}
 use Rattle.std.specs.Str.{bytes_eq}
 use Rattle.std.proofs.lemmas.Slice.Eq.{bytes_eq-Decides}
+use Rattle.bsv_flow.specs.Refusals.{refusal_line}
 use Rattle.bsv_top.specs.declared.status.Status.{Status}
 use Rattle.bsv_top.specs.declared.status.Status.TheVariants as status
 use Rattle.bsv_top.specs.Answers as a
-use Rattle.bsv_top.specs.Answers.{Answer, HasAnswer, HasNoForm, sim_words, usage_line, refused_line, trace_fault_line}
+use Rattle.bsv_top.specs.Answers.{Answer, HasAnswer, HasNoForm, sim_words, usage_line, not_yet_line, trace_fault_line}
 use Rattle.bsv_top.specs.Running.{report_so_far}
 use Rattle.bsv_top.specs.Traces.{clocks_of}
-use Rattle.bsv_top.proofs.Decided.{Decides, Verdict, decide, verdict, done_answer, bad_answer, status_of_usage, status_once}
+use Rattle.bsv_top.proofs.Plains.{Decides, decide}
+use Rattle.bsv_top.proofs.Decided.{Verdict, verdict, done_answer, bad_answer, status_of_usage, status_once}
 
 -- words have a form or none
 data Spells (words : List (List ℕ)) : Type 0 where
@@ -36,8 +38,9 @@ pub an_answer : (words : List (List ℕ)) (contents : List ℕ → List ℕ) →
 an_answer words contents =
     elim (spells words) [
       | none h ↦ record { decided = status.Usage; output = []; text = usage_line; answer = a.Answer.usage h }
-      | form file top trace spelled ↦ elim (decide top (contents file)) [
-        | Decides.not no_machine ↦ record { decided = status.Refused; output = []; text = refused_line; answer = a.Answer.refused spelled no_machine }
+      | form file top trace spelled ↦ elim (decide file top contents) [
+        | Decides.refused r h ↦ record { decided = status.Refused; output = []; text = refusal_line r; answer = a.Answer.refused r spelled h }
+        | Decides.not_yet l loaded other ↦ record { decided = status.Refused; output = []; text = not_yet_line; answer = a.Answer.not_yet l spelled loaded other }
         | Decides.is m is_plain ↦ elim (verdict (contents trace)) [
           | Verdict.clean whole ↦ record { decided = status.Done; output = report_so_far m (clocks_of (contents trace)); text = []; answer = done_answer words contents file top trace spelled m is_plain whole }
           | Verdict.bad wrong ↦ record { decided = status.TraceFault; output = report_so_far m (clocks_of (contents trace)); text = trace_fault_line (clocks_of (contents trace) + 1); answer = bad_answer words contents file top trace spelled m is_plain wrong }

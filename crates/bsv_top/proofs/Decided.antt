@@ -1,36 +1,25 @@
 -- The answer to words and contents: there is one, and its status is determined.
-use Rattle.std.proofs.Common.{◌≡◌, ℕ, suc, ◌+◌, ◌≤◌, inl, inr, true, false, cond, List, [], ◌∷◌, length, Option, None, Some, refl, sym, ap, ◌∙◌, subst, arith}
+use Rattle.std.proofs.Common.{◌≡◌, ℕ, suc, ◌+◌, ◌≤◌, inl, inr, true, false, cond, List, [], ◌∷◌, length, refl, sym, ap, ◌∙◌, subst, arith}
 use Rattle.std.proofs.lemmas.Bool.{cases_lt}
 use Rattle.bsv_io.specs.Writing.{Writing, AppendsPrefix}
 use Rattle.bsv_io.proofs.Appended.{nothing_put}
+use Rattle.bsv_flow.specs.declared.loading.Loaded.{Loaded}
+use Rattle.bsv_flow.specs.declared.refusal.Refusal.{Refusal}
+use Rattle.bsv_flow.specs.Loads.{IsLoaded, Refuses}
+use Rattle.bsv_flow.specs.Refusals.{refusal_line}
 use Rattle.bsv_top.specs.declared.machine.Machine.{Machine}
 use Rattle.bsv_top.specs.declared.status.Status.{Status}
 use Rattle.bsv_top.specs.declared.status.Status.TheVariants as status
 use Rattle.bsv_top.specs.Answers as a
-use Rattle.bsv_top.specs.Answers.{Answer, HasNoForm, sim_words, usage_line, refused_line, trace_fault_line}
+use Rattle.bsv_top.specs.Answers.{Answer, HasNoForm, sim_words, usage_line, not_yet_line, trace_fault_line}
 use Rattle.bsv_top.specs.Outcomes.{OutputBegun}
-use Rattle.bsv_top.specs.Plain.{Plain}
-use Rattle.bsv_top.specs.Reading.{plain_of}
+use Rattle.bsv_top.specs.PlainPackages.{PlainLoaded, IsPlain}
 use Rattle.bsv_top.specs.Rules.{opening}
 use Rattle.bsv_top.specs.Running.{report_so_far, rows_from}
 use Rattle.bsv_top.specs.Traces.{lines_of, is_clock, clocks_from, clocks_of, IsClean, HasBadLine}
-use Rattle.bsv_top.proofs.Complete.{plain_complete}
 use Rattle.bsv_top.proofs.Fired.{rows_continue, length-rows_from}
-use Rattle.bsv_top.proofs.PlainMachines.{plain_machine}
+use Rattle.bsv_top.proofs.Plains.{Decides, decide, plain_fits, not_refused, not_other}
 use Rattle.bsv_top.proofs.Reported.{report_is}
-use Rattle.bsv_top.proofs.Sound.{plain_sound}
-
--- a source is plain or it is not
-pub data Decides (top source : List ℕ) : Type 0 where
-  is : (m : Machine) → Plain top source m → Decides top source
-  not : ((m : Machine) → Plain top source m → ⊥) → Decides top source
-
-decide_by : (top source : List ℕ) (o : Option Machine) → plain_of top source ≡ o → Decides top source
-decide_by top source None h = not (λ m is_plain. let e = sym h ∙ plain_complete top source m is_plain in let no_value : ⊥ = cc in no_value)
-decide_by top source (Some m) h = is m (plain_sound top source m h)
-
-pub decide : (top source : List ℕ) → Decides top source
-decide top source = decide_by top source (plain_of top source) refl
 
 clocks_at_most : (start : ℕ) (lines : List (List ℕ)) → clocks_from start lines ≤ length lines
 clocks_at_most start [] = omega arith
@@ -54,20 +43,20 @@ verdict trace =
       | inr above ↦ clean (omega (arith, at_most trace))
     ]
 
-module _ (words : List (List ℕ)) (contents : List ℕ → List ℕ) (file top trace : List ℕ) (spelled : words ≡ sim_words file top trace) (m : Machine) (is_plain : Plain top (contents file) m) where
+module _ (words : List (List ℕ)) (contents : List ℕ → List ℕ) (file top trace : List ℕ) (spelled : words ≡ sim_words file top trace) (m : Machine) (is_plain : IsPlain file top contents m) where
   -- all lines are clocks
   pub done_answer : IsClean (contents trace) → Answer words contents status.Done (report_so_far m (clocks_of (contents trace))) []
   done_answer h =
       let n = clocks_of (contents trace) in
       subst (λ (t : List ℕ). Answer words contents status.Done t []) (sym (report_is m n))
-      (a.Answer.done m (rows_from m (opening m) n) spelled is_plain h (rows_continue m (opening m) n (plain_machine top (contents file) m is_plain)) (length-rows_from m (opening m) n))
+      (a.Answer.done m (rows_from m (opening m) n) spelled is_plain h (rows_continue m (opening m) n (plain_fits file top contents m is_plain)) (length-rows_from m (opening m) n))
 
   -- a line is bad
   pub bad_answer : HasBadLine (contents trace) → Answer words contents status.TraceFault (report_so_far m (clocks_of (contents trace))) (trace_fault_line (clocks_of (contents trace) + 1))
   bad_answer h =
       let n = clocks_of (contents trace) in
       subst (λ (t : List ℕ). Answer words contents status.TraceFault t (trace_fault_line (n + 1))) (sym (report_is m n))
-      (a.Answer.trace_fault m (rows_from m (opening m) n) spelled is_plain h (rows_continue m (opening m) n (plain_machine top (contents file) m is_plain)) (length-rows_from m (opening m) n))
+      (a.Answer.trace_fault m (rows_from m (opening m) n) spelled is_plain h (rows_continue m (opening m) n (plain_fits file top contents m is_plain)) (length-rows_from m (opening m) n))
 
   -- a prefix of the report is one of an answer's output
   pub begun_plain : (out out' : Writing) → AppendsPrefix (report_so_far m (clocks_of (contents trace))) out out' → OutputBegun words contents out out'
@@ -82,18 +71,20 @@ pub begun_nothing : (words : List (List ℕ)) (contents : List ℕ → List ℕ)
 begun_nothing words contents out out' s output text answer same =
     record { decided = s; output = output; text = text; answer = answer; prefix = subst (λ (w : Writing). AppendsPrefix output out w) (sym same) (nothing_put output out) }
 
--- the output of words with a form has begun: a prefix of the report where the source is plain, and nothing where it is not
-pub begun : (words : List (List ℕ)) (contents : List ℕ → List ℕ) (file top trace : List ℕ) → words ≡ sim_words file top trace → (out out' : Writing) → ((m : Machine) → Plain top (contents file) m → AppendsPrefix (report_so_far m (clocks_of (contents trace))) out out') → (((m : Machine) → Plain top (contents file) m → ⊥) → out' ≡ out) → OutputBegun words contents out out'
+-- the output of words with a form has begun: a prefix of the report where the file is plain, and nothing where it is not
+pub begun : (words : List (List ℕ)) (contents : List ℕ → List ℕ) (file top trace : List ℕ) → words ≡ sim_words file top trace → (out out' : Writing) → ((m : Machine) → IsPlain file top contents m → AppendsPrefix (report_so_far m (clocks_of (contents trace))) out out') → (((m : Machine) → IsPlain file top contents m → ⊥) → out' ≡ out) → OutputBegun words contents out out'
 begun words contents file top trace spelled out out' prefix none =
-    elim (decide top (contents file)) [
-      | is m is_plain ↦ begun_plain words contents file top trace spelled m is_plain out out' (prefix m is_plain)
-      | not no_machine ↦ begun_nothing words contents out out' status.Refused [] refused_line (a.Answer.refused spelled no_machine) (none no_machine)
+    elim (decide file top contents) [
+      | Decides.is m is_plain ↦ begun_plain words contents file top trace spelled m is_plain out out' (prefix m is_plain)
+      | Decides.refused r h ↦ begun_nothing words contents out out' status.Refused [] (refusal_line r) (a.Answer.refused r spelled h) (none (not_refused file top contents r h))
+      | Decides.not_yet l loaded other ↦ begun_nothing words contents out out' status.Refused [] not_yet_line (a.Answer.not_yet l spelled loaded other) (none (not_other file top contents l loaded other))
     ]
 
 -- an answer to words without a form is how the program is called
 pub status_of_usage : (words : List (List ℕ)) (contents : List ℕ → List ℕ) (s : Status) (output text : List ℕ) → HasNoForm words → Answer words contents s output text → s ≡ status.Usage
 status_of_usage words contents s output text none (a.Answer.usage h) = refl
-status_of_usage words contents s output text none (a.Answer.refused spelled h) = absurd (none _ _ _ spelled)
+status_of_usage words contents s output text none (a.Answer.refused r spelled h) = absurd (none _ _ _ spelled)
+status_of_usage words contents s output text none (a.Answer.not_yet l spelled loaded other) = absurd (none _ _ _ spelled)
 status_of_usage words contents s output text none (a.Answer.done m rows spelled is_plain h runs count) = absurd (none _ _ _ spelled)
 status_of_usage words contents s output text none (a.Answer.trace_fault m rows spelled is_plain h runs count) = absurd (none _ _ _ spelled)
 
@@ -123,9 +114,10 @@ same_parts file top trace file' top' trace' h = record { file_is = ap second_of 
 
 -- what decides a run over words with a form
 pub data Decided (words : List (List ℕ)) (contents : List ℕ → List ℕ) (file top trace : List ℕ) : Status → Type 0 where
-  refused : ((m : Machine) → Plain top (contents file) m → ⊥) → Decided words contents file top trace status.Refused
-  done : (m : Machine) → Plain top (contents file) m → IsClean (contents trace) → Decided words contents file top trace status.Done
-  trace_fault : (m : Machine) → Plain top (contents file) m → HasBadLine (contents trace) → Decided words contents file top trace status.TraceFault
+  refused : (r : Refusal) → Refuses file contents r → Decided words contents file top trace status.Refused
+  not_yet : (l : Loaded) → IsLoaded file contents l → ((m : Machine) → PlainLoaded top l m → ⊥) → Decided words contents file top trace status.Refused
+  done : (m : Machine) → IsPlain file top contents m → IsClean (contents trace) → Decided words contents file top trace status.Done
+  trace_fault : (m : Machine) → IsPlain file top contents m → HasBadLine (contents trace) → Decided words contents file top trace status.TraceFault
 
 decided_same : (words : List (List ℕ)) (contents : List ℕ → List ℕ) (file top trace file' top' trace' : List ℕ) (s : Status) → SameParts file top trace file' top' trace' → Decided words contents file' top' trace' s → Decided words contents file top trace s
 decided_same words contents file top trace file' top' trace' s same h =
@@ -136,21 +128,30 @@ decided_same words contents file top trace file' top' trace' s same h =
 -- an answer to them is decided so
 decided_of : (words : List (List ℕ)) (contents : List ℕ → List ℕ) (file top trace : List ℕ) (s : Status) (output text : List ℕ) → words ≡ sim_words file top trace → Answer words contents s output text → Decided words contents file top trace s
 decided_of words contents file top trace s output text spelled (a.Answer.usage none) = absurd (none file top trace spelled)
-decided_of words contents file top trace s output text spelled (a.Answer.refused {file = f} {top = t} {trace = r} other no_machine) =
-    decided_same words contents file top trace f t r status.Refused (same_parts file top trace f t r (sym other ∙ spelled)) (refused no_machine)
+decided_of words contents file top trace s output text spelled (a.Answer.refused {file = f} {top = t} {trace = r} refusal other h) =
+    decided_same words contents file top trace f t r status.Refused (same_parts file top trace f t r (sym other ∙ spelled)) (refused refusal h)
+decided_of words contents file top trace s output text spelled (a.Answer.not_yet {file = f} {top = t} {trace = r} l other loaded none) =
+    decided_same words contents file top trace f t r status.Refused (same_parts file top trace f t r (sym other ∙ spelled)) (not_yet l loaded none)
 decided_of words contents file top trace s output text spelled (a.Answer.done {file = f} {top = t} {trace = r} m rows other is_plain h runs count) =
     decided_same words contents file top trace f t r status.Done (same_parts file top trace f t r (sym other ∙ spelled)) (done m is_plain h)
 decided_of words contents file top trace s output text spelled (a.Answer.trace_fault {file = f} {top = t} {trace = r} m rows other is_plain h runs count) =
     decided_same words contents file top trace f t r status.TraceFault (same_parts file top trace f t r (sym other ∙ spelled)) (trace_fault m is_plain h)
 
 decided_once : (words : List (List ℕ)) (contents : List ℕ → List ℕ) (file top trace : List ℕ) (s s' : Status) → Decided words contents file top trace s → Decided words contents file top trace s' → s ≡ s'
-decided_once words contents file top trace s s' (refused no_machine) (refused again) = refl
-decided_once words contents file top trace s s' (refused no_machine) (done m is_plain whole) = absurd (no_machine m is_plain)
-decided_once words contents file top trace s s' (refused no_machine) (trace_fault m is_plain wrong) = absurd (no_machine m is_plain)
-decided_once words contents file top trace s s' (done m is_plain whole) (refused no_machine) = absurd (no_machine m is_plain)
+decided_once words contents file top trace s s' (refused r h) (refused r' h') = refl
+decided_once words contents file top trace s s' (refused r h) (not_yet l loaded none) = refl
+decided_once words contents file top trace s s' (refused r h) (done m is_plain whole) = absurd (not_refused file top contents r h m is_plain)
+decided_once words contents file top trace s s' (refused r h) (trace_fault m is_plain wrong) = absurd (not_refused file top contents r h m is_plain)
+decided_once words contents file top trace s s' (not_yet l loaded none) (refused r h) = refl
+decided_once words contents file top trace s s' (not_yet l loaded none) (not_yet k also other) = refl
+decided_once words contents file top trace s s' (not_yet l loaded none) (done m is_plain whole) = absurd (not_other file top contents l loaded none m is_plain)
+decided_once words contents file top trace s s' (not_yet l loaded none) (trace_fault m is_plain wrong) = absurd (not_other file top contents l loaded none m is_plain)
+decided_once words contents file top trace s s' (done m is_plain whole) (refused r h) = absurd (not_refused file top contents r h m is_plain)
+decided_once words contents file top trace s s' (done m is_plain whole) (not_yet l loaded none) = absurd (not_other file top contents l loaded none m is_plain)
 decided_once words contents file top trace s s' (done m is_plain whole) (done n again also) = refl
 decided_once words contents file top trace s s' (done m is_plain whole) (trace_fault n again wrong) = absurd (omega (arith, whole, wrong))
-decided_once words contents file top trace s s' (trace_fault m is_plain wrong) (refused no_machine) = absurd (no_machine m is_plain)
+decided_once words contents file top trace s s' (trace_fault m is_plain wrong) (refused r h) = absurd (not_refused file top contents r h m is_plain)
+decided_once words contents file top trace s s' (trace_fault m is_plain wrong) (not_yet l loaded none) = absurd (not_other file top contents l loaded none m is_plain)
 decided_once words contents file top trace s s' (trace_fault m is_plain wrong) (done n again whole) = absurd (omega (arith, whole, wrong))
 decided_once words contents file top trace s s' (trace_fault m is_plain wrong) (trace_fault n again also) = refl
 

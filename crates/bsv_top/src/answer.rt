@@ -2,11 +2,14 @@ ghost use Rattle.std.specs.Prelude.{◌≡◌, ℕ, ◌+◌, ◌<◌, ◌≤◌,
 ghost use Rattle.bsv_io.specs.Faults.{MayFault};
 ghost use Rattle.bsv_io.specs.Reading.{current_name, rest};
 ghost use Rattle.bsv_io.specs.Writing.{AppendsPrefix};
+ghost use Rattle.bsv_flow.specs.Loads.{IsLoaded, Reaches, Refuses};
+ghost use Rattle.bsv_flow.specs.declared.loading.Loaded.{Loaded as TheLoaded};
+ghost use Rattle.bsv_flow.specs.declared.refusal.Refusal.{Refusal as TheRefusal};
 ghost use Rattle.bsv_top.specs.Machines.{IsMachine};
-ghost use Rattle.bsv_top.specs.Plain.{Plain};
+ghost use Rattle.bsv_top.specs.PlainPackages.{PlainLoaded, IsPlain};
 ghost use Rattle.bsv_top.specs.Rules.{opening};
 ghost use Rattle.bsv_top.specs.Running.{HasReport, report_so_far};
-ghost use Rattle.bsv_top.specs.Stops.{IsQuiet, stop_of};
+ghost use Rattle.bsv_top.specs.Stops.{IsOwn, IsQuiet, stop_of};
 ghost use Rattle.bsv_top.specs.Traces.{clocks_of, IsClean, HasBadLine};
 ghost use Rattle.bsv_top.specs.declared.answer.Stop.TheVariants as stop;
 ghost use Rattle.bsv_top.specs.declared.machine.Machine.{Machine as TheMachine};
@@ -17,20 +20,25 @@ use crate::machine::Machine;
 use crate::plain::machine_of;
 use crate::report::write_opening;
 use crate::simulate::Halt;
-use crate::source::{Unread, read_source};
 use crate::trace::Lines;
 use bsv_bits::{Name, OutOfMemory, Word};
+use bsv_flow::{CompileFault, Refusal, load};
 use bsv_io::{Failed, Files, Sink};
 use std::alloc::{AllocError, Global};
 
 /// Why a run with words that have a form is not done.
-#[derive(Clone, Copy)]
+#[derive(Drop)]
 pub(crate) enum Stop {
-    Refused,
-    SourceUnread,
+    /// What the file says is refused.
+    Refused(Refusal),
+    /// What was loaded is more than the program runs yet.
+    NotYet,
+    /// The file of this name, which loading reached, could not be read.
+    SourceUnread(Name),
     TraceUnread,
     Unwritable,
     OutOfMemory,
+    /// The line of this number is bad.
     BadLine(u64),
 }
 
@@ -42,13 +50,14 @@ impl From<OutOfMemory> for Stop {
     }
 }
 
-impl From<Unread> for Stop {
-    ghost from_gives = { λ u s. s ≡ stop_of u };
+impl From<CompileFault> for Stop {
+    ghost from_gives = { λ fault s. s ≡ stop_of fault };
 
-    fn from(unread: Unread) -> Stop {
-        match unread {
-            Unread::Failed => Stop::SourceUnread,
-            Unread::OutOfMemory => Stop::OutOfMemory,
+    fn from(fault: CompileFault) -> Stop {
+        match fault {
+            CompileFault::Refused(refusal) => Stop::Refused(refusal),
+            CompileFault::ReadFault(name) => Stop::SourceUnread(name),
+            CompileFault::OutOfMemory => Stop::OutOfMemory,
         }
     }
 }
@@ -97,8 +106,8 @@ fn report_clocks<F: Files, O: Sink>(
         × ((F.reading files.new).blamed ≡ current_name (F.reading files.old)) }
     ensures unwritable { result ≡ Err Stop.Unwritable
         → MayFault (O.writing out.old).faults (O.writing out.new).faults }
-    ensures own { (result ≡ Err Stop.Refused → ⊥) × (result ≡ Err Stop.SourceUnread → ⊥)
-        × (result ≡ Err Stop.OutOfMemory → ⊥) }
+    ensures own { IsOwn result }
+    ensures no_memory { result ≡ Err Stop.OutOfMemory → ⊥ }
     ensures prefix { (trace : List ℕ) → rest (F.reading files.old) ≡ Some trace
         → AppendsPrefix (report_so_far machine.now (clocks_of trace)) (O.writing out.old) (O.writing out.new) }
     ensures files_count { (F.reading files.old).faults ≤ (F.reading files.new).faults }
@@ -142,7 +151,7 @@ fn simulate<F: Files, O: Sink>(
     ensures unwritable { result ≡ Err Stop.Unwritable
         → MayFault (O.writing out.old).faults (O.writing out.new).faults }
     ensures no_memory { result ≡ Err Stop.OutOfMemory → O.writing out.new ≡ O.writing out.old }
-    ensures own { (result ≡ Err Stop.Refused → ⊥) × (result ≡ Err Stop.SourceUnread → ⊥) }
+    ensures own { IsOwn result }
     ensures prefix { (contents : List ℕ → List ℕ) → (F.reading files.old).contents ≡ Some contents
         → AppendsPrefix (report_so_far machine.now (clocks_of (contents trace.now)))
         (O.writing out.old) (O.writing out.new) }
@@ -163,7 +172,7 @@ fn simulate<F: Files, O: Sink>(
     report_clocks(files, machine, &mut state, &mut next, &mut buffer, out)
 }
 
-/// Reads the source, and runs its machine over the trace.
+/// Loads the file and what it imports, and runs their machine over the trace.
 pub(crate) fn answer<F: Files, O: Sink>(
     alloc: Global,
     form: Form<'_>,
@@ -171,45 +180,51 @@ pub(crate) fn answer<F: Files, O: Sink>(
     out: &mut O,
 ) -> Result<(), Stop>
     ensures done { OnOk result ((contents : List ℕ → List ℕ) → (F.reading files.old).contents ≡ Some contents
-        → (m : TheMachine) × Plain form.entry.top.now (contents form.entry.file.now) m
+        → (m : TheMachine) × IsPlain form.entry.file.now form.entry.top.now contents m
         × IsClean (contents form.entry.trace.now)
         × HasReport m (O.writing out.old) (clocks_of (contents form.entry.trace.now)) (O.writing out.new)) }
     ensures bad { (number : ℕ) → result ≡ Err (Stop.BadLine number) → (contents : List ℕ → List ℕ)
         → (F.reading files.old).contents ≡ Some contents
-        → (m : TheMachine) × Plain form.entry.top.now (contents form.entry.file.now) m
+        → (m : TheMachine) × IsPlain form.entry.file.now form.entry.top.now contents m
         × HasBadLine (contents form.entry.trace.now) × (number ≡ clocks_of (contents form.entry.trace.now) + 1)
         × HasReport m (O.writing out.old) (clocks_of (contents form.entry.trace.now)) (O.writing out.new) }
-    ensures refused { result ≡ Err Stop.Refused → (contents : List ℕ → List ℕ)
+    ensures refused { (r : TheRefusal) → result ≡ Err (Stop.Refused r) → (contents : List ℕ → List ℕ)
+        → (F.reading files.old).contents ≡ Some contents → Refuses form.entry.file.now contents r }
+    ensures not_yet { result ≡ Err Stop.NotYet → (contents : List ℕ → List ℕ)
         → (F.reading files.old).contents ≡ Some contents
-        → (m : TheMachine) → Plain form.entry.top.now (contents form.entry.file.now) m → ⊥ }
-    ensures source_unread { result ≡ Err Stop.SourceUnread
+        → (l : TheLoaded) × IsLoaded form.entry.file.now contents l
+        × ((m : TheMachine) → PlainLoaded form.entry.top.now l m → ⊥) }
+    ensures source_unread { (name : List ℕ) → result ≡ Err (Stop.SourceUnread name)
         → MayFault (F.reading files.old).faults (F.reading files.new).faults
-        × ((F.reading files.new).blamed ≡ Some form.entry.file.now) }
+        × ((F.reading files.new).blamed ≡ Some name)
+        × ((contents : List ℕ → List ℕ) → (F.reading files.old).contents ≡ Some contents
+        → Reaches form.entry.file.now contents name) }
     ensures trace_unread { result ≡ Err Stop.TraceUnread
         → MayFault (F.reading files.old).faults (F.reading files.new).faults
         × ((F.reading files.new).blamed ≡ Some form.entry.trace.now)
         × ((contents : List ℕ → List ℕ) → (F.reading files.old).contents ≡ Some contents
-        → (m : TheMachine) × Plain form.entry.top.now (contents form.entry.file.now) m) }
+        → (m : TheMachine) × IsPlain form.entry.file.now form.entry.top.now contents m) }
     ensures unwritable { result ≡ Err Stop.Unwritable
         → MayFault (O.writing out.old).faults (O.writing out.new).faults }
     ensures quiet { IsQuiet result → O.writing out.new ≡ O.writing out.old }
     ensures prefix { (contents : List ℕ → List ℕ) → (F.reading files.old).contents ≡ Some contents
-        → (m : TheMachine) → Plain form.entry.top.now (contents form.entry.file.now) m
+        → (m : TheMachine) → IsPlain form.entry.file.now form.entry.top.now contents m
         → AppendsPrefix (report_so_far m (clocks_of (contents form.entry.trace.now)))
         (O.writing out.old) (O.writing out.new) }
     ensures none { (contents : List ℕ → List ℕ) → (F.reading files.old).contents ≡ Some contents
-        → ((m : TheMachine) → Plain form.entry.top.now (contents form.entry.file.now) m → ⊥)
+        → ((m : TheMachine) → IsPlain form.entry.file.now form.entry.top.now contents m → ⊥)
         → O.writing out.new ≡ O.writing out.old }
     ensures files_count { (F.reading files.old).faults ≤ (F.reading files.new).faults }
-    ensures files_kept { (result ≡ Err Stop.SourceUnread → ⊥) → (result ≡ Err Stop.TraceUnread → ⊥)
+    ensures files_kept { ((name : List ℕ) → result ≡ Err (Stop.SourceUnread name) → ⊥)
+        → (result ≡ Err Stop.TraceUnread → ⊥)
         → (F.reading files.new).faults ≡ (F.reading files.old).faults }
     ensures out_count { (O.writing out.old).faults ≤ (O.writing out.new).faults }
     ensures out_kept { (result ≡ Err Stop.Unwritable → ⊥)
         → (O.writing out.new).faults ≡ (O.writing out.old).faults }
 {
-    let source = read_source(alloc, files, form.file)?;
-    match machine_of(alloc, source.as_slice(), form.top.as_bytes())? {
-        None => Err(Stop::Refused),
+    let loaded = load(alloc, files, form.file)?;
+    match machine_of(alloc, &loaded, form.top.as_bytes())? {
+        None => Err(Stop::NotYet),
         Some(machine) => simulate(alloc, files, &machine, form.trace, out),
     }
 }

@@ -1,26 +1,16 @@
-ghost use Rattle.std.specs.Prelude.{◌≡◌, ◌≤◌, ◌⊎◌, OnOk, OnErr};
+ghost use Rattle.std.specs.Prelude.{◌≡◌, ◌≤◌, ◌⊎◌};
 ghost use Rattle.bsv_io.specs.Faults.{MayFault};
 ghost use Rattle.bsv_io.specs.Writing.{appended, joined, AppendsPrefix};
-ghost use Rattle.bsv_top.specs.Answers.{usage_line, refused_line, cannot_read_line, no_memory_line, trace_fault_line};
+ghost use Rattle.bsv_flow.specs.Refusals.{refusal_line};
+ghost use Rattle.bsv_top.specs.Answers.{usage_line, cannot_read_line, no_memory_line, trace_fault_line};
 ghost use Rattle.bsv_top.specs.Stops.{status_of, text_of};
 
 use crate::answer::Stop;
 use crate::form::Form;
 use crate::status::Status;
-use bsv_io::{Failed, PutBuffer, Sink};
+use bsv_flow::Refusal;
+use bsv_io::{Failed, Sink, put_all};
 use itoa::Buffer;
-
-/// Puts a text that comes in pieces.
-fn put_all<E: Sink>(err: &mut E, pieces: &[&[u8]]) -> Result<(), Failed>
-    ensures ok { OnOk result (E.writing err.new ≡ appended (joined pieces.now) (E.writing err.old)) }
-    ensures prefix { AppendsPrefix (joined pieces.now) (E.writing err.old) (E.writing err.new) }
-    ensures count { (E.writing err.old).faults ≤ (E.writing err.new).faults }
-    ensures counted { OnErr result (MayFault (E.writing err.old).faults (E.writing err.new).faults) }
-{
-    let mut buffer = PutBuffer::new();
-    buffer.add_all(err, pieces)?;
-    buffer.flush(err)
-}
 
 /// Puts the fault text of a status, and answers the status; it is a write fault where the text
 /// could not be put.
@@ -53,9 +43,24 @@ pub(crate) fn tell_usage<E: Sink>(err: &mut E) -> Status
     tell(err, &[line], Status::Usage)
 }
 
+/// Tells why what was loaded is refused.
+fn tell_refusal<E: Sink>(err: &mut E, refusal: &Refusal) -> Status
+    ensures told { (result ≡ Status.WriteFault → ⊥)
+        → (result ≡ Status.Refused) × (E.writing err.new ≡ appended (refusal_line refusal.now) (E.writing err.old)) }
+    ensures failed { result ≡ Status.WriteFault
+        → MayFault (E.writing err.old).faults (E.writing err.new).faults }
+    ensures prefix { AppendsPrefix (refusal_line refusal.now) (E.writing err.old) (E.writing err.new) }
+    ensures count { (E.writing err.old).faults ≤ (E.writing err.new).faults }
+{
+    match refusal.put(err) {
+        Ok(()) => Status::Refused,
+        Err(Failed) => Status::WriteFault,
+    }
+}
+
 /// Tells that a file cannot be read.
 #[tactic(auto, unfolding(crate::specs::Answers::cannot_read_line))]
-fn tell_unread<E: Sink>(err: &mut E, name: &str) -> Status
+fn tell_unread<E: Sink>(err: &mut E, name: &[u8]) -> Status
     ensures told { (result ≡ Status.WriteFault → ⊥)
         → (result ≡ Status.ReadFault) × (E.writing err.new ≡ appended (cannot_read_line name.now) (E.writing err.old)) }
     ensures failed { result ≡ Status.WriteFault
@@ -63,11 +68,7 @@ fn tell_unread<E: Sink>(err: &mut E, name: &str) -> Status
     ensures prefix { AppendsPrefix (cannot_read_line name.now) (E.writing err.old) (E.writing err.new) }
     ensures count { (E.writing err.old).faults ≤ (E.writing err.new).faults }
 {
-    tell(
-        err,
-        &[b"cannot read ", name.as_bytes(), b"\n"],
-        Status::ReadFault,
-    )
+    tell(err, &[b"cannot read ", name, b"\n"], Status::ReadFault)
 }
 
 /// Tells that a line of the trace is bad.
@@ -90,20 +91,21 @@ fn tell_bad_line<E: Sink>(err: &mut E, number: u64) -> Status
 
 /// Tells why a run with words of this form stopped. A sink that failed is told of by the status
 /// alone.
-#[tactic(auto, unfolding(crate::specs::Answers::refused_line, crate::specs::Answers::no_memory_line))]
+#[tactic(auto, unfolding(crate::specs::Answers::not_yet_line, crate::specs::Answers::no_memory_line))]
 pub(crate) fn tell_stop<E: Sink>(err: &mut E, form: Form<'_>, stop: Stop) -> Status
     ensures told { (result ≡ Status.WriteFault → ⊥) → (result ≡ status_of stop)
-        × (E.writing err.new ≡ appended (text_of form.entry.file.now form.entry.trace.now stop) (E.writing err.old)) }
+        × (E.writing err.new ≡ appended (text_of form.entry.trace.now stop) (E.writing err.old)) }
     ensures failed { result ≡ Status.WriteFault → (stop ≡ Stop.Unwritable)
         ⊎ MayFault (E.writing err.old).faults (E.writing err.new).faults }
-    ensures prefix { AppendsPrefix (text_of form.entry.file.now form.entry.trace.now stop)
+    ensures prefix { AppendsPrefix (text_of form.entry.trace.now stop)
         (E.writing err.old) (E.writing err.new) }
     ensures count { (E.writing err.old).faults ≤ (E.writing err.new).faults }
 {
     match stop {
-        Stop::Refused => tell(err, &[b"refused 0 NotYet\n"], Status::Refused),
-        Stop::SourceUnread => tell_unread(err, form.file),
-        Stop::TraceUnread => tell_unread(err, form.trace),
+        Stop::Refused(refusal) => tell_refusal(err, &refusal),
+        Stop::NotYet => tell(err, &[b"refused 0 NotYet\n"], Status::Refused),
+        Stop::SourceUnread(name) => tell_unread(err, name.bytes()),
+        Stop::TraceUnread => tell_unread(err, form.trace.as_bytes()),
         Stop::Unwritable => Status::WriteFault,
         Stop::OutOfMemory => tell(err, &[b"out of memory\n"], Status::OutOfMemory),
         Stop::BadLine(number) => tell_bad_line(err, number),

@@ -5,7 +5,7 @@ ghost use Rattle.bsv_io.specs.Sure.{NoFault};
 ghost use Rattle.bsv_io.specs.Writing.{appended};
 ghost use Rattle.bsv_top.specs.Answers.{Answer, HasAnswer, HasNoForm, sim_words, no_memory_line};
 ghost use Rattle.bsv_top.specs.Outcomes.{Answered, IsDecided, IsFault, OutputBegun, TextBegun, Unreadable};
-ghost use Rattle.bsv_top.specs.Plain.{Plain};
+ghost use Rattle.bsv_top.specs.PlainPackages.{IsPlain};
 ghost use Rattle.bsv_top.specs.Traces.{IsClean};
 ghost use Rattle.bsv_top.specs.declared.machine.Machine.{Machine as TheMachine};
 ghost use Rattle.bsv_top.specs.declared.status.Status.{Status as TheStatus};
@@ -48,7 +48,7 @@ pub fn run<R: Threads + Sync, F: Files, O: Sink, E: Sink>(
     ensures text { (contents : List ℕ → List ℕ) → (F.reading files.old).contents ≡ Some contents
         → TextBegun (map string_bytes words.now) contents (E.writing err.old) (E.writing err.new) }
 
-    // Nothing at all is put to the output where the source is refused or memory is wanting.
+    // Nothing at all is put to the output where a file is refused or memory is wanting.
     ensures refused { result ≡ Status.Refused → O.writing out.new ≡ O.writing out.old }
     ensures no_memory { result ≡ Status.OutOfMemory → (O.writing out.new ≡ O.writing out.old)
         × (E.writing err.new ≡ appended no_memory_line (E.writing err.old)) }
@@ -104,13 +104,13 @@ pub fn run_surely<R: Threads + Sync>(
 }
 
 /// All words and contents have an answer, and its status is the only one. Words with a form, a
-/// plain source and a trace without a bad line have an answer of status 0.
+/// plain file and a trace without a bad line have an answer of status 0.
 pub fn one_answer()
     ensures some { (words : List (List ℕ)) (contents : List ℕ → List ℕ) → HasAnswer words contents }
     ensures one_status { (words : List (List ℕ)) (contents : List ℕ → List ℕ)
         (status other : TheStatus) (output text more said : List ℕ)
         → Answer words contents status output text → Answer words contents other more said → status ≡ other }
     ensures done { (contents : List ℕ → List ℕ) (file top trace : List ℕ) (m : TheMachine)
-        → Plain top (contents file) m → IsClean (contents trace)
+        → IsPlain file top contents m → IsClean (contents trace)
         → (output : List ℕ) × Answer (sim_words file top trace) contents Status.Done output [] }
 {}

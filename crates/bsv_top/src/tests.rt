@@ -132,7 +132,7 @@ const COUNTER_PUTS: [&[u8]; 7] = [
     b"clock 6\nfired\nx = 4'h3\n",
 ];
 
-const REFUSED: &[u8] = b"refused 0 NotYet\n";
+const NOT_YET: &[u8] = b"refused 0 NotYet\n";
 
 const USAGE: &[u8] =
     b"usage: bsvc verilog FILE TOP | schedule FILE TOP | sim FILE TOP TRACE | made N\n";
@@ -141,7 +141,7 @@ const USAGE: &[u8] =
 #[test]
 fn rules(rt: HostRuntime) -> Result<(), Fail> {
     let alloc = rt.alloc();
-    let rows: [(&str, &[u8], &[u8]); 8] = [
+    let rows: [(&str, &[u8], &[u8]); 9] = [
         // A swap: a rule's reads see the state before it.
         (
             "Reg#(Bit#(4)) x <- mkReg(1); Reg#(Bit#(4)) y <- mkReg(2); rule s; x <= y; y <= x; endrule",
@@ -160,6 +160,12 @@ fn rules(rt: HostRuntime) -> Result<(), Fail> {
             b"opening\nx = 4'h5\nclock 1\nfired\nx = 4'h5\nclock 2\nfired\nx = 4'h5\n",
         ),
         ("rule r; endrule", b"\n", b"opening\nclock 1\nfired r\n"),
+        // One name for a module, a register and a rule.
+        (
+            "Reg#(Bit#(4)) mkT <- mkReg(3); rule mkT; mkT <= mkT + mkT; endrule",
+            b"\n",
+            b"opening\nmkT = 4'h3\nclock 1\nfired mkT\nmkT = 4'h6\n",
+        ),
         ("", b"\n", b"opening\nclock 1\nfired\n"),
         // Rules without a write.
         (
@@ -276,10 +282,11 @@ fn traces(rt: HostRuntime) -> Result<(), Fail> {
     Ok(())
 }
 
+/// Modules that are packages, and more than the program runs yet.
 #[test]
-fn refused_modules(rt: HostRuntime) -> Result<(), Fail> {
+fn modules_not_yet(rt: HostRuntime) -> Result<(), Fail> {
     let alloc = rt.alloc();
-    let bodies: [&str; 33] = [
+    let bodies: [&str; 34] = [
         // Two rules, and a register behind the rule.
         "Reg#(Bit#(4)) x <- mkReg(0); rule r; x <= 1; endrule rule s; endrule",
         "rule r; endrule Reg#(Bit#(4)) x <- mkReg(0);",
@@ -288,21 +295,9 @@ fn refused_modules(rt: HostRuntime) -> Result<(), Fail> {
         "Reg#(Bit#(4)) x <- mkReg(0); rule r (x < 16); endrule",
         "Reg#(Bit#(4)) x <- mkReg(0); rule r; x <= 16; endrule",
         "Reg#(Bit#(4)) x <- mkReg(0); rule r; x <= x + 16; endrule",
-        "Reg#(Bit#(128)) x <- mkReg(340282366920938463463374607431768211456);",
         // Widths that no word has.
         "Reg#(Bit#(129)) x <- mkReg(0);",
         "Reg#(Bit#(0)) x <- mkReg(0);",
-        // Keywords as names.
-        "Reg#(Bit#(4)) wire <- mkReg(0);",
-        "rule reg; endrule",
-        // Comments, and bytes that begin no token.
-        "Reg#(Bit#(4)) x <- mkReg(0); // note",
-        "Reg#(Bit#(4)) x <- mkReg(0); /* note */",
-        "Reg#(Bit#(4)) x <- mkReg(0); $",
-        // A missing semicolon.
-        "Reg#(Bit#(4)) x <- mkReg(0)",
-        "Reg#(Bit#(4)) x <- mkReg(0); rule r x <= 1; endrule",
-        "Reg#(Bit#(4)) x <- mkReg(0); rule r; x <= 1 endrule",
         // Names that are no register.
         "Reg#(Bit#(4)) x <- mkReg(0); rule r; y <= 1; endrule",
         "Reg#(Bit#(4)) x <- mkReg(0); rule r; x <= y; endrule",
@@ -315,42 +310,203 @@ fn refused_modules(rt: HostRuntime) -> Result<(), Fail> {
         "Reg#(Bit#(4)) x <- mkReg(0); Reg#(Bit#(5)) y <- mkReg(0); rule r; x <= y; endrule",
         "Reg#(Bit#(4)) x <- mkReg(0); Reg#(Bit#(5)) y <- mkReg(0); rule r; x <= x + y; endrule",
         "Reg#(Bit#(4)) x <- mkReg(0); Reg#(Bit#(5)) y <- mkReg(0); rule r; y <= x + 1; endrule",
-        // What the language has, and the program does not take yet.
+        // Numbers that are not in decimal digits alone.
+        "Reg#(Bit#(4)) x <- mkReg(4'd3);",
+        "Reg#(Bit#(4)) x <- mkReg(1_0);",
+        "Reg#(Bit#(4)) x <- mkReg(0); rule r; x <= 'h1; endrule",
+        "Reg#(Bit#(1_0)) x <- mkReg(0);",
+        "Reg#(Bit#(4)) x <- mkReg(0); rule r (x < 'd3); endrule",
+        // Brackets, attributes and other forms of the language.
+        "Reg#(Bit#(4)) x <- mkReg(0); rule r; x <= (x); endrule",
+        "Reg#(Bit#(4)) x <- mkReg(0); rule r ((x < 3)); endrule",
+        "Reg#(Bit#(4)) x <- mkReg(0); (* fire_when_enabled *) rule r; endrule",
         "Reg#(Bit#(4)) x <- mkReg(0); rule r; x <= 1 + x; endrule",
         "Reg#(Bit#(4)) x <- mkReg(0); rule r; x <= x - 1; endrule",
         "Reg#(Bit#(4)) x <- mkReg(0); rule r (x == 1); endrule",
         "Reg#(Bit#(4)) x <- mkReg(0); rule r (True); endrule",
-        "Reg#(Bit#(4)) x <- mkReg(0); rule r; x <= 'h1; endrule",
         "Reg#(Bit#(4)) x <- mkReg(0); rule r; x <= x + x + x; endrule",
+        "Reg#(Bit#(4)) x <- mkRegU;",
+        "Reg#(Bit#(4)) x <- mkReg(0, 1);",
         "Reg#(Bool) x <- mkReg(False);",
+        "Wire#(Bit#(4)) x <- mkReg(0);",
     ];
     for (row, body) in bodies.iter().enumerate() {
         let source = module_of(alloc, body)?;
         let files = [("T.bsv", source.as_slice())];
         let seen = answer_of(&rt, alloc, &["sim", "T.bsv", "mkT", "t"], sound(&files))?;
-        expect_seen(&rt, row, &seen, Status::Refused, b"", REFUSED);
+        expect_seen(&rt, row, &seen, Status::Refused, b"", NOT_YET);
     }
     Ok(())
 }
 
+/// Files that are packages, and more than the program runs yet.
 #[test]
-fn refused_sources(rt: HostRuntime) -> Result<(), Fail> {
+fn files_not_yet(rt: HostRuntime) -> Result<(), Fail> {
     let alloc = rt.alloc();
-    let rows: [(&str, &[u8]); 8] = [
+    let rows: [(&str, &[u8]); 13] = [
         ("mkB", COUNTER),
         ("mk", COUNTER),
         ("mkAA", COUNTER),
         ("", COUNTER),
         ("mkA", b""),
-        ("mkT", b"module mkT(Empty); /* abc"),
         ("mkT", b"module mkT(Empty); endmodule: mkT"),
-        ("Empty", b"module Empty(Empty); endmodule"),
+        (
+            "xendmodule",
+            b"module xendmodule(Empty); endmodule :xendmodule",
+        ),
+        ("mkT", b"package T; module mkT(Empty); endmodule endpackage"),
+        ("mkT", b"import FIFO::*; module mkT(Empty); endmodule"),
+        (
+            "mkT",
+            b"module mkT(Empty); endmodule module mkS(Empty); endmodule",
+        ),
+        ("mkT", b"(* synthesize *) module mkT(Empty); endmodule"),
+        ("mkT", b"module mkT#(Bit#(4) n)(Empty); endmodule"),
+        ("mkT", b"module mkT(Void); endmodule"),
     ];
     for (row, (top, source)) in rows.iter().enumerate() {
         let files = [("A.bsv", *source), ("t", b"\n".as_slice())];
         let seen = answer_of(&rt, alloc, &["sim", "A.bsv", *top, "t"], sound(&files))?;
-        expect_seen(&rt, row, &seen, Status::Refused, b"", REFUSED);
+        expect_seen(&rt, row, &seen, Status::Refused, b"", NOT_YET);
     }
+    let files = [
+        (
+            "T.bsv",
+            b"import A::*; module mkT(Empty); endmodule".as_slice(),
+        ),
+        ("A.bsv", b"".as_slice()),
+    ];
+    let seen = answer_of(&rt, alloc, &["sim", "T.bsv", "mkT", "t"], sound(&files))?;
+    expect_seen(&rt, 13, &seen, Status::Refused, b"", NOT_YET);
+    Ok(())
+}
+
+/// Files that are no package: the kind and the place of what is wrong.
+#[test]
+fn refusals(rt: HostRuntime) -> Result<(), Fail> {
+    let alloc = rt.alloc();
+    let rows: [(&[u8], &[u8]); 12] = [
+        (
+            b"module mkT(Empty); /* abc",
+            b"refused 2 OpenComment T.bsv:1:20\n",
+        ),
+        (
+            b"module mkT(Empty);\n$ endmodule",
+            b"refused 1 BadByte T.bsv:2:1\n",
+        ),
+        (
+            b"module mkT(Empty);\nReg#(Bit#(128)) x <- mkReg(340282366920938463463374607431768211456); endmodule",
+            b"refused 3 BadLiteral T.bsv:2:28\n",
+        ),
+        // Two tokens, `0` and `x1`.
+        (
+            b"module mkT(Empty);\nReg#(Bit#(4)) x <- mkReg(0x1); endmodule",
+            b"refused 5 Syntax T.bsv:2:27\n",
+        ),
+        // Tokens behind the end of the package.
+        (
+            b"package P; endpackage module mkT(Empty); endmodule",
+            b"refused 5 Syntax T.bsv:1:23\n",
+        ),
+        // A keyword as a name, a name that is not of lower case.
+        (
+            b"module mkT(Empty); Reg#(Bit#(4)) wire <- mkReg(0); endmodule",
+            b"refused 5 Syntax T.bsv:1:34\n",
+        ),
+        (
+            b"module mkT(Empty); rule reg; endrule endmodule",
+            b"refused 5 Syntax T.bsv:1:25\n",
+        ),
+        (
+            b"module Empty(Empty); endmodule",
+            b"refused 5 Syntax T.bsv:1:8\n",
+        ),
+        // A missing semicolon.
+        (
+            b"module mkT(Empty);\nReg#(Bit#(4)) x <- mkReg(0)\nendmodule",
+            b"refused 5 Syntax T.bsv:3:1\n",
+        ),
+        (
+            b"module mkT(Empty); rule r; x <= 1 endrule endmodule",
+            b"refused 5 Syntax T.bsv:1:35\n",
+        ),
+        // Another name behind `endmodule`; a file that ends too soon.
+        (
+            b"module mkT(Empty); endmodule: mkS",
+            b"refused 5 Syntax T.bsv:1:31\n",
+        ),
+        (b"module mkT(Empty);\n", b"refused 5 Syntax T.bsv:2:1\n"),
+    ];
+    for (row, (source, text)) in rows.iter().enumerate() {
+        let files = [("T.bsv", *source), ("t", b"\n".as_slice())];
+        let seen = answer_of(&rt, alloc, &["sim", "T.bsv", "mkT", "t"], sound(&files))?;
+        expect_seen(&rt, row, &seen, Status::Refused, b"", text);
+    }
+    Ok(())
+}
+
+/// Files that are imported: what one says is refused at its own place, and one that is missing
+/// cannot be read.
+#[test]
+fn imports(rt: HostRuntime) -> Result<(), Fail> {
+    let alloc = rt.alloc();
+    let main = b"import A::*; import B::*; module mkT(Empty); endmodule".as_slice();
+    let rows: [(&[(&str, &[u8])], Status, &[u8]); 4] = [
+        (
+            &[("main.bsv", main), ("A.bsv", b"")],
+            Status::ReadFault,
+            b"cannot read B.bsv\n",
+        ),
+        (
+            &[("main.bsv", main), ("B.bsv", b"")],
+            Status::ReadFault,
+            b"cannot read A.bsv\n",
+        ),
+        (
+            &[("main.bsv", main), ("A.bsv", b"\n module"), ("B.bsv", b"$")],
+            Status::Refused,
+            b"refused 5 Syntax A.bsv:2:8\n",
+        ),
+        (
+            &[("main.bsv", main), ("A.bsv", b""), ("B.bsv", b"\n$")],
+            Status::Refused,
+            b"refused 1 BadByte B.bsv:2:1\n",
+        ),
+    ];
+    for (row, (files, status, text)) in rows.iter().enumerate() {
+        let seen = answer_of(&rt, alloc, &["sim", "main.bsv", "mkT", "t"], sound(files))?;
+        expect_seen(&rt, row, &seen, *status, b"", text);
+    }
+    Ok(())
+}
+
+/// Plain packages however they are written: blanks and comments, `if` in front of a condition, the
+/// name of a rule behind its end.
+#[test]
+fn writings(rt: HostRuntime) -> Result<(), Fail> {
+    let alloc = rt.alloc();
+    let rows: [&[u8]; 3] = [
+        COUNTER,
+        b"/* a\n */ module mkA ( Empty ) ; // b\n\tReg # ( Bit # ( 4 ) )\r\n x <- mkReg ( 0 ) ; /**/ rule incr if ( x < 3 ) ;\n x <= x + 1 ; endrule : incr\x0c\nendmodule // end",
+        b"module mkA(Empty);Reg#(Bit#(004))x<-mkReg(00);rule incr(x<03);x<=x+1;endrule/**/endmodule",
+    ];
+    let report = front(alloc, &COUNTER_PUTS, 7)?;
+    for (row, source) in rows.iter().enumerate() {
+        let files = [("A.bsv", *source), COUNTER_FILES[1]];
+        let seen = answer_of(&rt, alloc, &COUNTER_WORDS, sound(&files))?;
+        expect_seen(&rt, row, &seen, Status::Done, report.as_slice(), b"");
+    }
+    let files = [
+        ("A.bsv", b"module xendmodule(Empty);endmodule".as_slice()),
+        ("t", b"".as_slice()),
+    ];
+    let seen = answer_of(
+        &rt,
+        alloc,
+        &["sim", "A.bsv", "xendmodule", "t"],
+        sound(&files),
+    )?;
+    expect_seen(&rt, 3, &seen, Status::Done, b"opening\n", b"");
     Ok(())
 }
 
@@ -484,7 +640,7 @@ fn fault_text_faults(rt: HostRuntime) -> Result<(), Fail> {
             &[],
             Status::Refused,
             0,
-            REFUSED,
+            NOT_YET,
         ),
         (
             &["sim", "B.bsv", "mkA", "t"],
@@ -592,7 +748,7 @@ fn register_counts(rt: HostRuntime) -> Result<(), Fail> {
     names.push(Name::new(alloc, b"x")?)?;
     let (source, _state) = with_registers(alloc, names.as_slice())?;
     let seen = run_of(&rt, alloc, source.as_slice(), b"\n")?;
-    expect_seen(&rt, 4_097, &seen, Status::Refused, b"", REFUSED);
+    expect_seen(&rt, 4_097, &seen, Status::Refused, b"", NOT_YET);
     Ok(())
 }
 
@@ -617,9 +773,19 @@ fn lengths(rt: HostRuntime) -> Result<(), Fail> {
     let report = front(alloc, &[b"opening\n", state.as_slice()], 2)?;
     let rows: [(&[u8], Status, &[u8], &[u8]); 4] = [
         (longest.as_slice(), Status::Done, report.as_slice(), b""),
-        (longer.as_slice(), Status::Refused, b"", REFUSED),
+        (
+            longer.as_slice(),
+            Status::Refused,
+            b"",
+            b"refused 4 TooLong T.bsv:1:33\n",
+        ),
         (whole.as_slice(), Status::Done, b"opening\n", b""),
-        (beyond.as_slice(), Status::Refused, b"", REFUSED),
+        (
+            beyond.as_slice(),
+            Status::Refused,
+            b"",
+            b"refused 17 Limit source 1048576\n",
+        ),
     ];
     for (row, (source, status, out, text)) in rows.iter().enumerate() {
         let seen = run_of(&rt, alloc, source, b"")?;

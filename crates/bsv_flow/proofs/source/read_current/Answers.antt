@@ -1,8 +1,8 @@
 use Rattle.std.proofs.Common.{drop, ◌∙◌, arith, length-append, length-drop}
 use Rattle.std.proofs.lemmas.List.{length-take}
-use Rattle.bsv_top.proofs.Sourced.{read_whole, read_front}
-use Rattle.bsv_top.proofs.source.read_current.Goals as goal
-use Rattle.bsv_top.proofs.source.read_current.Goals.{then-len-eq0-via-then-len-eq0, then-len-eq0-via-else-len-eq0+then-len-eq-READ_LIMIT}
+use Rattle.bsv_flow.proofs.Sourced.{read_whole, read_front}
+use Rattle.bsv_flow.proofs.source.read_current.Goals as goal
+use Rattle.bsv_flow.proofs.source.read_current.Goals.{then-len-eq0-via-then-len-eq0, then-len-eq0-via-else-len-eq0+then-len-eq-READ_LIMIT}
 
 pub returns-then-len-eq0-clause-source : goal.returns-then-len-eq0-clause-source
 returns-then-len-eq0-clause-source g c =

@@ -1,7 +1,7 @@
 use Rattle.std.proofs.Common.{◌≡◌, ◌≤◌, ◌<◌, ℕ, List, ◌++◌, length, vec_len, Some, IsSome}
 use Rattle.bsv_io.specs.Reading.{current_name, rest}
-use Rattle.bsv_top.specs.Sources.{read_limit}
-use Rattle.bsv_top.proofs.source.read_current.Given as goal
+use Rattle.bsv_flow.specs.Sources.{read_limit}
+use Rattle.bsv_flow.proofs.source.read_current.Given as goal
 
 -- what was read and what is left make the text
 abbrev pub invariant-loop-turn : goal.invariant-loop-turn

@@ -1,7 +1,7 @@
 use Rattle.bsv_io.specs.Reading.{Gives}
-use Rattle.bsv_top.proofs.Following.{if_told}
-use Rattle.bsv_top.proofs.Sourced.{moves}
-use Rattle.bsv_top.proofs.source.read_more.Goals as goal
+use Rattle.bsv_io.proofs.Readings.{if_told}
+use Rattle.bsv_flow.proofs.Sourced.{moves}
+use Rattle.bsv_flow.proofs.source.read_more.Goals as goal
 
 pub returns-clause-source : goal.returns-clause-source
 returns-clause-source g c =

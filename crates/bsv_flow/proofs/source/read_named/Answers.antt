@@ -2,21 +2,21 @@ use Rattle.std.proofs.Common.{ℕ, List, Some, ap, ◌∙◌, subst}
 use Rattle.std.proofs.lemmas.Result.{IfOk-weaker}
 use Rattle.bsv_io.specs.Faults.{MayFault}
 use Rattle.bsv_io.specs.Reading.{Reading, current_name}
-use Rattle.bsv_top.proofs.Sourced.{rest_chosen}
-use Rattle.bsv_top.proofs.source.read_source.Goals as goal
+use Rattle.bsv_flow.proofs.Sourced.{rest_chosen}
+use Rattle.bsv_flow.proofs.source.read_named.Goals as goal
 
 pub returns-in_err-choose-clause-failed : goal.returns-in_err-choose-clause-failed
 returns-in_err-choose-clause-failed g c =
     λ _. (
       c.in_err-choose.ensures.counted,
-      ap (λ (r : Reading). r.blamed) c.in_err-choose.ensures.err ∙ ap (λ (n : List ℕ). Some n) (c.in_ok-new.ensures ∙ c.as_bytes.ensures.value),
+      ap (λ (r : Reading). r.blamed) c.in_err-choose.ensures.err ∙ ap (λ (n : List ℕ). Some n) (c.in_ok-new.ensures),
     )
 
 pub returns-clause-source : goal.returns-clause-source
 returns-clause-source g c =
     IfOk-weaker c.read_current.result _ _
     (λ source h contents told. h (contents c.args.name.now)
-    (rest_chosen (g.F.Files.reading c.args.files.now) (g.F.Files.reading c.choose.new.self) c.args.name.now _ contents c.in_ok-choose.ensures.ok (c.in_ok-new.ensures ∙ c.as_bytes.ensures.value) told))
+    (rest_chosen (g.F.Files.reading c.args.files.now) (g.F.Files.reading c.choose.new.self) c.args.name.now _ contents c.in_ok-choose.ensures.ok (c.in_ok-new.ensures) told))
     c.read_current.ensures.source
 
 pub returns-clause-failed : goal.returns-clause-failed
@@ -25,7 +25,7 @@ returns-clause-failed g c =
     λ h.
     let failed = c.read_current.ensures.failed h in (
       subst (λ (n : ℕ). MayFault n (g.F.Files.reading c.read_current.new.files).faults) (ap (λ (r : Reading). r.faults) chose) failed.0,
-      failed.1 ∙ ap current_name chose ∙ ap (λ (n : List ℕ). Some n) (c.in_ok-new.ensures ∙ c.as_bytes.ensures.value),
+      failed.1 ∙ ap current_name chose ∙ ap (λ (n : List ℕ). Some n) (c.in_ok-new.ensures),
     )
 
 pub returns-clause-kept : goal.returns-clause-kept

@@ -2,7 +2,7 @@ use Rattle.std.proofs.Common.{ℕ, List, Some, ap, ◌∙◌, subst}
 use Rattle.std.proofs.lemmas.Result.{on_ok_weaker}
 use Rattle.bsv_io.specs.Faults.{MayFault}
 use Rattle.bsv_io.specs.Reading.{Reading, current_name}
-use Rattle.bsv_top.proofs.Sourced.{rest_chosen}
+use Rattle.bsv_flow.proofs.Sourced.{rest_chosen}
 use Rattle.bsv_top.proofs.answer.simulate.Goals as goal
 
 pub returns-in-Err-clause-unread : goal.returns-in-Err-clause-unread

@@ -6,7 +6,8 @@ use Rattle.bsv_top.specs.declared.simulate.Halt.TheVariants as halt
 use Rattle.bsv_top.specs.declared.trace.Lines.{Lines}
 use Rattle.bsv_top.specs.Running.{HasReport, state_after_clocks}
 use Rattle.bsv_top.specs.Scanning.{lines_in_all}
-use Rattle.bsv_top.proofs.Following.{ahead_start, reached_start, ahead_more, ahead_bad, ahead_at_least, ahead_piece, ahead_end, piece_read, rest_advanced, name_advanced, current_advanced, if_told}
+use Rattle.bsv_io.proofs.Readings.{piece_read, rest_advanced, name_advanced, current_advanced, if_told}
+use Rattle.bsv_top.proofs.Following.{ahead_start, reached_start, ahead_more, ahead_bad, ahead_at_least, ahead_piece, ahead_end}
 use Rattle.bsv_top.proofs.follow.run_trace.Goals as goal
 
 pub loop-turn-init : goal.loop-turn-init

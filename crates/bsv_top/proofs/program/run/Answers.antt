@@ -1,4 +1,4 @@
-use Rattle.std.proofs.Common.{◌≡◌, ◌⊎◌, ⊎_elim, [], Err, map, string_bytes, refl, sym, ap, ◌∙◌, subst}
+use Rattle.std.proofs.Common.{◌≡◌, ◌⊎◌, inl, ⊎_elim, [], Err, map, string_bytes, refl, sym, ap, ◌∙◌, subst}
 use Rattle.bsv_io.proofs.Appended.{appended-nil, nothing_put}
 use Rattle.bsv_io.proofs.NoFaults.{NoFault-MayFault}
 use Rattle.bsv_top.specs.declared.answer.Stop.TheVariants as stop
@@ -10,7 +10,8 @@ use Rattle.bsv_top.specs.Outcomes as o
 use Rattle.bsv_top.specs.Outcomes.{Answered, IsDecided, OutputBegun, TextBegun, Unreadable}
 use Rattle.bsv_top.specs.Running.{report_so_far}
 use Rattle.bsv_top.specs.Traces.{clocks_of}
-use Rattle.bsv_top.proofs.Decided.{done_answer, begun, begun_nothing}
+use Rattle.bsv_top.proofs.Decided as d
+use Rattle.bsv_top.proofs.Decided.{done_answer, begun, begun_nothing, status_of_form}
 use Rattle.bsv_top.proofs.Stopped.{decided_tells, known, stop_answered, stop_complete, stop_text, stop_unreadable}
 use Rattle.bsv_top.proofs.program.run.Goals as goal
 
@@ -56,13 +57,19 @@ returns-in-Ok-clause-text g c = λ contents told.
     record { text = no_memory_line; fault_text = o.FaultText.of_memory; prefix = nothing_put no_memory_line (g.E.Sink.writing c.args.err.now) }
 
 -- src/program.rt:22:1
+pub returns-in-Ok-clause-complete : goal.returns-in-Ok-clause-complete
+returns-in-Ok-clause-complete g c = λ contents told no_read no_write no_tell other output text answer.
+    let done = c.in-Ok.ensures.done contents told in
+    inl (status_of_form (map string_bytes c.args.words.now) contents c.in-Some.form.file.now c.in-Some.form.top.now c.in-Some.form.trace.now status.Done other output text c.in-Some.ensures.form (d.Decided.done done.0 done.1 done.2) answer)
+
+-- src/program.rt:22:1
 pub returns-in-Err-clause-answer : goal.returns-in-Err-clause-answer
 returns-in-Err-clause-answer g c = λ contents told is.
     let said = c.tell_stop.ensures.told (decided_tells c.tell_stop.result is) in
     subst (λ (s : TheStatus). Answered (map string_bytes c.args.words.now) contents s (g.O.Sink.writing c.args.out.now) (g.O.Sink.writing c.answer.new.out) (g.E.Sink.writing c.args.err.now) (g.E.Sink.writing c.tell_stop.new.err))
     (sym said.0)
     (stop_answered (map string_bytes c.args.words.now) contents c.in-Some.form.file.now c.in-Some.form.top.now c.in-Some.form.trace.now (g.O.Sink.writing c.args.out.now) (g.O.Sink.writing c.answer.new.out) c.in-Some.ensures.form (g.E.Sink.writing c.args.err.now) (g.E.Sink.writing c.tell_stop.new.err) c.in-Err.stop
-    (known (map string_bytes c.args.words.now) contents c.in-Some.form.file.now c.in-Some.form.top.now c.in-Some.form.trace.now (g.O.Sink.writing c.args.out.now) (g.O.Sink.writing c.answer.new.out) c.in-Err.stop (λ e. c.in-Err.ensures.refused (ap Err e) contents told) (λ e. (c.in-Err.ensures.trace_unread (ap Err e)).2 contents told) (λ number e. c.in-Err.ensures.bad number (ap Err e) contents told))
+    (known (map string_bytes c.args.words.now) contents c.in-Some.form.file.now c.in-Some.form.top.now c.in-Some.form.trace.now (g.O.Sink.writing c.args.out.now) (g.O.Sink.writing c.answer.new.out) c.in-Err.stop (λ r e. c.in-Err.ensures.refused r (ap Err e) contents told) (λ e. c.in-Err.ensures.not_yet (ap Err e) contents told) (λ name e. (c.in-Err.ensures.source_unread name (ap Err e)).2 contents told) (λ e. (c.in-Err.ensures.trace_unread (ap Err e)).2 contents told) (λ number e. c.in-Err.ensures.bad number (ap Err e) contents told))
     (subst (λ (s : TheStatus). IsDecided s) said.0 is) c.in-Err.ensures.quiet said.1)
 
 -- src/program.rt:22:1
@@ -75,7 +82,7 @@ returns-in-Err-clause-output g c = λ contents told.
 pub returns-in-Err-clause-text : goal.returns-in-Err-clause-text
 returns-in-Err-clause-text g c = λ contents told.
     stop_text (map string_bytes c.args.words.now) contents c.in-Some.form.file.now c.in-Some.form.top.now c.in-Some.form.trace.now (g.O.Sink.writing c.args.out.now) (g.O.Sink.writing c.answer.new.out) c.in-Some.ensures.form (g.E.Sink.writing c.args.err.now) (g.E.Sink.writing c.tell_stop.new.err) c.in-Err.stop
-    (known (map string_bytes c.args.words.now) contents c.in-Some.form.file.now c.in-Some.form.top.now c.in-Some.form.trace.now (g.O.Sink.writing c.args.out.now) (g.O.Sink.writing c.answer.new.out) c.in-Err.stop (λ e. c.in-Err.ensures.refused (ap Err e) contents told) (λ e. (c.in-Err.ensures.trace_unread (ap Err e)).2 contents told) (λ number e. c.in-Err.ensures.bad number (ap Err e) contents told))
+    (known (map string_bytes c.args.words.now) contents c.in-Some.form.file.now c.in-Some.form.top.now c.in-Some.form.trace.now (g.O.Sink.writing c.args.out.now) (g.O.Sink.writing c.answer.new.out) c.in-Err.stop (λ r e. c.in-Err.ensures.refused r (ap Err e) contents told) (λ e. c.in-Err.ensures.not_yet (ap Err e) contents told) (λ name e. (c.in-Err.ensures.source_unread name (ap Err e)).2 contents told) (λ e. (c.in-Err.ensures.trace_unread (ap Err e)).2 contents told) (λ number e. c.in-Err.ensures.bad number (ap Err e) contents told))
     c.tell_stop.ensures.prefix
 
 -- src/program.rt:22:1
@@ -83,7 +90,7 @@ pub returns-in-Err-clause-read_fault : goal.returns-in-Err-clause-read_fault
 returns-in-Err-clause-read_fault g c = λ e.
     let said = c.tell_stop.ensures.told (λ write. let no_value : ⊥ = cc in no_value) in
     stop_unreadable (map string_bytes c.args.words.now) c.in-Some.form.file.now c.in-Some.form.top.now c.in-Some.form.trace.now (g.F.Files.reading c.args.files.now) (g.F.Files.reading c.answer.new.files) (g.O.Sink.writing c.args.out.now) (g.O.Sink.writing c.answer.new.out) (g.E.Sink.writing c.args.err.now) (g.E.Sink.writing c.tell_stop.new.err) c.in-Some.ensures.form c.in-Err.stop
-    (sym said.0 ∙ e) (λ u. c.in-Err.ensures.source_unread (ap Err u)) (λ u. c.in-Err.ensures.trace_unread (ap Err u)) c.in-Err.ensures.quiet said.1
+    (sym said.0 ∙ e) (λ name u. c.in-Err.ensures.source_unread name (ap Err u)) (λ u. c.in-Err.ensures.trace_unread (ap Err u)) c.in-Err.ensures.quiet said.1
 
 -- src/program.rt:22:1
 pub returns-in-Err-clause-complete : goal.returns-in-Err-clause-complete
@@ -92,7 +99,7 @@ returns-in-Err-clause-complete g c = λ contents told no_read no_write no_tell o
     let said = c.tell_stop.ensures.told (λ write. ⊎_elim unwritable (NoFault-MayFault _ _ no_tell) (c.tell_stop.ensures.failed write)) in
     subst (λ (s : TheStatus). (s ≡ other) ⊎ (s ≡ status.OutOfMemory)) (sym said.0)
     (stop_complete (map string_bytes c.args.words.now) contents c.in-Some.form.file.now c.in-Some.form.top.now c.in-Some.form.trace.now (g.O.Sink.writing c.args.out.now) (g.O.Sink.writing c.answer.new.out) c.in-Some.ensures.form c.in-Err.stop
-    (known (map string_bytes c.args.words.now) contents c.in-Some.form.file.now c.in-Some.form.top.now c.in-Some.form.trace.now (g.O.Sink.writing c.args.out.now) (g.O.Sink.writing c.answer.new.out) c.in-Err.stop (λ e. c.in-Err.ensures.refused (ap Err e) contents told) (λ e. (c.in-Err.ensures.trace_unread (ap Err e)).2 contents told) (λ number e. c.in-Err.ensures.bad number (ap Err e) contents told))
-    (λ u. NoFault-MayFault _ _ no_read (c.in-Err.ensures.source_unread (ap Err u)).0)
+    (known (map string_bytes c.args.words.now) contents c.in-Some.form.file.now c.in-Some.form.top.now c.in-Some.form.trace.now (g.O.Sink.writing c.args.out.now) (g.O.Sink.writing c.answer.new.out) c.in-Err.stop (λ r e. c.in-Err.ensures.refused r (ap Err e) contents told) (λ e. c.in-Err.ensures.not_yet (ap Err e) contents told) (λ name e. (c.in-Err.ensures.source_unread name (ap Err e)).2 contents told) (λ e. (c.in-Err.ensures.trace_unread (ap Err e)).2 contents told) (λ number e. c.in-Err.ensures.bad number (ap Err e) contents told))
+    (λ name u. NoFault-MayFault _ _ no_read (c.in-Err.ensures.source_unread name (ap Err u)).0)
     (λ u. NoFault-MayFault _ _ no_read (c.in-Err.ensures.trace_unread (ap Err u)).0)
     unwritable other output text answer)

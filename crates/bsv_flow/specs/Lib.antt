@@ -1,0 +1,6 @@
+pub mod Loads
+pub mod Positions
+pub mod Queues
+pub mod Refusals
+pub mod Sources
+pub mod Yields

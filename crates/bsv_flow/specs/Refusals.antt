@@ -1,0 +1,21 @@
+-- The printed lines of the refusals.
+use Rattle.std.specs.Prelude.{ℕ, List, ◌++◌, codes, decimal}
+use Rattle.bsv_flow.specs.declared.refusal.Refusal.{Refusal}
+use Rattle.bsv_flow.specs.declared.refusal.Refusal.TheVariants as refusal
+
+-- `FILE:LINE:COLUMN` and the end of the line
+abbrev pub place_text : List ℕ → ℕ → ℕ → List ℕ
+place_text file line column = file ++ codes ":" ++ decimal line ++ codes ":" ++ decimal column ++ codes "\n"
+
+abbrev pub limit_text : List ℕ → ℕ → List ℕ
+limit_text kind number = codes "refused 17 Limit " ++ (kind ++ (codes " " ++ (decimal number ++ codes "\n")))
+
+-- the line of a refusal, with the LF at its end
+unfoldable pub refusal_line : Refusal → List ℕ
+refusal_line (refusal.BadByte file line column) = codes "refused 1 BadByte " ++ place_text file line column
+refusal_line (refusal.OpenComment file line column) = codes "refused 2 OpenComment " ++ place_text file line column
+refusal_line (refusal.BadLiteral file line column) = codes "refused 3 BadLiteral " ++ place_text file line column
+refusal_line (refusal.TooLong file line column) = codes "refused 4 TooLong " ++ place_text file line column
+refusal_line (refusal.Syntax file line column) = codes "refused 5 Syntax " ++ place_text file line column
+refusal_line (refusal.TooDeep file line column) = codes "refused 6 TooDeep " ++ place_text file line column
+refusal_line (refusal.Limit kind number) = limit_text kind number

@@ -1,0 +1,21 @@
+//! From files to packages: loading, and the refusals.
+//!
+//! Modules in reading order: `refusal` (why a design is not compiled, and how it is told), `source`
+//! (the bytes of a file), `position` (the line and the column of a byte), `parse` (the package that
+//! a source is), `queue` (the files that imports name), `loading`.
+#![tactic(auto)]
+
+mod loading;
+mod parse;
+mod position;
+mod queue;
+mod refusal;
+mod source;
+#[cfg(test)]
+mod tests;
+#[cfg(test)]
+mod tree_tests;
+
+pub use loading::{Loaded, load, one_loading};
+pub use refusal::{CompileFault, Refusal};
+pub use source::Source;

@@ -1,0 +1,142 @@
+ghost use Rattle.std.specs.Prelude.{◌≡◌, ◌≤◌, ◌++◌, OnOk, OnErr};
+ghost use Rattle.bsv_io.specs.Faults.{MayFault};
+ghost use Rattle.bsv_io.specs.Writing.{appended, AppendsPrefix};
+ghost use Rattle.bsv_flow.specs.Refusals.{limit_text, place_text, refusal_line};
+ghost use Rattle.bsv_flow.specs.declared.refusal.CompileFault.TheVariants as fault;
+
+use bsv_bits::{Name, OutOfMemory};
+use bsv_io::{Failed, Sink, put_all};
+use itoa::Buffer;
+use std::alloc::{AllocError, AllocFailed};
+
+/// Why a design is refused. Of the first six the fields are the file, the line and the column of
+/// the place, counted from 1 in bytes.
+#[derive(Debug, Drop)]
+pub enum Refusal {
+    /// A byte begins no token.
+    BadByte(Name, u64, u64),
+    /// A comment is not closed.
+    OpenComment(Name, u64, u64),
+    /// A number or a text is malformed.
+    BadLiteral(Name, u64, u64),
+    /// A name or a number has more than 255 bytes.
+    TooLong(Name, u64, u64),
+    /// The tokens are no package.
+    Syntax(Name, u64, u64),
+    /// More than 64 brackets are open at once.
+    TooDeep(Name, u64, u64),
+    /// A count passes its limit: what is counted, and the limit.
+    Limit(Name, u64),
+}
+
+/// Why a design was not compiled.
+#[derive(Debug, Drop)]
+pub enum CompileFault {
+    /// It is refused.
+    Refused(Refusal),
+    /// The file of this name could not be read.
+    ReadFault(Name),
+    /// There was no memory.
+    OutOfMemory,
+}
+
+impl From<OutOfMemory> for CompileFault {
+    ghost from_gives = { λ _ e. e ≡ fault.OutOfMemory };
+
+    fn from(_error: OutOfMemory) -> CompileFault {
+        CompileFault::OutOfMemory
+    }
+}
+
+impl From<AllocError> for CompileFault {
+    ghost from_gives = { λ _ e. e ≡ fault.OutOfMemory };
+
+    fn from(_error: AllocError) -> CompileFault {
+        CompileFault::OutOfMemory
+    }
+}
+
+impl<T: Drop> From<AllocFailed<T>> for CompileFault {
+    ghost from_gives = { λ _ e. e ≡ fault.OutOfMemory };
+
+    fn from(_error: AllocFailed<T>) -> CompileFault {
+        CompileFault::OutOfMemory
+    }
+}
+
+impl Refusal {
+    /// Puts the line of the refusal: `refused`, its number, its kind and its details.
+    #[tactic(auto, unfolding(crate::specs::Refusals::refusal_line))]
+    pub fn put<S: Sink>(&self, sink: &mut S) -> Result<(), Failed>
+        ensures ok { OnOk result (S.writing sink.new ≡ appended (refusal_line self.now) (S.writing sink.old)) }
+        ensures prefix { AppendsPrefix (refusal_line self.now) (S.writing sink.old) (S.writing sink.new) }
+        ensures count { (S.writing sink.old).faults ≤ (S.writing sink.new).faults }
+        ensures counted { OnErr result (MayFault (S.writing sink.old).faults (S.writing sink.new).faults) }
+    {
+        match self {
+            Refusal::BadByte(file, line, column) => {
+                put_placed(sink, b"refused 1 BadByte ", file, *line, *column)
+            }
+            Refusal::OpenComment(file, line, column) => {
+                put_placed(sink, b"refused 2 OpenComment ", file, *line, *column)
+            }
+            Refusal::BadLiteral(file, line, column) => {
+                put_placed(sink, b"refused 3 BadLiteral ", file, *line, *column)
+            }
+            Refusal::TooLong(file, line, column) => {
+                put_placed(sink, b"refused 4 TooLong ", file, *line, *column)
+            }
+            Refusal::Syntax(file, line, column) => {
+                put_placed(sink, b"refused 5 Syntax ", file, *line, *column)
+            }
+            Refusal::TooDeep(file, line, column) => {
+                put_placed(sink, b"refused 6 TooDeep ", file, *line, *column)
+            }
+            Refusal::Limit(kind, number) => put_limit(sink, kind, *number),
+        }
+    }
+}
+
+/// Puts a line that ends with a place.
+fn put_placed<S: Sink>(
+    sink: &mut S,
+    front: &[u8],
+    file: &Name,
+    line: u64,
+    column: u64,
+) -> Result<(), Failed>
+    ensures ok { OnOk result (S.writing sink.new ≡ appended (front.now ++ place_text file.now line column) (S.writing sink.old)) }
+    ensures prefix { AppendsPrefix (front.now ++ place_text file.now line column) (S.writing sink.old) (S.writing sink.new) }
+    ensures count { (S.writing sink.old).faults ≤ (S.writing sink.new).faults }
+    ensures counted { OnErr result (MayFault (S.writing sink.old).faults (S.writing sink.new).faults) }
+{
+    let mut lines = Buffer::new();
+    let mut columns = Buffer::new();
+    put_all(
+        sink,
+        &[
+            front,
+            file.bytes(),
+            b":",
+            lines.format(line).as_bytes(),
+            b":",
+            columns.format(column).as_bytes(),
+            b"\n",
+        ],
+    )
+}
+
+/// Puts the line of a limit that is passed.
+fn put_limit<S: Sink>(sink: &mut S, kind: &Name, number: u64) -> Result<(), Failed>
+    ensures ok { OnOk result (S.writing sink.new ≡ appended (limit_text kind.now number) (S.writing sink.old)) }
+    ensures prefix { AppendsPrefix (limit_text kind.now number) (S.writing sink.old) (S.writing sink.new) }
+    ensures count { (S.writing sink.old).faults ≤ (S.writing sink.new).faults }
+    ensures counted { OnErr result (MayFault (S.writing sink.old).faults (S.writing sink.new).faults) }
+{
+    let mut digits = Buffer::new();
+    let digits = digits.format(number).as_bytes();
+    put_all(
+        sink,
+        &[b"refused 17 Limit ", kind.bytes(), b" ", digits, b"\n"],
+    )
+}
