@@ -1,1 +1,3 @@
+pub mod Depths
+pub mod Names
 pub mod Spans

@@ -8,7 +8,8 @@ use Rattle.bsv_ast.specs.declared.text.Base.{Base}
 use Rattle.bsv_lex.specs.declared.token.TokenKind.TheVariants as kind
 use Rattle.bsv_lex.specs.declared.piece.Flaw.TheVariants as flaw
 use Rattle.bsv_lex.specs.declared.piece.Piece.TheVariants as piece
-use Rattle.bsv_lex.specs.Bytes.{is_blank, begins_name, is_word, is_decimal, in_line, in_text, first_is}
+use Rattle.bsv_ast.specs.Names.{begins_name, is_word}
+use Rattle.bsv_lex.specs.Bytes.{is_blank, is_decimal, in_line, in_text, first_is}
 use Rattle.bsv_lex.specs.Numbers.{base_of, continues}
 use Rattle.bsv_lex.specs.Tokens.{short, name_kind, base_at, number_piece, is_quote, is_slash, begins_number}
 use Rattle.bsv_lex.specs.Reading.{name_at, base_len, number_len, number_at, text_at, close_from, comment_by, slash_at, symbol_at, piece_at}

@@ -1,4 +1,5 @@
 pub mod Complete
+pub mod Keywords
 pub mod Limits
 pub mod Places
 pub mod Splitting

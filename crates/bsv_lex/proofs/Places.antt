@@ -10,7 +10,8 @@ use Rattle.bsv_lex.specs.declared.piece.Piece.TheVariants as piece
 use Rattle.bsv_lex.specs.Reading.{piece_at}
 use Rattle.bsv_lex.specs.Tokens as t
 use Rattle.std.proofs.lemmas.Bool.{eqb-true}
-use Rattle.bsv_lex.specs.Bytes.{is_blank, begins_name, is_word, is_decimal, in_line, in_text, first_is}
+use Rattle.bsv_ast.specs.Names.{begins_name, is_word}
+use Rattle.bsv_lex.specs.Bytes.{is_blank, is_decimal, in_line, in_text, first_is}
 use Rattle.bsv_lex.specs.Numbers.{base_of, continues}
 use Rattle.bsv_lex.specs.Tokens.{base_at, is_quote, is_slash, is_symbol, begins_number}
 use Rattle.bsv_lex.specs.Tokens.{Run, IsSize, IsNumber, has_close, is_pair, begins_comment, begins, Stands}

@@ -8,7 +8,8 @@ use Rattle.std.proofs.lemmas.Bool.{eqb-true}
 use Rattle.bsv_lex.specs.declared.token.TokenKind.TheVariants as kind
 use Rattle.bsv_lex.specs.declared.piece.Flaw.TheVariants as flaw
 use Rattle.bsv_lex.specs.declared.piece.Piece.TheVariants as piece
-use Rattle.bsv_lex.specs.Bytes.{is_blank, begins_name, first_is}
+use Rattle.bsv_ast.specs.Names.{begins_name}
+use Rattle.bsv_lex.specs.Bytes.{is_blank, first_is}
 use Rattle.bsv_lex.specs.Words.{Entry, lookup, symbol, symbols}
 use Rattle.bsv_lex.specs.Tokens.{base_at, is_quote, is_symbol, begins_number}
 use Rattle.bsv_lex.specs.Reading.{slash_at, symbol_at, piece_at}

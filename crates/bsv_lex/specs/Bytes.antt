@@ -1,18 +1,11 @@
--- The classes of bytes of which tokens are made (Bluespec reference guide, "Lexical elements").
+-- The classes of bytes of which tokens are made, beside those of names (Bluespec reference guide, "Lexical
+-- elements").
 use Rattle.std.specs.Prelude.{ℕ, Bool, false, not, ◌&&◌, ◌||◌, ◌==◌, nat_le, List, [], ◌∷◌}
-use Rattle.std.specs.Char.{is_ascii_alphabetic, is_ascii_alphanumeric, is_ascii_digit}
+use Rattle.std.specs.Char.{is_ascii_digit}
 
 -- space, tab, CR, LF and form feed
 abbrev pub is_blank : ℕ → Bool
 is_blank b = b == 32 || b == 9 || b == 13 || b == 10 || b == 12
-
--- a letter or `_`
-abbrev pub begins_name : ℕ → Bool
-begins_name b = is_ascii_alphabetic b || b == 95
-
--- a letter, a digit or `_`
-abbrev pub is_word : ℕ → Bool
-is_word b = is_ascii_alphanumeric b || b == 95
 
 -- a digit or `_`
 abbrev pub is_decimal : ℕ → Bool

@@ -3,7 +3,8 @@
 use Rattle.std.specs.Prelude.{ℕ, zero, suc, ◌+◌, ◌&&◌, ◌==◌, if◌then◌else◌, List, [], ◌∷◌, ◌++◌, length, take, drop, Option, Some, None, Result, Ok, Err}
 use Rattle.std.specs.List.{prefix_len}
 use Rattle.bsv_ast.specs.declared.text.Base.{Base}
-use Rattle.bsv_lex.specs.Bytes.{is_blank, begins_name, is_word, is_decimal, in_line, in_text, first_is}
+use Rattle.bsv_ast.specs.Names.{begins_name, is_word}
+use Rattle.bsv_lex.specs.Bytes.{is_blank, is_decimal, in_line, in_text, first_is}
 use Rattle.bsv_lex.specs.Numbers.{continues}
 use Rattle.bsv_lex.specs.Tokens.{fault_at, short, name_kind, base_at, number_piece, is_quote, is_slash, is_symbol, begins_number}
 use Rattle.bsv_lex.specs.declared.token.Token.{Token}

@@ -6,7 +6,8 @@ use Rattle.std.specs.List.{list_all}
 use Rattle.std.specs.Char.{is_ascii_alphanumeric, is_ascii_digit, is_ascii_uppercase}
 use Rattle.bsv_ast.specs.declared.text.Base.{Base}
 use Rattle.bsv_ast.specs.declared.text.Literal.{Literal}
-use Rattle.bsv_lex.specs.Bytes.{is_blank, begins_name, is_word, is_decimal, in_line, in_text, first_is}
+use Rattle.bsv_ast.specs.Names.{begins_name, is_word}
+use Rattle.bsv_lex.specs.Bytes.{is_blank, is_decimal, in_line, in_text, first_is}
 use Rattle.bsv_lex.specs.Numbers.{base_of, continues, literal}
 use Rattle.bsv_lex.specs.Words.{keyword, symbol}
 use Rattle.bsv_lex.specs.declared.token.Token.{Token}

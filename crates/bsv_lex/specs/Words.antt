@@ -1,7 +1,7 @@
--- The words of the grammar: its keywords, the keywords that it reserves and does not use (those of the
--- Bluespec reference guide, and the remaining ones of IEEE 1364-2005, annex B), and its symbols.
-use Rattle.std.specs.Prelude.{ℕ, Bool, true, false, if◌then◌else◌, List, [], ◌∷◌, Option, Some, None, unwrap_or, codes}
+-- The words of the grammar: what each keyword and each symbol is to it.
+use Rattle.std.specs.Prelude.{ℕ, if◌then◌else◌, List, [], ◌∷◌, Option, Some, None, unwrap_or, codes}
 use Rattle.std.specs.Str.{bytes_eq}
+use Rattle.bsv_ast.specs.Names.{reserved_words, is_listed}
 use Rattle.bsv_lex.specs.declared.token.TokenKind.{TokenKind}
 use Rattle.bsv_lex.specs.declared.token.TokenKind.TheVariants as kind
 use Rattle.bsv_lex.specs.declared.terminal.Terminal.{Terminal}
@@ -27,33 +27,6 @@ keywords =
     (codes "for", word.For) ∷ (codes "begin", word.Begin) ∷ (codes "end", word.End) ∷
     (codes "noAction", word.NoAction) ∷ (codes "int", word.Int) ∷ []
 
--- the keywords that stand in none
-unfoldable pub reserved_words : List (List ℕ)
-reserved_words =
-    codes "action" ∷ codes "endaction" ∷ codes "actionvalue" ∷ codes "endactionvalue" ∷ codes "rules" ∷
-    codes "endrules" ∷ codes "seq" ∷ codes "endseq" ∷ codes "par" ∷ codes "endpar" ∷ codes "typeclass" ∷
-    codes "endtypeclass" ∷ codes "endinstance" ∷ codes "provisos" ∷ codes "union" ∷ codes "export" ∷
-    codes "while" ∷ codes "when" ∷ codes "type" ∷ codes "always" ∷ codes "and" ∷ codes "assign" ∷
-    codes "automatic" ∷ codes "buf" ∷ codes "bufif0" ∷ codes "bufif1" ∷ codes "casex" ∷ codes "casez" ∷
-    codes "cell" ∷ codes "cmos" ∷ codes "config" ∷ codes "deassign" ∷ codes "defparam" ∷ codes "design" ∷
-    codes "disable" ∷ codes "edge" ∷ codes "endconfig" ∷ codes "endgenerate" ∷ codes "endprimitive" ∷
-    codes "endspecify" ∷ codes "endtable" ∷ codes "endtask" ∷ codes "event" ∷ codes "force" ∷ codes "forever" ∷
-    codes "fork" ∷ codes "generate" ∷ codes "genvar" ∷ codes "highz0" ∷ codes "highz1" ∷ codes "ifnone" ∷
-    codes "incdir" ∷ codes "include" ∷ codes "initial" ∷ codes "inout" ∷ codes "input" ∷ codes "instance" ∷
-    codes "integer" ∷ codes "join" ∷ codes "large" ∷ codes "liblist" ∷ codes "library" ∷ codes "localparam" ∷
-    codes "macromodule" ∷ codes "medium" ∷ codes "nand" ∷ codes "negedge" ∷ codes "nmos" ∷ codes "nor" ∷
-    codes "noshowcancelled" ∷ codes "not" ∷ codes "notif0" ∷ codes "notif1" ∷ codes "or" ∷ codes "output" ∷
-    codes "parameter" ∷ codes "pmos" ∷ codes "posedge" ∷ codes "primitive" ∷ codes "pull0" ∷ codes "pull1" ∷
-    codes "pulldown" ∷ codes "pullup" ∷ codes "pulsestyle_ondetect" ∷ codes "pulsestyle_onevent" ∷
-    codes "rcmos" ∷ codes "real" ∷ codes "realtime" ∷ codes "reg" ∷ codes "release" ∷ codes "repeat" ∷
-    codes "rnmos" ∷ codes "rpmos" ∷ codes "rtran" ∷ codes "rtranif0" ∷ codes "rtranif1" ∷ codes "scalared" ∷
-    codes "showcancelled" ∷ codes "signed" ∷ codes "small" ∷ codes "specify" ∷ codes "specparam" ∷
-    codes "strong0" ∷ codes "strong1" ∷ codes "supply0" ∷ codes "supply1" ∷ codes "table" ∷ codes "task" ∷
-    codes "time" ∷ codes "tran" ∷ codes "tranif0" ∷ codes "tranif1" ∷ codes "tri" ∷ codes "tri0" ∷
-    codes "tri1" ∷ codes "triand" ∷ codes "trior" ∷ codes "trireg" ∷ codes "unsigned" ∷ codes "use" ∷
-    codes "uwire" ∷ codes "vectored" ∷ codes "wait" ∷ codes "wand" ∷ codes "weak0" ∷ codes "weak1" ∷
-    codes "wire" ∷ codes "wor" ∷ codes "xnor" ∷ codes "xor" ∷ []
-
 -- the symbols
 unfoldable pub symbols : List Entry
 symbols =
@@ -73,11 +46,6 @@ symbols =
 abbrev pub lookup : List Entry → List ℕ → Option Terminal
 lookup [] text = None
 lookup (entry ∷ entries) text = if bytes_eq entry.0 text then Some entry.1 else lookup entries text
-
--- whether a text is one of the words
-abbrev pub is_listed : List (List ℕ) → List ℕ → Bool
-is_listed [] text = false
-is_listed (entry ∷ entries) text = if bytes_eq entry text then true else is_listed entries text
 
 -- what was found for a text, else `Reserved` where it is a reserved word
 abbrev pub or_reserved : Option Terminal → List ℕ → Option Terminal

@@ -1,6 +1,7 @@
 ghost use Rattle.std.specs.Prelude.{◌≡◌, ◌+◌, ◌<◌, ◌≤◌, ◌^◌, length, slice_index, IfSome};
 ghost use Rattle.std.specs.Char.{is_ascii_alphanumeric, is_ascii_uppercase};
 ghost use Rattle.std.specs.List.{prefix_len};
+ghost use Rattle.bsv_ast.specs.Names as names_spec;
 ghost use Rattle.bsv_lex.specs.Bytes as bytes_spec;
 ghost use Rattle.bsv_lex.specs.Numbers as numbers;
 ghost use Rattle.bsv_lex.specs.Reading as spec;
@@ -50,13 +51,13 @@ fn is_blank(b: u8) -> bool
 }
 
 fn begins_name(b: u8) -> bool
-    ensures { result ≡ bytes_spec.begins_name b }
+    ensures { result ≡ names_spec.begins_name b }
 {
     b.is_ascii_alphabetic() || b == b'_'
 }
 
 fn is_word(b: u8) -> bool
-    ensures { result ≡ bytes_spec.is_word b }
+    ensures { result ≡ names_spec.is_word b }
 {
     b.is_ascii_alphanumeric() || b == b'_'
 }
@@ -69,7 +70,7 @@ fn in_text(b: u8) -> bool
 
 /// How many bytes at the front go on with a name.
 fn word_len(bytes: &[u8]) -> usize
-    ensures value { result ≡ prefix_len bytes_spec.is_word bytes.now }
+    ensures value { result ≡ prefix_len names_spec.is_word bytes.now }
     ensures within { result ≤ length bytes.now }
 {
     bytes.iter().take_while(|b| is_word(**b)).count()

@@ -1,4 +1,5 @@
 ghost use Rattle.std.specs.Prelude.{◌≡◌, map};
+ghost use Rattle.bsv_ast.specs.Names.{is_listed};
 ghost use Rattle.bsv_lex.specs.Words as spec;
 
 use crate::token::TokenKind;
@@ -371,7 +372,7 @@ fn lookup(mut table: &[(&[u8], Terminal)], word: &[u8]) -> Option<Terminal>
 
 /// Whether the word is one of the list.
 fn is_listed(mut list: &[&[u8]], word: &[u8]) -> bool
-    ensures { result ≡ spec.is_listed (map (λ entry. entry.now) list.entry.now) word.now }
+    ensures { result ≡ is_listed (map (λ entry. entry.now) list.entry.now) word.now }
 {
     while let [entry, rest @ ..] = list {
         if *entry == word {

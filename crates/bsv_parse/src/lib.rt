@@ -22,4 +22,3 @@ mod statements;
 mod types;
 
 pub use answer::{ParseFault, one_package, package};
-pub use modules::{ModuleBranches, ModuleElse};

@@ -26,7 +26,7 @@ use Rattle.bsv_ast.specs.declared.package.Item.{Item}
 use Rattle.bsv_ast.specs.declared.package.Item.TheVariants as item
 use Rattle.bsv_ast.specs.declared.package.Package.{Package}
 use Rattle.bsv_ast.specs.declared.package.Package.TheVariants as whole
-use Rattle.bsv_lex.specs.Bytes.{is_word}
+use Rattle.bsv_ast.specs.Names.{is_word}
 use Rattle.bsv_expr.specs.Expressions.{text}
 use Rattle.bsv_expr.specs.Trees.{last}
 use Rattle.bsv_top.specs.declared.machine.Register.{Register}

@@ -4,7 +4,7 @@ ghost use Rattle.bsv_top.specs.Machines.{IsMachine};
 ghost use Rattle.std.specs.Option.{option_map};
 ghost use Rattle.std.specs.List.{list_any};
 ghost use Rattle.std.specs.Str.{bytes_eq};
-ghost use Rattle.bsv_lex.specs.Bytes.{is_word};
+ghost use Rattle.bsv_ast.specs.Names.{is_word};
 ghost use Rattle.bsv_top.specs.declared.machine.Register.{Register as TheRegister};
 ghost use Rattle.bsv_top.specs.declared.machine.Write.{Write as TheWrite};
 ghost use Rattle.bsv_top.specs.Parts as parts;

@@ -1,5 +1,5 @@
 use Rattle.std.proofs.Common.{◌≡◌, map, length}
-use Rattle.bsv_lex.specs.Words.{is_listed}
+use Rattle.bsv_ast.specs.Names.{is_listed}
 use Rattle.bsv_lex.proofs.terminal.is_listed.Given as goal
 
 abbrev pub invariant-loop-list : goal.invariant-loop-list
