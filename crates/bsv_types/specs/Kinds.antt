@@ -1,0 +1,97 @@
+-- Types as plain data, and the classes of types that the typing speaks of (Bluespec reference guide, "Types").
+use Rattle.std.specs.Prelude.{ℕ, Bool, true, false, ◌&&◌, ◌==◌, Option, Some, None}
+use Rattle.bsv_types.specs.declared.types.PartTy.{PartTy}
+use Rattle.bsv_types.specs.declared.types.PartTy.TheVariants as part_type
+use Rattle.bsv_types.specs.declared.types.Ty.{Ty, fold-Ty}
+use Rattle.bsv_types.specs.declared.types.Ty.TheOpen.{Ty-F}
+
+pub data Kind : Type 0 where
+  bit : ℕ → Kind
+  uint : ℕ → Kind
+  int : ℕ → Kind
+  bool : Kind
+  enum : ℕ → Kind
+  struct : ℕ → Kind
+  maybe : Kind → Kind
+  integer : Kind
+  interface : ℕ → Kind
+  -- an interface that the language gives: with its T, and without one
+  part : PartTy → Kind → Kind
+  bare : PartTy → Kind
+
+abbrev pub part_of : PartTy → Option Kind → Kind
+part_of p None = bare p
+part_of p (Some k) = part p k
+
+abbrev pub kind_step : Ty-F Kind → Kind
+kind_step (Ty-F.Bit n) = bit n
+kind_step (Ty-F.UInt n) = uint n
+kind_step (Ty-F.Int n) = int n
+kind_step Ty-F.Bool = bool
+kind_step (Ty-F.Enum k) = enum k
+kind_step (Ty-F.Struct k) = struct k
+kind_step (Ty-F.Maybe t) = maybe t
+kind_step Ty-F.Integer = integer
+kind_step (Ty-F.Interface k) = interface k
+kind_step (Ty-F.Part p t) = part_of p t
+
+-- the type that a type of the code is
+abbrev pub kind : Ty → Kind
+kind = fold-Ty Kind kind_step
+
+abbrev pub same_part : PartTy → PartTy → Bool
+same_part part_type.Reg part_type.Reg = true
+same_part part_type.Wire part_type.Wire = true
+same_part part_type.RWire part_type.RWire = true
+same_part part_type.PulseWire part_type.PulseWire = true
+same_part part_type.Fifo part_type.Fifo = true
+same_part part_type.Fifof part_type.Fifof = true
+same_part _ _ = false
+
+-- two types are one
+abbrev pub same_kind : Kind → Kind → Bool
+same_kind (bit m) (bit n) = m == n
+same_kind (uint m) (uint n) = m == n
+same_kind (int m) (int n) = m == n
+same_kind bool bool = true
+same_kind (enum j) (enum k) = j == k
+same_kind (struct j) (struct k) = j == k
+same_kind (maybe j) (maybe k) = same_kind j k
+same_kind integer integer = true
+same_kind (interface j) (interface k) = j == k
+same_kind (part p j) (part q k) = same_part p q && same_kind j k
+same_kind (bare p) (bare q) = same_part p q
+same_kind _ _ = false
+
+-- an interface type, of which instances are
+abbrev pub is_interface : Kind → Bool
+is_interface (interface k) = true
+is_interface (part p k) = true
+is_interface (bare p) = true
+is_interface _ = false
+
+-- Bit, UInt or Int
+abbrev pub has_family : Kind → Bool
+has_family (bit n) = true
+has_family (uint n) = true
+has_family (int n) = true
+has_family _ = false
+
+-- one of these three, or Integer
+abbrev pub is_number : Kind → Bool
+is_number integer = true
+is_number k = has_family k
+
+-- what a shift may shift by
+abbrev pub is_amount : Kind → Bool
+is_amount (bit n) = true
+is_amount (uint n) = true
+is_amount integer = true
+is_amount _ = false
+
+-- both Bit, both UInt or both Int, and their widths pass the test
+abbrev pub family_widths : (ℕ → ℕ → Bool) → Kind → Kind → Bool
+family_widths p (bit m) (bit n) = p m n
+family_widths p (uint m) (uint n) = p m n
+family_widths p (int m) (int n) = p m n
+family_widths p _ _ = false

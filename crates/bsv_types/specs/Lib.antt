@@ -1,0 +1,12 @@
+pub mod Expressions
+pub mod Kinds
+pub mod Methods
+pub mod Modules
+pub mod Names
+pub mod Operators
+pub mod Packing
+pub mod Programs
+pub mod Samples
+pub mod Shapes
+pub mod Statements
+pub mod Widths
