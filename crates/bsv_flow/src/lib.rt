@@ -5,6 +5,8 @@
 //! a source is), `queue` (the files that imports name), `loading`.
 #![tactic(auto)]
 
+#[cfg(test)]
+mod check_tests;
 mod loading;
 mod parse;
 mod position;
