@@ -74,7 +74,7 @@ fn an_inner_scope_hides_until_it_is_closed(rt: HostRuntime) -> Result<(), Fail> 
 fn the_language_gives_names_in_each_space(rt: HostRuntime) -> Result<(), Fail> {
     let definitions = Definitions::given(rt.alloc())?;
     let maker = Name::new(rt.alloc(), b"mkBypassFIFOF")?;
-    assert_eq!(rt; given(Space::Modules).len(), 17);
+    assert_eq!(rt; given(Space::Modules).len(), 18);
     assert!(rt; definitions.is_defined(Space::Modules, &maker));
     assert!(rt; !definitions.is_defined(Space::Functions, &maker));
     Ok(())
