@@ -3,7 +3,7 @@ use crate::tests::{fault_text, files_of, joined};
 use crate::{Loaded, load};
 use bsv_ast::Package;
 use bsv_bits::OutOfMemory;
-use bsv_check::{Place, bad_attribute, twice, unknown};
+use bsv_names::{Place, bad_attribute, twice, unknown};
 use std::alloc::{AllocError, Global};
 use std::process::Abort;
 use std::test::Fail;

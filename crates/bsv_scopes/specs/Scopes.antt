@@ -1,5 +1,5 @@
 -- One scope as the list of its entries, and scopes in scopes as the list of these, the innermost first.
-use Rattle.std.specs.Prelude.{ℕ, ◌+◌, Bool, false, not, if◌then◌else◌, List, [], ◌∷◌, ◌++◌, Option, Some, None, option_map}
+use Rattle.std.specs.Prelude.{ℕ, ◌+◌, Bool, false, not, if◌then◌else◌, List, [], ◌∷◌, ◌++◌, length, Option, Some, None, option_map}
 use Rattle.std.specs.Option.{option_or}
 use Rattle.std.specs.List.{list_any}
 use Rattle.std.specs.Map.{keys_of}
@@ -48,6 +48,11 @@ module _ {V : Type 0} where
   abbrev pub closed : List (Entries V) → List (Entries V)
   closed [] = []
   closed (es ∷ outer) = outer
+
+  -- how many names the scopes have together
+  abbrev pub in_scope : List (Entries V) → ℕ
+  in_scope [] = 0
+  in_scope (es ∷ outer) = length es + in_scope outer
 
   -- whether the name can be defined: there is a scope, and the innermost one does not have the name
   abbrev pub is_new_in : List ℕ → List (Entries V) → Bool

@@ -1,4 +1,4 @@
-ghost use Rattle.std.specs.Prelude.{◌≡◌, [], IfOk, OnOk, OnErr};
+ghost use Rattle.std.specs.Prelude.{◌≡◌, ◌≤◌, ◌^◌, [], IfOk, OnOk, OnErr, MatchOption};
 ghost use Rattle.std.specs.Option.{option_copied};
 ghost use Rattle.bsv_scopes.specs.Scopes as spec;
 ghost use Rattle.bsv_scopes.specs.Seen.{scopes};
@@ -56,6 +56,20 @@ impl<V: Drop> Scopes<V> {
         // The room of the scope that was taken out is still there.
         let _ = self.scopes.push(innermost);
         is_new
+    }
+
+    /// How many names the scopes have together, if a `u32` holds that number.
+    #[tactic(auto, using(crate::proofs::Layers::layers))]
+    pub fn count(&self) -> Option<u32>
+        ensures { MatchOption result (2 ^ 32 ≤ spec.in_scope (scopes self.now)) (λ n. n ≡ spec.in_scope (scopes self.now)) }
+    {
+        let mut count: u32 = 0;
+        let mut rest = self.scopes.as_slice();
+        while let Some((innermost, outer)) = rest.split_last() {
+            count = count.checked_add(u32::try_from(innermost.len()).ok()?)?;
+            rest = outer;
+        }
+        Some(count)
     }
 
     /// What the name stands for in the innermost scope that has it.

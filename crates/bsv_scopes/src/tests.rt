@@ -63,6 +63,7 @@ fn an_inner_scope_hides_until_it_is_closed(rt: HostRuntime) -> Result<(), Fail> 
     scopes.open(rt.alloc())?;
     define(rt.alloc(), &mut scopes, b"x", 2)?;
     assert_eq!(rt; found(rt.alloc(), &scopes, b"x")?, Some(2));
+    assert_eq!(rt; scopes.count(), Some(2));
     scopes.close();
     assert_eq!(rt; found(rt.alloc(), &scopes, b"x")?, Some(1));
     scopes.close();

@@ -2,21 +2,8 @@
 use Rattle.std.proofs.Common.{◌≡◌, ◌∙◌, Some, None, ap, sym, subst, true, IsTrue, ◌↔◌}
 use Rattle.bsv_types.specs.declared.types.Ty.{Ty, fold-roll-Ty, ind-Ty, roll-Ty, map-Ty}
 use Rattle.bsv_types.specs.declared.types.Ty.TheOpen.{Ty-F}
-use Rattle.bsv_types.specs.Kinds.{Kind, bit, uint, int, bool, enum, struct, maybe, integer, interface, part, bare, kind, kind_step, same_kind}
+use Rattle.bsv_types.specs.Kinds.{Kind, bit, uint, int, bool, enum, struct, maybe, integer, interface, part, bare, kind, kind_step, type_of, same_kind}
 use Rattle.bsv_types.proofs.Same.{same_is, same_self}
-
-abbrev type_of : Kind → Ty
-type_of (bit n) = roll-Ty (Ty-F.Bit n)
-type_of (uint n) = roll-Ty (Ty-F.UInt n)
-type_of (int n) = roll-Ty (Ty-F.Int n)
-type_of bool = roll-Ty Ty-F.Bool
-type_of (enum n) = roll-Ty (Ty-F.Enum n)
-type_of (struct n) = roll-Ty (Ty-F.Struct n)
-type_of (maybe k) = roll-Ty (Ty-F.Maybe (type_of k))
-type_of integer = roll-Ty Ty-F.Integer
-type_of (interface n) = roll-Ty (Ty-F.Interface n)
-type_of (part p k) = roll-Ty (Ty-F.Part p (Some (type_of k)))
-type_of (bare p) = roll-Ty (Ty-F.Part p None)
 
 abbrev Back : Ty → Type 0
 Back t = type_of (kind t) ≡ t
@@ -38,7 +25,8 @@ by_variant (Ty-F.Interface n) = ap type_of (rolled (Ty-F.Interface n))
 by_variant (Ty-F.Part p None) = ap type_of (rolled (Ty-F.Part p None))
 by_variant (Ty-F.Part p (Some e)) = ap type_of (rolled (Ty-F.Part p (Some e.0))) ∙ ap (λ t. roll-Ty (Ty-F.Part p (Some t))) e.1
 
-back : (t : Ty) → Back t
+-- a type is what its plain data says
+pub back : (t : Ty) → Back t
 back = ind-Ty Back (λ x y is. subst (λ z. Back (roll-Ty z)) is (by_variant y))
 
 pub kinds_tell : (t u : Ty) → kind t ≡ kind u → t ≡ u

@@ -1,7 +1,9 @@
 pub mod Carried
 pub mod Counted
 pub mod Exact
+pub mod Gathering
 pub mod Least
+pub mod Pieces
 pub mod Same
 pub mod Sampled
 pub mod Unpacked

@@ -2,7 +2,7 @@
 use Rattle.std.specs.Prelude.{ℕ, Bool, true, false, ◌&&◌, ◌==◌, Option, Some, None}
 use Rattle.bsv_types.specs.declared.types.PartTy.{PartTy}
 use Rattle.bsv_types.specs.declared.types.PartTy.TheVariants as part_type
-use Rattle.bsv_types.specs.declared.types.Ty.{Ty, fold-Ty}
+use Rattle.bsv_types.specs.declared.types.Ty.{Ty, fold-Ty, roll-Ty}
 use Rattle.bsv_types.specs.declared.types.Ty.TheOpen.{Ty-F}
 
 pub data Kind : Type 0 where
@@ -38,6 +38,20 @@ kind_step (Ty-F.Part p t) = part_of p t
 -- the type that a type of the code is
 abbrev pub kind : Ty → Kind
 kind = fold-Ty Kind kind_step
+
+-- the type of the code that a type is
+abbrev pub type_of : Kind → Ty
+type_of (bit n) = roll-Ty (Ty-F.Bit n)
+type_of (uint n) = roll-Ty (Ty-F.UInt n)
+type_of (int n) = roll-Ty (Ty-F.Int n)
+type_of bool = roll-Ty Ty-F.Bool
+type_of (enum k) = roll-Ty (Ty-F.Enum k)
+type_of (struct k) = roll-Ty (Ty-F.Struct k)
+type_of (maybe k) = roll-Ty (Ty-F.Maybe (type_of k))
+type_of integer = roll-Ty Ty-F.Integer
+type_of (interface k) = roll-Ty (Ty-F.Interface k)
+type_of (part p k) = roll-Ty (Ty-F.Part p (Some (type_of k)))
+type_of (bare p) = roll-Ty (Ty-F.Part p None)
 
 abbrev pub same_part : PartTy → PartTy → Bool
 same_part part_type.Reg part_type.Reg = true

@@ -1,3 +1,5 @@
+pub mod Asked
+pub mod AttributeTexts
 pub mod Expressions
 pub mod Kinds
 pub mod Methods

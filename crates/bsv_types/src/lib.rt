@@ -1,9 +1,10 @@
 //! Types, their widths and how their values pack, and the typed tree of a program.
 //!
 //! Modules in reading order: `types` (what a type is), `operators` (the labels of operators),
-//! `expressions`, `statements` (of rules, methods and functions), `attributes`, `makers` (what makes
-//! an instance), `modules`, `definitions` (enums, structs, interfaces and functions), `typed` (a whole
-//! program, its invariant, widths and packing).
+//! `expressions`, `statements` (of rules, methods and functions), `attributes`, `attribute_text` (the
+//! words and marks of an attribute's text), `asked` (what an attribute asks for), `makers` (what makes an
+//! instance), `modules`, `definitions` (enums, structs, interfaces and functions), `widths` (of types),
+//! `packing` (laws of widths), `typed` (a whole program, its invariant, widths and packing).
 //!
 //! Contracts see a tree by value: a `Boxed<T>` as a `T`, an `Items<T>` as the list of its items, a
 //! `Name` as its bytes. A variable is named by its level: how many variables stand before it in scope,
@@ -11,6 +12,10 @@
 //! its place in its interface, a rule and a method of a module by its place in the module's list.
 #![tactic(auto)]
 
+mod asked;
+#[cfg(test)]
+mod attribute_tests;
+mod attribute_text;
 mod attributes;
 mod definitions;
 mod expressions;
@@ -25,6 +30,8 @@ mod typed;
 mod types;
 mod widths;
 
+pub use asked::{Owner, attribute};
+pub use attribute_text::{begins_name, is_word};
 pub use attributes::Attribute;
 pub use definitions::{
     Body, Enum, Field, Function, Interface, MethodHeader, MethodResult, Param, Struct,

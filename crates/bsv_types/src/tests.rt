@@ -99,6 +99,25 @@ fn enums_are_as_wide_as_their_last_label(rt: HostRuntime) -> Result<(), Fail> {
     Ok(())
 }
 
+/// An enum of so many labels, at least two.
+fn enum_of(alloc: Global, more: usize) -> Result<Enum, Fail> {
+    let mut labels = Items::new(alloc);
+    labels.push(Name::new(alloc, b"A")?)?;
+    labels.push(Name::new(alloc, b"B")?)?;
+    for _label in 0..more {
+        labels.push(Name::new(alloc, b"C")?)?;
+    }
+    Ok(Enum::new(Name::new(alloc, b"E")?, labels))
+}
+
+#[test]
+fn enums_are_made_with_their_widths(rt: HostRuntime) -> Result<(), Fail> {
+    for (more, width) in [(0, 1), (1, 2), (2, 2), (3, 3), (6, 3), (7, 4)] {
+        assert_eq!(rt; enum_of(rt.alloc(), more)?.width, width);
+    }
+    Ok(())
+}
+
 /// A struct of a struct, an enum, a Bool and a Maybe of a Maybe: 8, 2, 1 and 1 + 1 + 110 bits.
 fn four_fields(
     alloc: Global,
@@ -114,12 +133,17 @@ fn four_fields(
     Ok(Struct::new(enums, structs, Name::new(alloc, b"T")?, fields))
 }
 
-fn named_types() -> [(Ty, Option<u32>); 13] {
+fn named_types() -> [(Ty, Option<u32>); 18] {
     [
         (Ty::Bit(1), Some(1)),
         (Ty::Bit(128), Some(128)),
+        (Ty::Bit(129), Some(129)),
+        (Ty::UInt(1), Some(1)),
+        (Ty::UInt(128), Some(128)),
         (Ty::UInt(129), Some(129)),
-        (Ty::Int(32), Some(32)),
+        (Ty::Int(1), Some(1)),
+        (Ty::Int(128), Some(128)),
+        (Ty::Int(129), Some(129)),
         (Ty::Bool, Some(1)),
         (Ty::Enum(0), Some(2)),
         (Ty::Enum(1), None),

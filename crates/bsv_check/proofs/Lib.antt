@@ -1,6 +1,0 @@
-pub mod Deepest
-pub mod Definitions
-pub mod FirstFaults
-pub mod Gathering
-pub mod Malformed
-pub mod Pieces

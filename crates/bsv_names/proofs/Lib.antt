@@ -1,0 +1,4 @@
+pub mod Deepest
+pub mod Definitions
+pub mod FirstFaults
+pub mod Malformed

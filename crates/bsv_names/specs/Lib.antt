@@ -1,0 +1,11 @@
+pub mod Events
+pub mod ExpressionEvents
+pub mod StatementEvents
+pub mod ModuleEvents
+pub mod PackageEvents
+pub mod Known
+pub mod KnownSeen
+pub mod Twice
+pub mod Unknown
+pub mod Faults
+pub mod Attributes
