@@ -1,7 +1,7 @@
 //! The syntax tree of a package: what a source says, without its blanks and comments. Plain values,
 //! which are built and dropped, and which tell where they stand.
 //!
-//! Modules in reading order: `text` (places, names and numbers), `types`, `expressions`,
+//! Modules in reading order: `text` (places, names, numbers, and the bytes of names), `types`, `expressions`,
 //! `statements` (of rules, methods and functions), `modules` (what stands in a module), `package`
 //! (a file and its definitions).
 //!
@@ -53,5 +53,5 @@ pub use sqlite_items::{Boxed, Items};
 pub use statements::{
     Branch, Call, CaseArm, Condition, Declaration, DeclaredType, Head, Place, Stmt,
 };
-pub use text::{Base, Ident, Literal, Span};
+pub use text::{Base, Ident, Literal, Span, begins_name, is_word};
 pub use types::{TypeArgument, WrittenType};

@@ -1,6 +1,7 @@
 use crate::{
     Base, Body, Condition, DeclaredType, Expr, Ident, Import, Item, Items, Level, Literal,
-    Operator, Package, Place, Span, Stmt, Suffix, TypeArgument, Typedef, WrittenType,
+    Operator, Package, Place, Span, Stmt, Suffix, TypeArgument, Typedef, WrittenType, begins_name,
+    is_word,
 };
 use bsv_bits::Name;
 use std::alloc::Global;
@@ -102,5 +103,21 @@ fn packages_tell_where_they_stand(rt: HostRuntime) -> Result<(), Fail> {
     assert_eq!(rt; alias(rt.alloc())?, SPAN);
     assert_eq!(rt; import(rt.alloc())?, SPAN);
     assert_eq!(rt; package(rt.alloc()), SPAN);
+    Ok(())
+}
+
+#[test]
+fn names_are_of_letters_digits_and_underlines(rt: HostRuntime) -> Result<(), Fail> {
+    for (b, begins, goes_on) in [
+        (b'a', true, true),
+        (b'Z', true, true),
+        (b'_', true, true),
+        (b'7', false, true),
+        (b'$', false, false),
+        (b' ', false, false),
+    ] {
+        assert_eq!(rt; begins_name(b), begins);
+        assert_eq!(rt; is_word(b), goes_on);
+    }
     Ok(())
 }

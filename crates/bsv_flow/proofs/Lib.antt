@@ -1,8 +1,10 @@
 pub mod Decided
 pub mod Folders
+pub mod Outcomes
 pub mod Parsed
 pub mod Placed
 pub mod Queued
 pub mod Sourced
 pub mod Steps
+pub mod Told
 pub mod Yielded

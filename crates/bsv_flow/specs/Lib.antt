@@ -3,4 +3,5 @@ pub mod Positions
 pub mod Queues
 pub mod Refusals
 pub mod Sources
+pub mod Typings
 pub mod Yields

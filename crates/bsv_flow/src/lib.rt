@@ -1,8 +1,9 @@
-//! From files to packages: loading, and the refusals.
+//! From files to typed programs: loading, typing, and the refusals.
 //!
 //! Modules in reading order: `refusal` (why a design is not compiled, and how it is told), `source`
 //! (the bytes of a file), `position` (the line and the column of a byte), `parse` (the package that
-//! a source is), `queue` (the files that imports name), `loading`.
+//! a source is), `queue` (the files that imports name), `loading`, `typing` (the typed program of what
+//! was loaded).
 #![tactic(auto)]
 
 #[cfg(test)]
@@ -17,7 +18,11 @@ mod source;
 mod tests;
 #[cfg(test)]
 mod tree_tests;
+mod typing;
+#[cfg(test)]
+mod typing_tests;
 
 pub use loading::{Loaded, load, one_loading};
 pub use refusal::{CompileFault, Refusal};
 pub use source::Source;
+pub use typing::{one_typing, typed};

@@ -9,7 +9,7 @@ use bsv_io::{Failed, Sink, put_all};
 use itoa::Buffer;
 use std::alloc::{AllocError, AllocFailed};
 
-/// Why a design is refused. Of the first six the fields are the file, the line and the column of
+/// Why a design is refused. Of all but the last the fields are the file, the line and the column of
 /// the place, counted from 1 in bytes.
 #[derive(Debug, Drop)]
 pub enum Refusal {
@@ -25,6 +25,16 @@ pub enum Refusal {
     Syntax(Name, u64, u64),
     /// More than 64 brackets are open at once.
     TooDeep(Name, u64, u64),
+    /// A name has no definition in scope.
+    UnknownName(Name, u64, u64),
+    /// A name is defined twice in one scope.
+    TwiceDefined(Name, u64, u64),
+    /// There is no typing, widths and fits left aside.
+    TypeFault(Name, u64, u64),
+    /// There is a typing, but a width is outside 1 to 128, or a literal or a range does not fit.
+    WidthFault(Name, u64, u64),
+    /// An attribute is malformed.
+    BadAttribute(Name, u64, u64),
     /// A count passes its limit: what is counted, and the limit.
     Limit(Name, u64),
 }
@@ -91,6 +101,21 @@ impl Refusal {
             }
             Refusal::TooDeep(file, line, column) => {
                 put_placed(sink, b"refused 6 TooDeep ", file, *line, *column)
+            }
+            Refusal::UnknownName(file, line, column) => {
+                put_placed(sink, b"refused 7 UnknownName ", file, *line, *column)
+            }
+            Refusal::TwiceDefined(file, line, column) => {
+                put_placed(sink, b"refused 8 TwiceDefined ", file, *line, *column)
+            }
+            Refusal::TypeFault(file, line, column) => {
+                put_placed(sink, b"refused 9 TypeFault ", file, *line, *column)
+            }
+            Refusal::WidthFault(file, line, column) => {
+                put_placed(sink, b"refused 10 WidthFault ", file, *line, *column)
+            }
+            Refusal::BadAttribute(file, line, column) => {
+                put_placed(sink, b"refused 11 BadAttribute ", file, *line, *column)
             }
             Refusal::Limit(kind, number) => put_limit(sink, kind, *number),
         }

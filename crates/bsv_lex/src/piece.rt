@@ -10,7 +10,7 @@ ghost use Rattle.bsv_lex.specs.Tokens as tokens_spec;
 use crate::number::{base_of, continues, decimal_len, literal};
 use crate::terminal::{keyword, symbol};
 use crate::token::{LexFault, TokenKind};
-use bsv_ast::Base;
+use bsv_ast::{Base, begins_name, is_word};
 
 /// Why no token stands at a place.
 #[derive(Clone, Copy, Debug, PartialEq, Eq)]
@@ -48,18 +48,6 @@ fn is_blank(b: u8) -> bool
     ensures { result ≡ bytes_spec.is_blank b }
 {
     b == b' ' || b == b'\t' || b == b'\r' || b == b'\n' || b == b'\x0c'
-}
-
-fn begins_name(b: u8) -> bool
-    ensures { result ≡ names_spec.begins_name b }
-{
-    b.is_ascii_alphabetic() || b == b'_'
-}
-
-fn is_word(b: u8) -> bool
-    ensures { result ≡ names_spec.is_word b }
-{
-    b.is_ascii_alphanumeric() || b == b'_'
 }
 
 fn in_text(b: u8) -> bool

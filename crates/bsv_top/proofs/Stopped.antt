@@ -6,7 +6,8 @@ use Rattle.bsv_io.specs.Writing.{Writing, appended, AppendsPrefix}
 use Rattle.bsv_io.proofs.Appended.{AppendsPrefix-more, appended-nil}
 use Rattle.bsv_flow.specs.declared.loading.Loaded.{Loaded}
 use Rattle.bsv_flow.specs.declared.refusal.Refusal.{Refusal}
-use Rattle.bsv_flow.specs.Loads.{IsLoaded, Reaches, Refuses}
+use Rattle.bsv_flow.specs.Loads.{Reaches}
+use Rattle.bsv_flow.specs.Typings.{IsTyped, Rejects}
 use Rattle.bsv_flow.specs.Refusals.{refusal_line}
 use Rattle.bsv_top.specs.declared.answer.Stop.{Stop}
 use Rattle.bsv_top.specs.declared.answer.Stop.TheVariants as stop
@@ -31,8 +32,8 @@ decided_tells s h e = subst IsDecided e h
 module _ (words : List (List ℕ)) (contents : List ℕ → List ℕ) (file top trace : List ℕ) (out out' : Writing) where
   -- what is known where a run over these words stopped
   pub Known : Stop → Type 0
-  Known (stop.Refused r) = Refuses file contents r
-  Known stop.NotYet = (l : Loaded) × IsLoaded file contents l × ((m : Machine) → PlainLoaded top l m → ⊥)
+  Known (stop.Refused r) = Rejects file contents r
+  Known stop.NotYet = (l : Loaded) × IsTyped file contents l × ((m : Machine) → PlainLoaded top l m → ⊥)
   Known (stop.SourceUnread name) = Reaches file contents name
   Known stop.TraceUnread = (m : Machine) × IsPlain file top contents m
   Known stop.Unwritable = Unit {0}
@@ -40,8 +41,8 @@ module _ (words : List (List ℕ)) (contents : List ℕ → List ℕ) (file top 
   Known (stop.BadLine number) = (m : Machine) × IsPlain file top contents m × HasBadLine (contents trace) × (number ≡ clocks_of (contents trace) + 1) × HasReport m out (clocks_of (contents trace)) out'
 
   pub known : (s : Stop)
-      → ((r : Refusal) → s ≡ stop.Refused r → Refuses file contents r)
-      → (s ≡ stop.NotYet → (l : Loaded) × IsLoaded file contents l × ((m : Machine) → PlainLoaded top l m → ⊥))
+      → ((r : Refusal) → s ≡ stop.Refused r → Rejects file contents r)
+      → (s ≡ stop.NotYet → (l : Loaded) × IsTyped file contents l × ((m : Machine) → PlainLoaded top l m → ⊥))
       → ((name : List ℕ) → s ≡ stop.SourceUnread name → Reaches file contents name)
       → (s ≡ stop.TraceUnread → (m : Machine) × IsPlain file top contents m)
       → ((number : ℕ) → s ≡ stop.BadLine number → (m : Machine) × IsPlain file top contents m × HasBadLine (contents trace) × (number ≡ clocks_of (contents trace) + 1) × HasReport m out (clocks_of (contents trace)) out')

@@ -2,8 +2,10 @@ ghost use Rattle.std.specs.Prelude.{◌≡◌, ℕ, ◌+◌, ◌<◌, ◌≤◌,
 ghost use Rattle.bsv_io.specs.Faults.{MayFault};
 ghost use Rattle.bsv_io.specs.Reading.{current_name, rest};
 ghost use Rattle.bsv_io.specs.Writing.{AppendsPrefix};
-ghost use Rattle.bsv_flow.specs.Loads.{IsLoaded, Reaches, Refuses};
+ghost use Rattle.bsv_flow.specs.Loads.{Reaches};
+ghost use Rattle.bsv_flow.specs.Typings.{IsTyped, Rejects};
 ghost use Rattle.bsv_flow.specs.declared.loading.Loaded.{Loaded as TheLoaded};
+ghost use Rattle.bsv_flow.specs.declared.refusal.CompileFault.TheVariants as fault;
 ghost use Rattle.bsv_flow.specs.declared.refusal.Refusal.{Refusal as TheRefusal};
 ghost use Rattle.bsv_top.specs.Machines.{IsMachine};
 ghost use Rattle.bsv_top.specs.PlainPackages.{PlainLoaded, IsPlain};
@@ -22,7 +24,7 @@ use crate::report::write_opening;
 use crate::simulate::Halt;
 use crate::trace::Lines;
 use bsv_bits::{Name, OutOfMemory, Word};
-use bsv_flow::{CompileFault, Refusal, load};
+use bsv_flow::{CompileFault, Loaded, Refusal, load, typed};
 use bsv_io::{Failed, Files, Sink};
 use std::alloc::{AllocError, Global};
 
@@ -172,7 +174,28 @@ fn simulate<F: Files, O: Sink>(
     report_clocks(files, machine, &mut state, &mut next, &mut buffer, out)
 }
 
-/// Loads the file and what it imports, and runs their machine over the trace.
+/// Loads the file and what it imports, where it has a typing.
+fn load_typed<F: Files>(alloc: Global, files: &mut F, name: &str) -> Result<Loaded, CompileFault>
+    ensures loaded { IfOk result (λ l. (contents : List ℕ → List ℕ)
+        → (F.reading files.old).contents ≡ Some contents → IsTyped name.now contents l) }
+    ensures refused { (r : TheRefusal) → result ≡ Err (fault.Refused r) → (contents : List ℕ → List ℕ)
+        → (F.reading files.old).contents ≡ Some contents → Rejects name.now contents r }
+    ensures read_fault { (blamed : List ℕ) → result ≡ Err (fault.ReadFault blamed)
+        → MayFault (F.reading files.old).faults (F.reading files.new).faults
+        × ((F.reading files.new).blamed ≡ Some blamed) }
+    ensures reached { (blamed : List ℕ) → result ≡ Err (fault.ReadFault blamed) → (contents : List ℕ → List ℕ)
+        → (F.reading files.old).contents ≡ Some contents → Reaches name.now contents blamed }
+    ensures contents { (F.reading files.new).contents ≡ (F.reading files.old).contents }
+    ensures count { (F.reading files.old).faults ≤ (F.reading files.new).faults }
+    ensures kept { ((blamed : List ℕ) → result ≡ Err (fault.ReadFault blamed) → ⊥)
+        → (F.reading files.new).faults ≡ (F.reading files.old).faults }
+{
+    let loaded = load(alloc, files, name)?;
+    let _program = typed(alloc, &loaded)?;
+    Ok(loaded)
+}
+
+/// Loads the file and what it imports, types it, and runs its machine over the trace.
 pub(crate) fn answer<F: Files, O: Sink>(
     alloc: Global,
     form: Form<'_>,
@@ -189,10 +212,10 @@ pub(crate) fn answer<F: Files, O: Sink>(
         × HasBadLine (contents form.entry.trace.now) × (number ≡ clocks_of (contents form.entry.trace.now) + 1)
         × HasReport m (O.writing out.old) (clocks_of (contents form.entry.trace.now)) (O.writing out.new) }
     ensures refused { (r : TheRefusal) → result ≡ Err (Stop.Refused r) → (contents : List ℕ → List ℕ)
-        → (F.reading files.old).contents ≡ Some contents → Refuses form.entry.file.now contents r }
+        → (F.reading files.old).contents ≡ Some contents → Rejects form.entry.file.now contents r }
     ensures not_yet { result ≡ Err Stop.NotYet → (contents : List ℕ → List ℕ)
         → (F.reading files.old).contents ≡ Some contents
-        → (l : TheLoaded) × IsLoaded form.entry.file.now contents l
+        → (l : TheLoaded) × IsTyped form.entry.file.now contents l
         × ((m : TheMachine) → PlainLoaded form.entry.top.now l m → ⊥) }
     ensures source_unread { (name : List ℕ) → result ≡ Err (Stop.SourceUnread name)
         → MayFault (F.reading files.old).faults (F.reading files.new).faults
@@ -222,7 +245,7 @@ pub(crate) fn answer<F: Files, O: Sink>(
     ensures out_kept { (result ≡ Err Stop.Unwritable → ⊥)
         → (O.writing out.new).faults ≡ (O.writing out.old).faults }
 {
-    let loaded = load(alloc, files, form.file)?;
+    let loaded = load_typed(alloc, files, form.file)?;
     match machine_of(alloc, &loaded, form.top.as_bytes())? {
         None => Err(Stop::NotYet),
         Some(machine) => simulate(alloc, files, &machine, form.trace, out),

@@ -4,7 +4,6 @@ ghost use Rattle.bsv_top.specs.Machines.{IsMachine};
 ghost use Rattle.std.specs.Option.{option_map};
 ghost use Rattle.std.specs.List.{list_any};
 ghost use Rattle.std.specs.Str.{bytes_eq};
-ghost use Rattle.bsv_ast.specs.Names.{is_word};
 ghost use Rattle.bsv_top.specs.declared.machine.Register.{Register as TheRegister};
 ghost use Rattle.bsv_top.specs.declared.machine.Write.{Write as TheWrite};
 ghost use Rattle.bsv_top.specs.Parts as parts;
@@ -15,6 +14,7 @@ use crate::machine::{Condition, Machine, Register, Rule, Side, Write};
 use crate::node::{is_named, name_of, number_of, only, plain_number, sides_of, width_of};
 use bsv_ast::{
     Expr, Item, Items, Make, Module, ModuleStmt, Operator, Package, Place, Rule as RuleTree, Stmt,
+    is_word,
 };
 use bsv_bits::{Name, OutOfMemory, Word};
 use bsv_expr::text;
@@ -470,13 +470,6 @@ fn has_heading(top: &[u8], tree: &Module) -> bool
         && tree.params.is_empty()
         && tree.name.name.bytes() == top
         && is_named(b"Empty", &tree.interface)
-}
-
-/// Whether a byte is a letter, a digit or `_`.
-fn is_word(b: u8) -> bool
-    ensures { result ≡ is_word b }
-{
-    b.is_ascii_alphanumeric() || b == b'_'
 }
 
 /// Whether some bytes end with a byte of a name.

@@ -286,30 +286,12 @@ fn traces(rt: HostRuntime) -> Result<(), Fail> {
 #[test]
 fn modules_not_yet(rt: HostRuntime) -> Result<(), Fail> {
     let alloc = rt.alloc();
-    let bodies: [&str; 34] = [
+    let bodies: [&str; 18] = [
         // Two rules, and a register behind the rule.
         "Reg#(Bit#(4)) x <- mkReg(0); rule r; x <= 1; endrule rule s; endrule",
         "rule r; endrule Reg#(Bit#(4)) x <- mkReg(0);",
-        // Numbers that are too large for the width that they meet.
-        "Reg#(Bit#(4)) x <- mkReg(16);",
-        "Reg#(Bit#(4)) x <- mkReg(0); rule r (x < 16); endrule",
-        "Reg#(Bit#(4)) x <- mkReg(0); rule r; x <= 16; endrule",
-        "Reg#(Bit#(4)) x <- mkReg(0); rule r; x <= x + 16; endrule",
-        // Widths that no word has.
-        "Reg#(Bit#(129)) x <- mkReg(0);",
-        "Reg#(Bit#(0)) x <- mkReg(0);",
-        // Names that are no register.
-        "Reg#(Bit#(4)) x <- mkReg(0); rule r; y <= 1; endrule",
-        "Reg#(Bit#(4)) x <- mkReg(0); rule r; x <= y; endrule",
-        "Reg#(Bit#(4)) x <- mkReg(0); rule r; x <= x + y; endrule",
-        "Reg#(Bit#(4)) x <- mkReg(0); rule r (y < 1); endrule",
-        // A second write, a second register of one name.
+        // A second write.
         "Reg#(Bit#(4)) x <- mkReg(0); rule r; x <= 1; x <= 2; endrule",
-        "Reg#(Bit#(4)) x <- mkReg(0); Reg#(Bit#(5)) x <- mkReg(0);",
-        // Widths that differ.
-        "Reg#(Bit#(4)) x <- mkReg(0); Reg#(Bit#(5)) y <- mkReg(0); rule r; x <= y; endrule",
-        "Reg#(Bit#(4)) x <- mkReg(0); Reg#(Bit#(5)) y <- mkReg(0); rule r; x <= x + y; endrule",
-        "Reg#(Bit#(4)) x <- mkReg(0); Reg#(Bit#(5)) y <- mkReg(0); rule r; y <= x + 1; endrule",
         // Numbers that are not in decimal digits alone.
         "Reg#(Bit#(4)) x <- mkReg(4'd3);",
         "Reg#(Bit#(4)) x <- mkReg(1_0);",
@@ -326,9 +308,7 @@ fn modules_not_yet(rt: HostRuntime) -> Result<(), Fail> {
         "Reg#(Bit#(4)) x <- mkReg(0); rule r (True); endrule",
         "Reg#(Bit#(4)) x <- mkReg(0); rule r; x <= x + x + x; endrule",
         "Reg#(Bit#(4)) x <- mkRegU;",
-        "Reg#(Bit#(4)) x <- mkReg(0, 1);",
         "Reg#(Bool) x <- mkReg(False);",
-        "Wire#(Bit#(4)) x <- mkReg(0);",
     ];
     for (row, body) in bodies.iter().enumerate() {
         let source = module_of(alloc, body)?;
@@ -339,11 +319,127 @@ fn modules_not_yet(rt: HostRuntime) -> Result<(), Fail> {
     Ok(())
 }
 
+/// Each module body, as the one package of a design, is refused by its line.
+fn modules_refused<R: Threads + Sync + Abort>(
+    rt: &R,
+    alloc: Global,
+    rows: &[(&str, &[u8])],
+) -> Result<(), OutOfMemory> {
+    for (row, (body, text)) in rows.iter().enumerate() {
+        let source = module_of(alloc, body)?;
+        let files = [("T.bsv", source.as_slice())];
+        let seen = answer_of(rt, alloc, &["sim", "T.bsv", "mkT", "t"], sound(&files))?;
+        expect_seen(rt, row, &seen, Status::Refused, b"", text);
+    }
+    Ok(())
+}
+
+/// Designs that names and attributes refuse.
+#[test]
+fn names_and_attributes_refused(rt: HostRuntime) -> Result<(), Fail> {
+    let rows: [(&str, &[u8]); 7] = [
+        // Names that nothing defines.
+        (
+            "Reg#(Bit#(4)) x <- mkReg(0); rule r; y <= 1; endrule",
+            b"refused 7 UnknownName T.bsv:2:38\n",
+        ),
+        (
+            "Reg#(Bit#(4)) x <- mkReg(0); rule r; x <= y; endrule",
+            b"refused 7 UnknownName T.bsv:2:43\n",
+        ),
+        (
+            "Reg#(Bit#(4)) x <- mkReg(0); rule r; x <= x + y; endrule",
+            b"refused 7 UnknownName T.bsv:2:47\n",
+        ),
+        (
+            "Reg#(Bit#(4)) x <- mkReg(0); rule r (y < 1); endrule",
+            b"refused 7 UnknownName T.bsv:2:38\n",
+        ),
+        // A second register of one name comes before what does not fit.
+        (
+            "Reg#(Bit#(4)) x <- mkReg(0); Reg#(Bit#(5)) x <- mkReg(0);",
+            b"refused 8 TwiceDefined T.bsv:2:30\n",
+        ),
+        (
+            "Reg#(Bit#(4)) x <- mkReg(0); Reg#(Bit#(4)) x <- mkReg(16);",
+            b"refused 8 TwiceDefined T.bsv:2:30\n",
+        ),
+        // An attribute that the language does not have.
+        (
+            "Reg#(Bit#(4)) x <- mkReg(0); (* speed *) rule r; endrule",
+            b"refused 11 BadAttribute T.bsv:2:33\n",
+        ),
+    ];
+    modules_refused(&rt, rt.alloc(), &rows)?;
+    Ok(())
+}
+
+/// Designs that types and widths refuse.
+#[test]
+fn types_and_widths_refused(rt: HostRuntime) -> Result<(), Fail> {
+    let rows: [(&str, &[u8]); 12] = [
+        // Types and widths that differ.
+        (
+            "Reg#(Bit#(4)) x <- mkReg(0); Reg#(Bit#(5)) y <- mkReg(0); rule r; x <= y; endrule",
+            b"refused 9 TypeFault T.bsv:2:67\n",
+        ),
+        (
+            "Reg#(Bit#(4)) x <- mkReg(0); Reg#(Bit#(5)) y <- mkReg(0); rule r; x <= x + y; endrule",
+            b"refused 9 TypeFault T.bsv:2:67\n",
+        ),
+        (
+            "Reg#(Bit#(4)) x <- mkReg(0); Reg#(Bit#(5)) y <- mkReg(0); rule r; y <= x + 1; endrule",
+            b"refused 9 TypeFault T.bsv:2:67\n",
+        ),
+        (
+            "Reg#(Bit#(4)) x <- mkReg(0); Reg#(Bool) b <- mkReg(True); rule r; x <= b; endrule",
+            b"refused 9 TypeFault T.bsv:2:67\n",
+        ),
+        // Makers of other instances.
+        (
+            "Reg#(Bit#(4)) x <- mkReg(0, 1);",
+            b"refused 9 TypeFault T.bsv:2:1\n",
+        ),
+        (
+            "Wire#(Bit#(4)) x <- mkReg(0);",
+            b"refused 9 TypeFault T.bsv:2:1\n",
+        ),
+        // Numbers that are too large for the width that they meet.
+        (
+            "Reg#(Bit#(4)) x <- mkReg(16);",
+            b"refused 10 WidthFault T.bsv:2:1\n",
+        ),
+        (
+            "Reg#(Bit#(4)) x <- mkReg(0); rule r (x < 16); endrule",
+            b"refused 10 WidthFault T.bsv:2:30\n",
+        ),
+        (
+            "Reg#(Bit#(4)) x <- mkReg(0); rule r; x <= 16; endrule",
+            b"refused 10 WidthFault T.bsv:2:38\n",
+        ),
+        (
+            "Reg#(Bit#(4)) x <- mkReg(0); rule r; x <= x + 16; endrule",
+            b"refused 10 WidthFault T.bsv:2:38\n",
+        ),
+        // Widths that no word has.
+        (
+            "Reg#(Bit#(129)) x <- mkReg(0);",
+            b"refused 10 WidthFault T.bsv:2:1\n",
+        ),
+        (
+            "Reg#(Bit#(0)) x <- mkReg(0);",
+            b"refused 10 WidthFault T.bsv:2:1\n",
+        ),
+    ];
+    modules_refused(&rt, rt.alloc(), &rows)?;
+    Ok(())
+}
+
 /// Files that are packages, and more than the program runs yet.
 #[test]
 fn files_not_yet(rt: HostRuntime) -> Result<(), Fail> {
     let alloc = rt.alloc();
-    let rows: [(&str, &[u8]); 13] = [
+    let rows: [(&str, &[u8]); 12] = [
         ("mkB", COUNTER),
         ("mk", COUNTER),
         ("mkAA", COUNTER),
@@ -362,7 +458,6 @@ fn files_not_yet(rt: HostRuntime) -> Result<(), Fail> {
         ),
         ("mkT", b"(* synthesize *) module mkT(Empty); endmodule"),
         ("mkT", b"module mkT#(Bit#(4) n)(Empty); endmodule"),
-        ("mkT", b"module mkT(Void); endmodule"),
     ];
     for (row, (top, source)) in rows.iter().enumerate() {
         let files = [("A.bsv", *source), ("t", b"\n".as_slice())];
@@ -377,7 +472,7 @@ fn files_not_yet(rt: HostRuntime) -> Result<(), Fail> {
         ("A.bsv", b"".as_slice()),
     ];
     let seen = answer_of(&rt, alloc, &["sim", "T.bsv", "mkT", "t"], sound(&files))?;
-    expect_seen(&rt, 13, &seen, Status::Refused, b"", NOT_YET);
+    expect_seen(&rt, 12, &seen, Status::Refused, b"", NOT_YET);
     Ok(())
 }
 

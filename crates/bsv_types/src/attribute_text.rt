@@ -1,9 +1,10 @@
 ghost use Rattle.std.specs.Prelude.{◌≡◌, ◌≤◌, length, IfOk};
 ghost use Rattle.std.specs.List.{list_all, prefix_len};
 ghost use Rattle.std.specs.Option.{option_map};
-ghost use Rattle.bsv_ast.specs.Names.{begins_name, is_word};
+ghost use Rattle.bsv_ast.specs.Names as names_spec;
 ghost use Rattle.bsv_types.specs.AttributeTexts as spec;
 
+use bsv_ast::{begins_name, is_word};
 use bsv_bits::Name;
 use sqlite_items::Items;
 use std::alloc::{AllocError, Global};
@@ -21,23 +22,9 @@ pub enum Piece {
 /// Names, and the pieces behind them.
 type Names<'a> = (Items<Name>, &'a [Piece]);
 
-/// Whether a name may begin with the byte: a letter or `_`.
-pub fn begins_name(b: u8) -> bool
-    ensures { result ≡ begins_name b }
-{
-    b.is_ascii_alphabetic() || b == b'_'
-}
-
-/// Whether a word may have the byte: a letter, a digit or `_`.
-pub fn is_word(b: u8) -> bool
-    ensures { result ≡ is_word b }
-{
-    b.is_ascii_alphanumeric() || b == b'_'
-}
-
 /// How many bytes at the front go on with a word.
 fn word_len(bytes: &[u8]) -> usize
-    ensures value { result ≡ prefix_len is_word bytes.now }
+    ensures value { result ≡ prefix_len names_spec.is_word bytes.now }
     ensures within { result ≤ length bytes.now }
 {
     bytes.iter().take_while(|b| is_word(**b)).count()

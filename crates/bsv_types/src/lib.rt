@@ -31,7 +31,6 @@ mod types;
 mod widths;
 
 pub use asked::{Owner, attribute};
-pub use attribute_text::{begins_name, is_word};
 pub use attributes::Attribute;
 pub use definitions::{
     Body, Enum, Field, Function, Interface, MethodHeader, MethodResult, Param, Struct,

@@ -1,12 +1,21 @@
-use Rattle.std.proofs.Common.{ℕ, ◌∙◌, subst}
+use Rattle.std.proofs.Common.{rules, ◌≡◌, ℕ, Result, Err, ◌∙◌, subst}
 use Rattle.std.proofs.lemmas.Result.{on_ok_weaker}
 use Rattle.bsv_io.specs.Faults.{MayFault}
 use Rattle.bsv_io.specs.Writing.{AppendsPrefix}
+use Rattle.bsv_flow.specs.declared.loading.Loaded.{Loaded}
+use Rattle.bsv_flow.specs.declared.refusal.CompileFault.{CompileFault}
+use Rattle.bsv_flow.specs.declared.refusal.CompileFault.TheVariants as fault
 use Rattle.bsv_top.specs.declared.machine.Machine.{Machine}
 use Rattle.bsv_top.specs.Running.{report_so_far}
 use Rattle.bsv_top.specs.Traces.{clocks_of}
 use Rattle.bsv_top.proofs.Plains.{found_none, found_plain, plain_once}
 use Rattle.bsv_top.proofs.answer.answer.Goals as goal
+
+pub returns-in_err-loaded-clause-refused : goal.returns-in_err-loaded-clause-refused
+returns-in_err-loaded-clause-refused g c =
+    λ r h contents told.
+    let gave : ◌≡◌ {A = Result Loaded CompileFault} (Err c.in_err-loaded.field-0.0) (Err (fault.Refused r)) = search rules in
+    c.in_err-loaded.ensures.refused r gave contents told
 
 pub returns-in-None-clause-not_yet : goal.returns-in-None-clause-not_yet
 returns-in-None-clause-not_yet g c =

@@ -34,6 +34,31 @@ unfolding refusal_line
 returns-in-TooDeep-clause-ok g c =
     subst (λ (r : Refusal). OnOk c.put_placed-in-TooDeep.result (g.S.Sink.writing c.put_placed-in-TooDeep.new.sink ≡ appended (refusal_line r) (g.S.Sink.writing c.args.sink.now))) (sym c.in-TooDeep.is) c.put_placed-in-TooDeep.ensures.ok
 
+pub returns-in-UnknownName-clause-ok : goal.returns-in-UnknownName-clause-ok
+unfolding refusal_line
+returns-in-UnknownName-clause-ok g c =
+    subst (λ (r : Refusal). OnOk c.put_placed-in-UnknownName.result (g.S.Sink.writing c.put_placed-in-UnknownName.new.sink ≡ appended (refusal_line r) (g.S.Sink.writing c.args.sink.now))) (sym c.in-UnknownName.is) c.put_placed-in-UnknownName.ensures.ok
+
+pub returns-in-TwiceDefined-clause-ok : goal.returns-in-TwiceDefined-clause-ok
+unfolding refusal_line
+returns-in-TwiceDefined-clause-ok g c =
+    subst (λ (r : Refusal). OnOk c.put_placed-in-TwiceDefined.result (g.S.Sink.writing c.put_placed-in-TwiceDefined.new.sink ≡ appended (refusal_line r) (g.S.Sink.writing c.args.sink.now))) (sym c.in-TwiceDefined.is) c.put_placed-in-TwiceDefined.ensures.ok
+
+pub returns-in-TypeFault-clause-ok : goal.returns-in-TypeFault-clause-ok
+unfolding refusal_line
+returns-in-TypeFault-clause-ok g c =
+    subst (λ (r : Refusal). OnOk c.put_placed-in-TypeFault.result (g.S.Sink.writing c.put_placed-in-TypeFault.new.sink ≡ appended (refusal_line r) (g.S.Sink.writing c.args.sink.now))) (sym c.in-TypeFault.is) c.put_placed-in-TypeFault.ensures.ok
+
+pub returns-in-WidthFault-clause-ok : goal.returns-in-WidthFault-clause-ok
+unfolding refusal_line
+returns-in-WidthFault-clause-ok g c =
+    subst (λ (r : Refusal). OnOk c.put_placed-in-WidthFault.result (g.S.Sink.writing c.put_placed-in-WidthFault.new.sink ≡ appended (refusal_line r) (g.S.Sink.writing c.args.sink.now))) (sym c.in-WidthFault.is) c.put_placed-in-WidthFault.ensures.ok
+
+pub returns-in-BadAttribute-clause-ok : goal.returns-in-BadAttribute-clause-ok
+unfolding refusal_line
+returns-in-BadAttribute-clause-ok g c =
+    subst (λ (r : Refusal). OnOk c.put_placed-in-BadAttribute.result (g.S.Sink.writing c.put_placed-in-BadAttribute.new.sink ≡ appended (refusal_line r) (g.S.Sink.writing c.args.sink.now))) (sym c.in-BadAttribute.is) c.put_placed-in-BadAttribute.ensures.ok
+
 pub returns-in-Limit-clause-ok : goal.returns-in-Limit-clause-ok
 unfolding refusal_line
 returns-in-Limit-clause-ok g c =

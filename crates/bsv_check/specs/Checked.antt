@@ -1,0 +1,169 @@
+-- The typing of whole programs, with widths and fits left aside and with them, and the first refusal.
+use Rattle.std.specs.Prelude.{ℕ, ◌+◌, Bool, true, false, List, [], ◌∷◌, ◌++◌, Option, Some, None, Result, Ok, Err, length}
+use Rattle.bsv_ast.specs.declared.modules.Module.{Module as WrittenModule}
+use Rattle.bsv_ast.specs.declared.package.Function.{Function as WrittenFunction}
+use Rattle.bsv_ast.specs.declared.package.Item.{Item}
+use Rattle.bsv_ast.specs.declared.package.Item.TheVariants as item
+use Rattle.bsv_ast.specs.declared.package.Package.{Package}
+use Rattle.bsv_types.specs.declared.definitions.Enum.{Enum}
+use Rattle.bsv_types.specs.declared.definitions.Struct.{Struct}
+use Rattle.bsv_types.specs.declared.definitions.Interface.{Interface}
+use Rattle.bsv_types.specs.declared.definitions.Function.{Function}
+use Rattle.bsv_types.specs.declared.modules.Module.{Module}
+use Rattle.bsv_names.specs.PackageEvents.{items_of}
+use Rattle.bsv_names.specs.Faults.{in_package, first_twice, first_unknown}
+use Rattle.bsv_names.specs.Attributes.{first_bad_attribute}
+use Rattle.bsv_names.specs.declared.place.Place.{Place}
+use Rattle.bsv_typing.specs.Bodies.{Or, ◌>=>◌}
+use Rattle.bsv_check.specs.Programs.{Types, no_types, types_behind, Program, with_function, with_module, function_case, module_case}
+
+-- what a program is typed as
+pub record Made : Type 0 where
+  pub enums : List Enum
+  pub structs : List Struct
+  pub interfaces : List Interface
+  pub functions : List Function
+  pub modules : List Module
+
+-- ---- all definitions of a program
+
+module _ {A : Type 0} (step : Item → A → A) where
+  abbrev pub over_items : List Item → A → A
+  over_items [] x = x
+  over_items (i ∷ is) x = over_items is (step i x)
+
+  -- each item of each package, in load and text order
+  abbrev pub over_all : List Package → A → A
+  over_all [] x = x
+  over_all (p ∷ ps) x = over_all ps (over_items (items_of p) x)
+
+-- an item with a fault defines nothing
+abbrev pub or_kept : {A : Type 0} → Or A → A → A
+or_kept (Ok y) x = y
+or_kept (Err s) x = x
+
+unfoldable pub type_step : Item → Types → Types
+type_step i t = or_kept (types_behind i t) t
+
+unfoldable pub all_types : Bool → List Package → Types
+all_types strict ps = over_all type_step ps (no_types strict)
+
+abbrev pub headers_behind : Item → Program → Or Program
+headers_behind (item.Function s f) p = with_function p f
+headers_behind (item.Module s m) p = with_module p m
+headers_behind _ p = Ok p
+
+unfoldable pub header_step : Item → Program → Program
+header_step i p = or_kept (headers_behind i p) p
+
+abbrev pub no_headers : Types → Program
+no_headers t = record { types = t; functions = []; modules = [] }
+
+-- all types, and the headers of all functions and modules
+unfoldable pub all_headers : Bool → List Package → Program
+all_headers strict ps = over_all header_step ps (no_headers (all_types strict ps))
+
+-- ---- item by item
+
+-- what was typed so far: the types before the next item, functions and modules
+pub record Done : Type 0 where
+  pub types : Types
+  pub functions : List Function
+  pub modules : List Module
+
+abbrev pub nothing : Bool → Done
+nothing strict = record { types = no_types strict; functions = []; modules = [] }
+
+unfoldable pub function_step : Program → WrittenFunction → List Function → Or (List Function)
+function_step p f fs = function_case p (length fs) f >=> λ r. Ok (fs ++ r ∷ [])
+
+unfoldable pub module_step : Program → WrittenModule → List Module → Or (List Module)
+module_step p m ms = module_case p (length ms) m >=> λ r. Ok (ms ++ r ∷ [])
+
+unfoldable pub item_step : Program → Item → Done → Or Done
+item_step p (item.Function s f) d = function_step p f d.functions >=> λ fs. Ok (record d { functions = fs })
+item_step p (item.Module s m) d = module_step p m d.modules >=> λ ms. Ok (record d { modules = ms })
+item_step p i d = types_behind i d.types >=> λ t. Ok (record d { types = t })
+
+abbrev pub all_items : Program → List Item → Done → Or Done
+all_items p [] d = Ok d
+all_items p (i ∷ is) d = item_step p i d >=> all_items p is
+
+-- with the number of the package in which a fault stands
+abbrev pub AtPlace : Type 0 → Type 0
+AtPlace A = Result A Place
+
+abbrev pub placed : {A : Type 0} → ℕ → Or A → AtPlace A
+placed number (Ok x) = Ok x
+placed number (Err s) = Err (in_package number s)
+
+infixl 10 ◌>==◌
+abbrev pub ◌>==◌ : {A B : Type 0} → AtPlace A → (A → AtPlace B) → AtPlace B
+(Ok x) >== f = f x
+(Err p) >== f = Err p
+
+unfoldable pub package_step : Program → ℕ → Package → Done → AtPlace Done
+package_step p number x d = placed number (all_items p (items_of x) d)
+
+-- packages in load order, which are numbered from this number on
+abbrev pub all_packages : Program → ℕ → List Package → Done → AtPlace Done
+all_packages p number [] d = Ok d
+all_packages p number (x ∷ xs) d = package_step p number x d >== all_packages p (number + 1) xs
+
+abbrev pub made_of : Done → Made
+made_of d = record { enums = d.types.enums; structs = d.types.structs; interfaces = d.types.interfaces; functions = d.functions; modules = d.modules }
+
+-- the typing of a program, or the place of its first fault
+unfoldable pub typing : Bool → List Package → AtPlace Made
+typing strict ps = all_packages (all_headers strict ps) 0 ps (nothing strict) >== λ d. Ok (made_of d)
+
+-- widths and fits left aside
+abbrev pub loosely : List Package → AtPlace Made
+loosely ps = typing false ps
+
+abbrev pub strictly : List Package → AtPlace Made
+strictly ps = typing true ps
+
+-- ---- the first refusal
+
+-- a refusal of a program that is loaded
+pub data Refused : Type 0 where
+  twice_defined : Place → Refused
+  bad_attribute : Place → Refused
+  unknown_name : Place → Refused
+  type_fault : Place → Refused
+  width_fault : Place → Refused
+
+-- a fault of names or attributes: the first kind that occurs anywhere
+abbrev pub name_refusal : Option Place → Option Place → Option Place → Option Refused
+name_refusal (Some p) a u = Some (twice_defined p)
+name_refusal None (Some p) u = Some (bad_attribute p)
+name_refusal None None (Some p) = Some (unknown_name p)
+name_refusal None None None = None
+
+unfoldable pub refused_names : List Package → Option Refused
+refused_names ps = name_refusal (first_twice ps) (first_bad_attribute ps) (first_unknown ps)
+
+abbrev pub or_type_fault : AtPlace Made → Result Made Refused
+or_type_fault (Ok m) = Ok m
+or_type_fault (Err p) = Err (type_fault p)
+
+abbrev pub or_width_fault : AtPlace Made → Result Made Refused
+or_width_fault (Ok m) = Ok m
+or_width_fault (Err p) = Err (width_fault p)
+
+abbrev pub both : Result Made Refused → Result Made Refused → Result Made Refused
+both (Ok m) s = s
+both (Err r) s = Err r
+
+-- the program as it is typed strictly, where it has both typings
+unfoldable pub typed : List Package → Result Made Refused
+typed ps = both (or_type_fault (loosely ps)) (or_width_fault (strictly ps))
+
+abbrev pub unless_refused : Option Refused → Result Made Refused → Result Made Refused
+unless_refused None t = t
+unless_refused (Some r) t = Err r
+
+-- faults of names and attributes come before those of types, wherever they stand
+unfoldable pub checked : List Package → Result Made Refused
+checked ps = unless_refused (refused_names ps) (typed ps)

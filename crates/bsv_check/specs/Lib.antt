@@ -1,0 +1,7 @@
+pub mod Checked
+pub mod Growing
+pub mod Laws
+pub mod Modules
+pub mod Programs
+pub mod Rightness
+pub mod Seen

@@ -1,0 +1,32 @@
+//! Checking: a program that is loaded to its typed tree, or the first refusal.
+//!
+//! Modules in reading order: `fault` (why there is no typed tree), `site` (what the statements of a module may
+//! name), `params` (parameters), `named` (names that come once), `attributes` (what attributes ask for), `makers`
+//! (what makes an instance), `elements` (bodies, rules and methods), `module_statements` (the statements of
+//! modules), `definitions` (types), `program` (functions and modules), `counted` (lists that numbers of 32 bits
+//! name), `law` (what the typing promises), `checking` (whole programs).
+//!
+//! The definition is `specs/Checked.antt` (the first refusal, and the typed program), over `specs/Programs.antt`
+//! (types, functions and modules) and `specs/Modules.antt` (the statements of modules). `specs/Rightness.antt` says
+//! what is promised of a typed program, and `specs/Seen.antt` what the definitions see of the code.
+#![tactic(auto)]
+
+mod attributes;
+mod checking;
+mod counted;
+mod definitions;
+mod elements;
+mod fault;
+mod law;
+mod makers;
+mod module_statements;
+mod named;
+mod params;
+mod program;
+mod site;
+#[cfg(test)]
+mod tests;
+
+pub use checking::check;
+pub use fault::CheckFault;
+pub use law::programs_are_right;

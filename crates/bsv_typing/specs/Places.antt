@@ -1,0 +1,133 @@
+-- Names, and what stands behind them: instances, their methods, fields, bits (Bluespec reference guide,
+-- "Member selection", "Bit selection" and "Method calls").
+use Rattle.std.specs.Prelude.{ℕ, ◌+◌, ◌-◌, min, nat_le, nat_lt, Bool, true, false, not, ◌&&◌, ◌||◌, List, [], ◌∷◌, Option, Some, None, codes, if◌then◌else◌}
+use Rattle.std.specs.Str.{bytes_eq}
+use Rattle.bsv_types.specs.declared.operators.Op.TheVariants as op
+use Rattle.bsv_types.specs.declared.types.PartTy.TheVariants as part_type
+use Rattle.bsv_types.specs.declared.expressions.Expr.{Expr, Variable, Method}
+use Rattle.bsv_types.specs.declared.expressions.Place.{Place, roll-Place}
+use Rattle.bsv_types.specs.Kinds.{Kind, bit, integer, part, bare, is_interface, type_of}
+use Rattle.bsv_types.specs.Shapes.{counted}
+use Rattle.bsv_types.specs.Operators.{◌>>=◌}
+use Rattle.bsv_types.specs.Methods.{Signature, Effect, value, methods}
+use Rattle.bsv_types.specs.Expressions.{Slot, one, many}
+use Rattle.bsv_typing.specs.Operands.{Made, Operand}
+use Rattle.bsv_typing.specs.Env.{Limits, applied}
+use Rattle.bsv_typing.specs.Forms.{arguments, field_named, function_case}
+
+-- an instance: its place, and its interface
+pub record Instance : Type 0 where
+  pub level : ℕ
+  pub index : Option Expr
+  pub kind : Kind
+
+-- what stands in front of a suffix
+pub data Front : Type 0 where
+  whole : Made → Front
+  instance : Instance → Front
+  array : ℕ → Kind → Front
+
+-- the instance that stands there
+abbrev pub the_instance : Front → Option Instance
+the_instance (instance i) = Some i
+the_instance _ = None
+
+abbrev pub place_of : Instance → Place
+place_of i = roll-Place (record { level = i.level; index = i.index })
+
+-- the method of this name, by its number
+abbrev pub method_from : ℕ → List ℕ → List Signature → Option (ℕ × Signature)
+method_from number name [] = None
+method_from number name (m ∷ ms) = if bytes_eq name m.name then Some (number, m) else method_from (number + 1) name ms
+
+unfoldable pub method_named : Limits → Kind → List ℕ → Option (ℕ × Signature)
+method_named g k name = method_from 0 name (methods g.shapes k)
+
+abbrev pub value_of : Effect → Option Kind
+value_of (value k) = Some k
+value_of _ = None
+
+-- a call of a value method
+abbrev pub method_call : Instance → ℕ → Kind → List Expr → Made
+method_call i number k ms = record { kind = k; expr = Method (type_of k) (place_of i) number ms }
+
+unfoldable pub call_of : Instance → ℕ × Signature → List Operand → Option Made
+call_of i m xs = value_of m.1.effect >>= λ k. arguments m.1.params xs >>= λ ms. Some (method_call i m.0 k ms)
+
+-- a register, a wire or a pulse wire is read where its name stands
+abbrev pub is_read : Kind → Bool
+is_read (part part_type.Reg k) = true
+is_read (part part_type.Wire k) = true
+is_read (bare part_type.PulseWire) = true
+is_read _ = false
+
+unfoldable pub read : Limits → Instance → Option Made
+read g i = if is_read i.kind then (method_named g i.kind (codes "_read") >>= λ m. call_of i m []) else None
+
+unfoldable pub value_at : Limits → Front → Option Made
+value_at g (whole m) = Some m
+value_at g (instance i) = read g i
+value_at g (array level k) = None
+
+abbrev pub variable_front : ℕ → Slot → Front
+variable_front level (many k) = array level k
+variable_front level (one k) =
+    if is_interface k then instance (record { level = level; index = None; kind = k })
+    else whole (record { kind = k; expr = Variable (type_of k) level })
+
+-- a Lower name without a `(` behind it: the variable of that name, else a function without arguments
+unfoldable pub name_front : Option (ℕ × Slot) → Option (ℕ × List Kind × Kind) → Option Front
+name_front (Some v) function = Some (variable_front v.0 v.1)
+name_front None function = function_case function [] None >>= λ m. Some (whole m)
+
+unfoldable pub field_of : Limits → List ℕ → Made → Option Front
+field_of g name m = field_named g m.kind name >>= λ f. Some (whole (applied f.1 (op.Field f.0 ∷ []) (m.expr ∷ [])))
+
+abbrev pub called : Option Made → Option Front
+called m = m >>= λ x. Some (whole x)
+
+-- `.m`: a value method without arguments; else a field, of a register or a wire that of its read
+unfoldable pub member_behind : Limits → List ℕ → Front → Option Front
+member_behind g name (instance i) = by (method_named g i.kind name) where
+  by : Option (ℕ × Signature) → Option Front
+  by (Some m) = called (call_of i m [])
+  by None = read g i >>= field_of g name
+member_behind g name (whole m) = field_of g name m
+member_behind g name (array level k) = None
+
+-- `.m(args)`
+unfoldable pub method_behind : Limits → List ℕ → List Operand → Front → Option Front
+method_behind g name xs (instance i) = method_named g i.kind name >>= λ m. called (call_of i m xs)
+method_behind g name xs _ = None
+
+-- the bit of this place
+unfoldable pub bit_of : Operand → Made → Option Front
+bit_of x m = by m.kind where
+  by : Kind → Option Front
+  by (bit n) = x.check (Some integer) >>= λ i. Some (whole (applied (bit 1) (op.Index ∷ []) (m.expr ∷ i.expr ∷ [])))
+  by _ = None
+
+-- `[i]`: a place of an array, or a bit
+unfoldable pub index_behind : Limits → Operand → Front → Option Front
+index_behind g x (array level k) = x.check (Some integer) >>= λ i. Some (instance (record { level = level; index = Some i.expr; kind = k }))
+index_behind g x f = value_at g f >>= bit_of x
+
+-- the width of the bits from l to h. Where l is above h it is no width: it is counted down from the greatest
+-- number of 32 bits, so that no type that a source can name has it
+abbrev pub slice_width : ℕ → ℕ → ℕ
+slice_width h l = if nat_le l h then min (h - l + 1) 4294967295 else 4294967294 - min (l - h - 1) 2147483647
+
+abbrev pub slice_fits : Limits → ℕ → ℕ → ℕ → Bool
+slice_fits g h l n = not g.strict || (nat_le l h && nat_lt h n)
+
+-- the bits from l to h. The numbers of a slice that fits are what they are; greater ones count as the greatest
+-- of 32 bits
+unfoldable pub bits_of : Limits → ℕ → ℕ → Made → Option Front
+bits_of g h l m = by m.kind where
+  by : Kind → Option Front
+  by (bit n) = if slice_fits g h l n then Some (whole (applied (bit (slice_width h l)) (op.Slice (counted h) (counted l) ∷ []) (m.expr ∷ []))) else None
+  by _ = None
+
+-- `[h:l]`, of unsized literals
+unfoldable pub slice_behind : Limits → Option ℕ → Option ℕ → Front → Option Front
+slice_behind g high low f = high >>= λ h. low >>= λ l. value_at g f >>= bits_of g h l

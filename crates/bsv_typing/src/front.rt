@@ -1,0 +1,330 @@
+ghost use Rattle.std.specs.Prelude.{◌≡◌, [], Some, IfOk, option_map, min};
+ghost use Rattle.bsv_types.specs.Kinds.{kind};
+ghost use Rattle.bsv_types.specs.Shapes.{counted};
+ghost use Rattle.bsv_typing.specs.Forms as forms;
+ghost use Rattle.bsv_typing.specs.Forms.{field_from, field_named};
+ghost use Rattle.bsv_typing.specs.Places as spec;
+ghost use Rattle.bsv_typing.specs.Typing.{ordered_front};
+ghost use Rattle.bsv_typing.specs.Seen.{Gives, limits, made, instance_of, front_of, field_of, variable, header, method_of, variable_named, function_named};
+
+use crate::classes::is_interface;
+use crate::context::{Context, FunctionHeader, Slot, Variable};
+use crate::fail::Fail;
+use crate::made::{Made, applied_to_one, called};
+use crate::methods::{FoundMethod, Params, method_named};
+use bsv_bits::Name;
+use bsv_scopes::Scopes;
+use bsv_types::{Boxed, Expr, Field, Items, Op, PartTy, Place, Ty};
+use std::alloc::{AllocError, Global};
+
+/// An instance: its place, and its interface.
+#[derive(Drop)]
+pub struct Instance {
+    pub level: u32,
+    /// Its place in its array, where it stands in one.
+    pub index: Option<Boxed<Expr>>,
+    pub ty: Ty,
+}
+
+/// What stands in front of a suffix.
+#[derive(Drop)]
+pub(crate) enum Front {
+    Whole(Made),
+    Instance(Instance),
+    Array(u32, Ty),
+}
+
+/// A place in a list that is kept in a `u32`. A list with a place that no `u32` holds has no room in memory.
+pub fn place_number(place: usize) -> Result<u32, Fail>
+    ensures { Gives (λ n. n) result (Some place) }
+{
+    match u32::try_from(place) {
+        Ok(number) => Ok(number),
+        Err(_) => Err(Fail::Memory),
+    }
+}
+
+/// A call of the value method of this number, which gives a value of the type.
+#[tactic(auto, using(crate::proofs::Lists::types_back))]
+pub(crate) fn method_call(
+    alloc: Global,
+    instance: Instance,
+    number: usize,
+    ty: Ty,
+    operands: Items<Expr>,
+) -> Result<Made, Fail>
+    ensures { Gives made result (Some (spec.method_call (instance_of instance) number (kind ty) operands)) }
+{
+    let number = place_number(number)?;
+    let own = ty.copy(alloc)?;
+    let place = Place {
+        level: instance.level,
+        index: instance.index,
+    };
+    Ok(Made {
+        ty,
+        expr: Expr::Method(own, place, number, operands),
+    })
+}
+
+/// Whether an instance of the type is read where its name stands.
+fn is_read(ty: &Ty) -> bool
+    ensures { result ≡ spec.is_read (kind ty.now) }
+{
+    matches!(
+        ty,
+        Ty::Part(PartTy::Reg, Some(_))
+            | Ty::Part(PartTy::Wire, Some(_))
+            | Ty::Part(PartTy::PulseWire, None)
+    )
+}
+
+/// A call of a value method without arguments.
+#[tactic(auto, unfolding(crate::specs::Places::call_of, crate::specs::Forms::arguments))]
+fn plain_call(alloc: Global, instance: Instance, method: FoundMethod<'_>) -> Result<Made, Fail>
+    ensures { Gives made result (spec.call_of (instance_of instance) (method_of method.entry) []) }
+{
+    let ty = method.effect.value_type(alloc)?;
+    match method.params.split_first() {
+        Some(_) => Err(Fail::Fault),
+        None => method_call(alloc, instance, method.number, ty, Items::new(alloc)),
+    }
+}
+
+/// The read of a register, a wire or a pulse wire.
+#[tactic(auto, unfolding(crate::specs::Places::read))]
+pub(crate) fn read(alloc: Global, context: &Context, instance: Instance) -> Result<Made, Fail>
+    ensures { Gives made result (spec.read (limits context.now) (instance_of instance)) }
+{
+    if !is_read(&instance.ty) {
+        return Err(Fail::Fault);
+    }
+    let ty = instance.ty.copy(alloc)?;
+    match method_named(context, &ty, b"_read") {
+        Some(method) => plain_call(alloc, instance, method),
+        None => Err(Fail::Fault),
+    }
+}
+
+/// The value of what stands in front of a suffix, or alone.
+#[tactic(auto, unfolding(crate::specs::Places::value_at))]
+pub(crate) fn value_at(alloc: Global, context: &Context, front: Front) -> Result<Made, Fail>
+    ensures { Gives made result (spec.value_at (limits context.now) (front_of front)) }
+{
+    match front {
+        Front::Whole(typed) => Ok(typed),
+        Front::Instance(instance) => read(alloc, context, instance),
+        Front::Array(_, _) => Err(Fail::Fault),
+    }
+}
+
+/// What stands in front, if the type that it has is in order.
+pub(crate) fn in_order_front(context: &Context, front: Front) -> Result<Front, Fail>
+    ensures { Gives front_of result (ordered_front (limits context.now) (Some (front_of front))) }
+{
+    match front {
+        Front::Whole(typed) => Ok(Front::Whole(context.in_order(typed)?)),
+        Front::Instance(instance) => Ok(Front::Instance(instance)),
+        Front::Array(level, ty) => Ok(Front::Array(level, ty)),
+    }
+}
+
+/// A variable where its name stands.
+#[tactic(auto, using(crate::proofs::Lists::types_back))]
+fn variable_front(alloc: Global, found: &Variable) -> Result<Front, AllocError>
+    ensures { IfOk result (λ f. front_of f ≡ spec.variable_front (variable found.now).0 (variable found.now).1) }
+{
+    let level = found.level;
+    match &found.slot {
+        Slot::Many(ty) => Ok(Front::Array(level, ty.copy(alloc)?)),
+        Slot::One(ty) => {
+            let own = ty.copy(alloc)?;
+            if is_interface(ty) {
+                Ok(Front::Instance(Instance {
+                    level,
+                    index: None,
+                    ty: own,
+                }))
+            } else {
+                let expr = Expr::Variable(ty.copy(alloc)?, level);
+                Ok(Front::Whole(Made { ty: own, expr }))
+            }
+        }
+    }
+}
+
+/// A call of a function without arguments.
+#[tactic(auto, unfolding(crate::specs::Forms::function_case, crate::specs::Forms::arguments))]
+fn plain_function(alloc: Global, function: &FunctionHeader) -> Result<Made, Fail>
+    ensures { Gives made result (forms.function_case (Some (header function.now)) [] None) }
+{
+    let params = Params::Types(function.params.as_slice());
+    if params.split_first().is_some() {
+        return Err(Fail::Fault);
+    }
+    let arguments = Items::new(alloc);
+    Ok(called(alloc, &function.result, function.number, arguments)?)
+}
+
+/// What a name stands for: the variable, else a function without arguments.
+#[tactic(auto, using(crate::proofs::Layers::layers), unfolding(crate::specs::Env::variable_in, crate::specs::Places::name_front, crate::specs::Forms::function_case))]
+pub(crate) fn name_front(
+    alloc: Global,
+    context: &Context,
+    variables: &Scopes<Variable>,
+    name: &Name,
+) -> Result<Front, Fail>
+    ensures { Gives front_of result (spec.name_front (variable_named variables.now name.now) (function_named context.now name.now)) }
+{
+    if let Some(variable) = variables.find(name) {
+        return Ok(variable_front(alloc, variable)?);
+    }
+    match context.function(name) {
+        Some(function) => Ok(Front::Whole(plain_function(alloc, function)?)),
+        None => Err(Fail::Fault),
+    }
+}
+
+/// The field of the name, by its place.
+fn field_from<'a>(fields: &'a [Field], name: &[u8]) -> Option<(usize, &'a Ty)>
+    ensures { option_map field_of result ≡ field_from 0 name.now fields.now }
+{
+    for (number, field) in fields.iter().enumerate() {
+        if name == field.name.bytes() {
+            return Some((number, &field.ty));
+        }
+    }
+    None
+}
+
+/// The field of the name of a struct, by its place.
+#[tactic(auto, unfolding(crate::specs::Forms::field_named))]
+pub(crate) fn field_named<'a>(context: &'a Context, ty: &Ty, name: &[u8]) -> Option<(usize, &'a Ty)>
+    ensures { option_map field_of result ≡ field_named (limits context.now) (kind ty.now) name.now }
+{
+    match ty {
+        Ty::Struct(number) => match context.structs.get(*number as usize) {
+            Some(structure) => field_from(structure.fields.as_slice(), name),
+            None => None,
+        },
+        _ => None,
+    }
+}
+
+/// The field of the name of a typed expression.
+#[tactic(auto, unfolding(crate::specs::Places::field_of))]
+fn field_behind(alloc: Global, context: &Context, name: &[u8], typed: Made) -> Result<Front, Fail>
+    ensures { Gives front_of result (spec.field_of (limits context.now) name.now (made typed)) }
+{
+    let Some((place, ty)) = field_named(context, &typed.ty, name) else {
+        return Err(Fail::Fault);
+    };
+    let op = Op::Field(place_number(place)?);
+    let ty = ty.copy(alloc)?;
+    Ok(Front::Whole(applied_to_one(alloc, ty, op, typed.expr)?))
+}
+
+/// `.m` behind an instance.
+#[tactic(auto, unfolding(crate::specs::Places::member_behind))]
+fn member_of_instance(
+    alloc: Global,
+    context: &Context,
+    name: &[u8],
+    instance: Instance,
+) -> Result<Front, Fail>
+    ensures { Gives front_of result (spec.member_behind (limits context.now) name.now (spec.instance (instance_of instance))) }
+{
+    let ty = instance.ty.copy(alloc)?;
+    match method_named(context, &ty, name) {
+        Some(method) => Ok(Front::Whole(plain_call(alloc, instance, method)?)),
+        None => {
+            let typed = read(alloc, context, instance)?;
+            field_behind(alloc, context, name, typed)
+        }
+    }
+}
+
+/// `.m`: a value method without arguments, else a field.
+#[tactic(auto, unfolding(crate::specs::Places::member_behind))]
+pub(crate) fn member_behind(
+    alloc: Global,
+    context: &Context,
+    name: &[u8],
+    front: Front,
+) -> Result<Front, Fail>
+    ensures { Gives front_of result (spec.member_behind (limits context.now) name.now (front_of front)) }
+{
+    match front {
+        Front::Instance(instance) => member_of_instance(alloc, context, name, instance),
+        Front::Whole(typed) => field_behind(alloc, context, name, typed),
+        Front::Array(_, _) => Err(Fail::Fault),
+    }
+}
+
+/// The width of the bits from low to high.
+fn slice_width(high: u128, low: u128) -> u32
+    ensures { result ≡ spec.slice_width high low }
+{
+    if low <= high {
+        capped((high - low).saturating_add(1), 4_294_967_295)
+    } else {
+        4_294_967_294 - capped(low - high - 1, 2_147_483_647)
+    }
+}
+
+/// A number, or the limit where that is less.
+pub(crate) fn capped(number: u128, limit: u32) -> u32
+    ensures { result ≡ min number limit }
+{
+    match u32::try_from(number) {
+        Ok(number) => number.min(limit),
+        Err(_) => limit,
+    }
+}
+
+/// Whether bits of a Bit of the width may be named so.
+fn slice_fits(context: &Context, high: u128, low: u128, width: u32) -> bool
+    ensures { result ≡ spec.slice_fits (limits context.now) high low width }
+{
+    !context.strict || (low <= high && high < u128::from(width))
+}
+
+/// The bits from low to high.
+#[tactic(auto, unfolding(crate::specs::Places::bits_of))]
+fn bits_of(
+    alloc: Global,
+    context: &Context,
+    high: u128,
+    low: u128,
+    typed: Made,
+) -> Result<Front, Fail>
+    ensures { Gives front_of result (spec.bits_of (limits context.now) high low (made typed)) }
+{
+    let Ty::Bit(width) = typed.ty else {
+        return Err(Fail::Fault);
+    };
+    if !slice_fits(context, high, low, width) {
+        return Err(Fail::Fault);
+    }
+    let op = Op::Slice(capped(high, u32::MAX), capped(low, u32::MAX));
+    let ty = Ty::Bit(slice_width(high, low));
+    Ok(Front::Whole(applied_to_one(alloc, ty, op, typed.expr)?))
+}
+
+/// `[h:l]`, of unsized literals.
+#[tactic(auto, unfolding(crate::specs::Places::slice_behind))]
+pub(crate) fn slice_behind(
+    alloc: Global,
+    context: &Context,
+    high: Option<u128>,
+    low: Option<u128>,
+    front: Front,
+) -> Result<Front, Fail>
+    ensures { Gives front_of result (spec.slice_behind (limits context.now) high low (front_of front)) }
+{
+    let (Some(high), Some(low)) = (high, low) else {
+        return Err(Fail::Fault);
+    };
+    let typed = value_at(alloc, context, front)?;
+    bits_of(alloc, context, high, low, typed)
+}
