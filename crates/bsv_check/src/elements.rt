@@ -17,7 +17,7 @@ use bsv_ast::{
 use bsv_bits::Name;
 use bsv_scopes::Scopes;
 use bsv_types::{
-    Body, Expr as Typed, Items, Method, MethodResult, ModuleStmt, Owner, Param, Rule,
+    Body, Boxed, Expr as Typed, Items, Method, MethodResult, ModuleStmt, Owner, Param, Rule,
     Stmt as TypedStmt, Ty,
 };
 use bsv_typing::{
@@ -25,6 +25,7 @@ use bsv_typing::{
     place_number, returns, statements, written_effect,
 };
 use std::alloc::Global;
+use std::mem::replace;
 
 /// A body that gives a value of the type.
 fn value_body(
@@ -180,11 +181,12 @@ fn rule_whole(
     }
     let name = Name::new(alloc, written.name.name.bytes())?;
     let condition = guard(alloc, site, scopes, span, &written.condition)?;
+    let condition = Boxed::new(alloc, condition)?;
     let body = rule_body(alloc, site, scopes, written.body.as_slice())?;
     Ok(Rule {
         name,
         attributes,
-        condition,
+        condition: condition.into_inner(),
         body,
     })
 }
@@ -199,8 +201,8 @@ pub(crate) fn rule(
 ) -> Result<ModuleStmt, BodyFail>
     ensures { GivesAt (λ x. (state_of state.new, x)) result (spec.rule_case (site_of site.now) span written.now (state_of state.old)) }
 {
-    let typed = rule_whole(alloc, site, &mut state.scopes, span, written)?;
     let number = at(span, place_number(state.rules.len()))?;
+    let typed = rule_whole(alloc, site, &mut state.scopes, span, written)?;
     state.rules.push(typed)?;
     Ok(ModuleStmt::Rule(number))
 }
@@ -299,15 +301,18 @@ fn method_whole(
     ensures { GivesAt (λ m. (shown scopes.new, m)) result (spec.method_at (site_of site.now) span written.now (method_of found.entry).1 (shown scopes.old)) }
 {
     let name = Name::new(alloc, written.name.name.bytes())?;
-    let (params, result) = method_header(alloc, site, span, written, found)?;
+    let header = Boxed::new(alloc, method_header(alloc, site, span, written, found)?)?;
     let condition = guard(alloc, site, scopes, span, &written.condition)?;
+    let condition = Boxed::new(alloc, condition)?;
+    let (params, does) = header.get();
     let given = params.as_slice();
-    let body = method_body(alloc, site, scopes, span, given, &result, &written.body)?;
+    let body = method_body(alloc, site, scopes, span, given, does, &written.body)?;
+    let (params, result) = header.into_inner();
     Ok(Method {
         name,
         params,
         result,
-        condition,
+        condition: condition.into_inner(),
         body,
     })
 }
@@ -317,7 +322,8 @@ fn stand(methods: &mut Vec<Option<Method>>, number: usize, method: Method)
     requires { number < vec_len methods.old }
     ensures { methods.new.items ≡ slice_set methods.old.items number (Some method) }
 {
-    methods[number] = Some(method);
+    // What stood there is dropped by a call, in one step.
+    drop(replace(&mut methods[number], Some(method)));
 }
 
 /// A method.

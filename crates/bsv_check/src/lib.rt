@@ -9,6 +9,9 @@
 //! The definition is `specs/Checked.antt` (the first refusal, and the typed program), over `specs/Programs.antt`
 //! (types, functions and modules) and `specs/Modules.antt` (the statements of modules). `specs/Rightness.antt` says
 //! what is promised of a typed program, and `specs/Seen.antt` what the definitions see of the code.
+//!
+//! What is held while something may still fail stands in a `Boxed`: an early end then drops it in one step, which
+//! keeps the proof of the function short.
 #![tactic(auto)]
 
 mod attributes;
@@ -24,8 +27,6 @@ mod named;
 mod params;
 mod program;
 mod site;
-#[cfg(test)]
-mod tests;
 
 pub use checking::check;
 pub use fault::CheckFault;

@@ -18,7 +18,7 @@ use bsv_bits::Name;
 use bsv_scopes::Scopes;
 use bsv_types::{Boxed as TypedBox, Expr as Typed, Items, ModuleBranch, ModuleStmt, Ty};
 use bsv_typing::{
-    BodyFail, Slot, Task, Variable, assignable, at, checked, declare, declared_type, head,
+    BodyFail, Made, Slot, Task, Variable, assignable, at, checked, declare, declared_type, head,
     is_interface, is_lower, written_type,
 };
 use std::alloc::Global;
@@ -105,7 +105,7 @@ fn array(
     ensures { GivesAt (λ x. (state_of state.new, x)) result (spec.array_case (site_of site.now) span written.now name.now.name length.now (state_of state.old)) }
 {
     let ty = interface(alloc, site, span, written)?;
-    let count = count(alloc, site, &state.scopes, span, length)?;
+    let count = TypedBox::new(alloc, count(alloc, site, &state.scopes, span, length)?)?;
     let own = lower_name(alloc, span, name)?;
     declare(
         alloc,
@@ -114,7 +114,7 @@ fn array(
         &name.name,
         Slot::Many(ty.copy(alloc)?),
     )?;
-    Ok(ModuleStmt::Array(ty, own, count))
+    Ok(ModuleStmt::Array(ty, own, count.into_inner()))
 }
 
 /// An array of instances: its level, and the interface of its instances.
@@ -150,9 +150,10 @@ fn place(
 {
     let scopes = &state.scopes;
     let typed = site.of_type(alloc, scopes, span, index, &Ty::Integer)?;
+    let typed = TypedBox::new(alloc, typed)?;
     let (level, ty) = array_named(alloc, scopes, span, &name.name)?;
     let made = make(alloc, site, scopes, span, maker, &ty)?;
-    Ok(ModuleStmt::Place(level, typed, made))
+    Ok(ModuleStmt::Place(level, typed.into_inner(), made))
 }
 
 /// A variable of the module.
@@ -175,10 +176,12 @@ fn variable(
     let want = declared_type(alloc, &task, span, &declaration.declared)?;
     let value = &declaration.value;
     let typed = checked(alloc, &task, &state.scopes, span, value, want.as_ref())?;
+    let typed = TypedBox::new(alloc, typed)?;
     let own = lower_name(alloc, span, &declaration.name)?;
-    let slot = Slot::One(typed.ty.copy(alloc)?);
+    let slot = Slot::One(typed.get().ty.copy(alloc)?);
     declare(alloc, span, &mut state.scopes, &declaration.name.name, slot)?;
-    Ok(ModuleStmt::Declare(typed.ty, own, typed.expr))
+    let Made { ty, expr } = typed.into_inner();
+    Ok(ModuleStmt::Declare(ty, own, expr))
 }
 
 /// A value for a variable of the module.
@@ -358,11 +361,15 @@ fn arms(
     let mut left = tests.into_iter();
     let mut rest = written;
     while let Some(condition) = left.next() {
+        let condition = TypedBox::new(alloc, condition)?;
         let Some((branch, after)) = rest.split_first() else {
             return Ok(found);
         };
         let arm = behind_condition(alloc, site, state, branch)?;
-        found.push(ModuleBranch { condition, arm })?;
+        found.push(ModuleBranch {
+            condition: condition.into_inner(),
+            arm,
+        })?;
         rest = after;
     }
     Ok(found)
@@ -425,9 +432,10 @@ fn repeat(
         base: 0,
     };
     let typed_head = head(alloc, &task, &mut state.scopes, span, heading)?;
-    let typed = nested(alloc, site, state, body)?;
+    let typed_head = TypedBox::new(alloc, typed_head)?;
+    let typed = TypedBox::new(alloc, nested(alloc, site, state, body)?)?;
     state.scopes.close();
-    Ok(ModuleStmt::For(typed_head, TypedBox::new(alloc, typed)?))
+    Ok(ModuleStmt::For(typed_head.into_inner(), typed))
 }
 
 /// A statement that stands directly in the body of the module.

@@ -23,7 +23,7 @@ use bsv_ast::{
 use bsv_bits::Name;
 use bsv_scopes::{Scope, Scopes};
 use bsv_types::{
-    Body, Function, Items, Method, MethodResult, Module, ModuleStmt, Owner, Param, Rule, Ty,
+    Body, Boxed, Function, Items, Method, MethodResult, Module, ModuleStmt, Owner, Param, Rule, Ty,
 };
 use bsv_typing::{
     BodyFail, Context, FoundMethod, FunctionHeader, Variable, at, is_interface, is_lower,
@@ -191,20 +191,16 @@ pub(crate) fn function(
     ensures kept { program_of program.new ≡ program_of program.old }
 {
     let span = written.span;
-    let (params, result) = function_heading(alloc, program, written)?;
+    let heading = Boxed::new(alloc, function_heading(alloc, program, written)?)?;
     if !is_function(program, &written.name.name, number) {
         return Err(BodyFail::At(span));
     }
     program.context.callable = number;
-    let body = function_body(
-        alloc,
-        program,
-        span,
-        params.as_slice(),
-        &result,
-        &written.body,
-    )?;
     let name = Name::new(alloc, written.name.name.bytes())?;
+    let (params, gives) = heading.get();
+    let given = params.as_slice();
+    let body = function_body(alloc, program, span, given, gives, &written.body)?;
+    let (params, result) = heading.into_inner();
     Ok(Function {
         name,
         params,
@@ -475,13 +471,15 @@ pub(crate) fn module(
 {
     let span = written.span;
     let attributes = asked(alloc, span, Owner::Module, written.attributes.as_slice())?;
-    let (params, interface) = module_heading(alloc, program, written)?;
+    let heading = Boxed::new(alloc, module_heading(alloc, program, written)?)?;
     if !is_module(program, &written.name.name, number) {
         return Err(BodyFail::At(span));
     }
     program.context.callable = at(span, place_number(program.context.functions.len()))?;
-    let parts = module_parts(alloc, program, &interface, written, params.as_slice())?;
+    let (params, interface) = heading.get();
+    let parts = module_parts(alloc, program, interface, written, params.as_slice())?;
     let name = Name::new(alloc, written.name.name.bytes())?;
+    let (params, interface) = heading.into_inner();
     Ok(Module {
         name,
         attributes,

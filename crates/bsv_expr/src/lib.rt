@@ -7,6 +7,9 @@
 //! Modules in reading order: `lexeme` (a token as the grammar sees it), `fault` (why nothing was
 //! read), `input` (a word, a name, a number), `operators` (the operators and their levels),
 //! `reader` (a reader for each nonterminal), `extent` (the longest expression).
+//!
+//! An expression that is held while something may still fail stands in a `Boxed`: an early end then
+//! drops it in one step, which keeps the proof of the function short.
 #![tactic(auto)]
 
 mod extent;

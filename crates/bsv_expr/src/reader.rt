@@ -314,11 +314,9 @@ fn group<'a>(
 {
     let (open, rest) = expect(Terminal::OpenParen, lexemes)?;
     let (inner, rest) = expr(alloc, source, rest, depth, false)?;
+    let inner = Boxed::new(alloc, inner)?;
     let (close, rest) = expect(Terminal::CloseParen, rest)?;
-    Ok((
-        Expr::Group(to(open, close), Boxed::new(alloc, inner)?),
-        rest,
-    ))
+    Ok((Expr::Group(to(open, close), inner), rest))
 }
 
 /// `"{" exprs "}"`
@@ -397,13 +395,16 @@ fn bracketed<'a>(
 {
     let (open, rest) = expect(Terminal::OpenBracket, lexemes)?;
     let (first, rest) = expr(alloc, source, rest, depth, false)?;
+    let first = Boxed::new(alloc, first)?;
     if !starts(&[Terminal::Colon], rest) {
         let (close, rest) = expect(Terminal::CloseBracket, rest)?;
-        return Ok((Suffix::Index(to(open, close), first), rest));
+        return Ok((Suffix::Index(to(open, close), first.into_inner()), rest));
     }
     let (_, rest) = expect(Terminal::Colon, rest)?;
     let (second, rest) = expr(alloc, source, rest, depth, false)?;
+    let second = Boxed::new(alloc, second)?;
     let (close, rest) = expect(Terminal::CloseBracket, rest)?;
+    let (first, second) = (first.into_inner(), second.into_inner());
     Ok((Suffix::Slice(to(open, close), first, second), rest))
 }
 
@@ -668,15 +669,17 @@ fn choice<'a>(
 {
     let mut conditions = Items::new(alloc);
     let mut values = Items::new(alloc);
-    let (mut last, mut rest) = chain(alloc, source, &LEVELS, lexemes, depth, soft)?;
+    let (first, mut rest) = chain(alloc, source, &LEVELS, lexemes, depth, soft)?;
+    let mut last = Boxed::new(alloc, first)?;
     for _turn in 0..rest.len() {
         if !starts(&[Terminal::Question], rest) {
             break;
         }
         match arm(alloc, source, rest, depth, soft) {
             Ok(((value, next), after)) => {
-                conditions.push(last)?;
+                let next = Boxed::new(alloc, next)?;
                 values.push(value)?;
+                conditions.push(last.into_inner())?;
                 last = next;
                 rest = after;
             }
@@ -684,7 +687,7 @@ fn choice<'a>(
             Err(fault) => return Err(fault),
         }
     }
-    Ok((choice_of(conditions, values, last)?, rest))
+    Ok((choice_of(conditions, values, last.into_inner())?, rest))
 }
 
 /// The words with which an expression begins.

@@ -5,6 +5,9 @@
 //! functions), `simple_module` (statements of a module that hold no other), `rules` (rules, methods
 //! and functions), `definitions` (types, interfaces and imports), `modules`, `items` (files),
 //! `depth` (how many brackets are open at once), `answer` (the public call).
+//!
+//! A piece of the tree that is held while something may still fail stands in a `Boxed`: an early
+//! end then drops it in one step, which keeps the proof of the function short.
 #![tactic(auto)]
 
 mod answer;

@@ -75,11 +75,12 @@ fn boxed(alloc: Global, found: Option<ModuleStmt>) -> Result<Option<Boxed<Module
 }
 
 /// The loop of this head and this body.
-fn for_of(alloc: Global, head: Head, body: ModuleStmt) -> Result<ModuleStmt, AllocError>
+fn for_of(alloc: Global, head: Boxed<Head>, body: ModuleStmt) -> Result<ModuleStmt, AllocError>
     ensures { IfOk result (λ x. x ≡ trees.for_of head body) }
 {
-    let span = to(head.span, body.span());
-    Ok(ModuleStmt::For(span, head, Boxed::new(alloc, body)?))
+    let span = to(head.get().span, body.span());
+    let body = Boxed::new(alloc, body)?;
+    Ok(ModuleStmt::For(span, head.into_inner(), body))
 }
 
 /// A statement of a module in which fewer than `depth` blocks are open at once.
@@ -216,11 +217,12 @@ fn branch<'a>(
 {
     let (start, rest) = expect(Terminal::If, lexemes)?;
     let (condition, rest) = asked(alloc, source, rest, depth)?;
+    let condition = Boxed::new(alloc, condition)?;
     let (arm, rest) = arm(alloc, source, rest, depth)?;
     let span = to(start, arm.span());
     let branch = ModuleBranch {
         span,
-        condition,
+        condition: condition.into_inner(),
         arm,
     };
     Ok((branch, rest))
@@ -357,6 +359,7 @@ fn inner_for<'a>(
     ensures { Gives (λ x. (x.0, x.1.now)) result (within source.now depth grammar.inner_for lexemes.now) }
 {
     let (head, rest) = head(alloc, source, lexemes, depth)?;
+    let head = Boxed::new(alloc, head)?;
     let (body, rest) = arm_or_if(alloc, source, rest, depth)?;
     Ok((for_of(alloc, head, body)?, rest))
 }
@@ -390,6 +393,7 @@ fn for_stmt<'a>(
     ensures { Gives (λ x. (x.0, x.1.now)) result (within source.now depth grammar.for_stmt lexemes.now) }
 {
     let (head, rest) = head(alloc, source, lexemes, depth)?;
+    let head = Boxed::new(alloc, head)?;
     let (body, rest) = for_body(alloc, source, rest, depth)?;
     Ok((for_of(alloc, head, body)?, rest))
 }
@@ -483,10 +487,13 @@ pub fn module_whole<'a>(
     let (name, rest) = name(alloc, source, Terminal::Lower, rest)?;
     let (params, rest) = module_params(alloc, source, rest, depth)?;
     let (interface, rest) = given_type(alloc, source, rest, depth)?;
+    let front = Boxed::new(alloc, (attributes, name, params, interface))?;
     let (_, rest) = expect(Terminal::Semicolon, rest)?;
     let (body, rest) = mstmts(alloc, source, rest, depth)?;
     let (close, rest) = expect(Terminal::EndModule, rest)?;
-    let (close, rest) = ending(source, Terminal::Lower, name.name.bytes(), close, rest)?;
+    let named = front.get().1.name.bytes();
+    let (close, rest) = ending(source, Terminal::Lower, named, close, rest)?;
+    let (attributes, name, params, interface) = front.into_inner();
     let span = to(start_of(&attributes, start), close);
     let module = Module {
         span,

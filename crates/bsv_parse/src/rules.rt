@@ -6,7 +6,7 @@ use crate::attributes::{groups, start_of};
 use crate::bodies::{asked, body, ending, stmts};
 use crate::params::{bracketed_params, optional_params};
 use crate::types::written;
-use bsv_ast::{Expr, Function, Ident, Method, Rule, Span, WrittenType};
+use bsv_ast::{Boxed, Expr, Function, Ident, Method, Rule, Span, WrittenType};
 use bsv_expr::{Lexeme, ReadFault, expect, name, starts, to};
 use bsv_lex::Terminal;
 use std::alloc::Global;
@@ -47,10 +47,13 @@ pub fn rule<'a>(
     let (start, rest) = expect(Terminal::Rule, rest)?;
     let (name, rest) = name(alloc, source, Terminal::Lower, rest)?;
     let (condition, rest) = rule_condition(alloc, source, rest, depth)?;
+    let front = Boxed::new(alloc, (attributes, name, condition))?;
     let (_, rest) = expect(Terminal::Semicolon, rest)?;
     let (body, rest) = stmts(alloc, source, rest, depth)?;
     let (close, rest) = expect(Terminal::EndRule, rest)?;
-    let (close, rest) = ending(source, Terminal::Lower, name.name.bytes(), close, rest)?;
+    let named = front.get().1.name.bytes();
+    let (close, rest) = ending(source, Terminal::Lower, named, close, rest)?;
+    let (attributes, name, condition) = front.into_inner();
     let span = to(start_of(&attributes, start), close);
     let rule = Rule {
         span,
@@ -108,18 +111,22 @@ pub fn method<'a>(
     ensures { Gives (λ x. (x.0, x.1.now)) result (part source.now depth grammar.method lexemes.now) }
 {
     let first = Terminal::Method;
-    let ((start, (result, name)), rest) = header(alloc, source, first, lexemes, depth)?;
+    let ((start, front), rest) = header(alloc, source, first, lexemes, depth)?;
+    let front = Boxed::new(alloc, front)?;
     let (params, rest) = optional_params(alloc, source, rest, depth)?;
     let (condition, rest) = method_condition(alloc, source, rest, depth)?;
+    let condition = Boxed::new(alloc, condition)?;
     let last = Terminal::EndMethod;
-    let ((body, close), rest) = body(alloc, source, last, name.name.bytes(), rest, depth)?;
+    let named = front.get().1.name.bytes();
+    let ((body, close), rest) = body(alloc, source, last, named, rest, depth)?;
+    let (result, name) = front.into_inner();
     let span = to(start, close);
     let method = Method {
         span,
         result,
         name,
         params,
-        condition,
+        condition: condition.into_inner(),
         body,
     };
     Ok((method, rest))
@@ -136,10 +143,13 @@ pub fn function<'a>(
     ensures { Gives (λ x. (x.0, x.1.now)) result (part source.now depth grammar.function lexemes.now) }
 {
     let first = Terminal::Function;
-    let ((start, (result, name)), rest) = header(alloc, source, first, lexemes, depth)?;
+    let ((start, front), rest) = header(alloc, source, first, lexemes, depth)?;
+    let front = Boxed::new(alloc, front)?;
     let (params, rest) = bracketed_params(alloc, source, rest, depth)?;
     let last = Terminal::EndFunction;
-    let ((body, close), rest) = body(alloc, source, last, name.name.bytes(), rest, depth)?;
+    let named = front.get().1.name.bytes();
+    let ((body, close), rest) = body(alloc, source, last, named, rest, depth)?;
+    let (result, name) = front.into_inner();
     let span = to(start, close);
     let function = Function {
         span,

@@ -6,7 +6,7 @@ ghost use Rattle.bsv_parse.specs.StatementTrees as trees;
 
 use crate::types::written;
 use bsv_ast::{
-    Call, Condition, Declaration, DeclaredType, Expr, Head, Ident, Items, Place, Span, Stmt,
+    Boxed, Call, Condition, Declaration, DeclaredType, Expr, Head, Ident, Items, Place, Span, Stmt,
 };
 use bsv_expr::{
     Lexeme, ReadFault, arguments, expect, expr, name, refusal, same_terminal, starts, text, to,
@@ -174,10 +174,11 @@ fn write<'a>(
 ) -> Result<(Stmt, &'a [Lexeme]), ReadFault>
     ensures { Gives (λ x. (x.0, x.1.now)) result (part source.now depth (grammar.write place) lexemes.now) }
 {
+    let place = Boxed::new(alloc, place)?;
     let (_, rest) = expect(Terminal::LessEqual, lexemes)?;
     let ((value, end), rest) = ended(alloc, source, rest, depth)?;
-    let span = to(place.span(), end);
-    Ok((Stmt::Write(span, place, value), rest))
+    let span = to(place.get().span(), end);
+    Ok((Stmt::Write(span, place.into_inner(), value), rest))
 }
 
 /// A call behind its place, and a `;`.
@@ -191,10 +192,13 @@ fn call_end<'a>(
 ) -> Result<(Stmt, &'a [Lexeme]), ReadFault>
     ensures { Gives (λ x. (x.0, x.1.now)) result (part source.now depth (grammar.call_end place) lexemes.now) }
 {
-    let ((method, found), rest) = called(alloc, source, lexemes, depth)?;
+    let place = Boxed::new(alloc, place)?;
+    let (found, rest) = called(alloc, source, lexemes, depth)?;
+    let found = Boxed::new(alloc, found)?;
     let (end, rest) = expect(Terminal::Semicolon, rest)?;
-    let span = to(place.span(), end);
-    let call = call_of(alloc, place, method, found);
+    let span = to(place.get().span(), end);
+    let (method, found) = found.into_inner();
+    let call = call_of(alloc, place.into_inner(), method, found);
     Ok((Stmt::Call(span, call), rest))
 }
 
@@ -298,16 +302,18 @@ fn given<'a>(
     ensures { Gives (λ x. (x.0, x.1.now)) result (part source.now depth (grammar.given (declared, name)) lexemes.now) }
 {
     let start = declared.span();
+    let declared = Boxed::new(alloc, declared)?;
     if starts(&[Terminal::LeftArrow], lexemes) {
         let ((call, end), rest) = bound(alloc, source, lexemes, depth)?;
-        return Ok((Stmt::Bind(to(start, end), declared, name, call), rest));
+        let span = to(start, end);
+        return Ok((Stmt::Bind(span, declared.into_inner(), name, call), rest));
     }
     let (_, rest) = expect(Terminal::Equal, lexemes)?;
     let ((value, end), rest) = ended(alloc, source, rest, depth)?;
     let span = to(start, end);
     let declaration = Declaration {
         span,
-        declared,
+        declared: declared.into_inner(),
         name,
         value,
     };
@@ -410,11 +416,14 @@ fn heading<'a>(
 {
     let (_, rest) = word(source, Terminal::Upper, b"Integer", lexemes)?;
     let (first, rest) = assignment(alloc, source, rest, depth)?;
+    let first = Boxed::new(alloc, first)?;
     let (_, rest) = expect(Terminal::Semicolon, rest)?;
     let (condition, rest) = expr(alloc, source, rest, depth, false)?;
+    let condition = Boxed::new(alloc, condition)?;
     let (_, rest) = expect(Terminal::Semicolon, rest)?;
     let (step, rest) = assignment(alloc, source, rest, depth)?;
-    Ok(((first, (condition, step)), rest))
+    let found = (first.into_inner(), (condition.into_inner(), step));
+    Ok((found, rest))
 }
 
 /// `"for" "(" "Integer" Lower "=" expr ";" expr ";" Lower "=" expr ")"`
@@ -429,10 +438,10 @@ pub fn head<'a>(
 {
     let (start, rest) = expect(Terminal::For, lexemes)?;
     let (_, rest) = expect(Terminal::OpenParen, rest)?;
-    let (((variable, first), (condition, (stepped, step))), rest) = heading(
-        alloc, source, rest, depth,
-    )?;
+    let (found, rest) = heading(alloc, source, rest, depth)?;
+    let found = Boxed::new(alloc, found)?;
     let (close, rest) = expect(Terminal::CloseParen, rest)?;
+    let ((variable, first), (condition, (stepped, step))) = found.into_inner();
     let head = Head {
         span: to(start, close),
         variable,

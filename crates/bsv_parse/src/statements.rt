@@ -137,11 +137,12 @@ fn case_of(alloc: Global, span: Span, found: Cases) -> Result<Stmt, AllocError>
 }
 
 /// The loop of this head and this body.
-fn for_of(alloc: Global, head: Head, body: Stmt) -> Result<Stmt, AllocError>
+fn for_of(alloc: Global, head: Boxed<Head>, body: Stmt) -> Result<Stmt, AllocError>
     ensures { IfOk result (λ x. x ≡ trees.for_of head body) }
 {
-    let span = to(head.span, body.span());
-    Ok(Stmt::For(span, head, Boxed::new(alloc, body)?))
+    let span = to(head.get().span, body.span());
+    let body = Boxed::new(alloc, body)?;
+    Ok(Stmt::For(span, head.into_inner(), body))
 }
 
 /// The arm of a `case` with these labels.
@@ -245,12 +246,13 @@ fn branch<'a>(
     let (start, rest) = expect(Terminal::If, lexemes)?;
     let (_, rest) = expect(Terminal::OpenParen, rest)?;
     let (condition, rest) = condition(alloc, source, rest, depth)?;
+    let condition = Boxed::new(alloc, condition)?;
     let (_, rest) = expect(Terminal::CloseParen, rest)?;
     let (arm, rest) = arm(alloc, source, rest, depth)?;
     let span = to(start, arm.span());
     let branch = Branch {
         span,
-        condition,
+        condition: condition.into_inner(),
         arm,
     };
     Ok((branch, rest))
@@ -348,6 +350,7 @@ fn inner_for<'a>(
     ensures { Gives (λ x. (x.0, x.1.now)) result (within source.now depth grammar.inner_for lexemes.now) }
 {
     let (head, rest) = head(alloc, source, lexemes, depth)?;
+    let head = Boxed::new(alloc, head)?;
     let (body, rest) = arm_or_if(alloc, source, rest, depth)?;
     Ok((for_of(alloc, head, body)?, rest))
 }
@@ -381,6 +384,7 @@ fn for_stmt<'a>(
     ensures { Gives (λ x. (x.0, x.1.now)) result (within source.now depth grammar.for_stmt lexemes.now) }
 {
     let (head, rest) = head(alloc, source, lexemes, depth)?;
+    let head = Boxed::new(alloc, head)?;
     let (body, rest) = for_body(alloc, source, rest, depth)?;
     Ok((for_of(alloc, head, body)?, rest))
 }
@@ -459,11 +463,12 @@ fn case_inside<'a>(
 {
     let (_, rest) = expect(Terminal::OpenParen, lexemes)?;
     let (subject, rest) = expr(alloc, source, rest, depth, false)?;
+    let subject = Boxed::new(alloc, subject)?;
     let (_, rest) = expect(Terminal::CloseParen, rest)?;
     let (arms, rest) = case_arms(alloc, source, rest, depth)?;
     let (otherwise, rest) = default_arm(alloc, source, rest, depth)?;
     let found = Cases {
-        subject,
+        subject: subject.into_inner(),
         arms,
         otherwise,
     };
@@ -483,8 +488,10 @@ fn case_stmt<'a>(
 {
     let (open, rest) = expect(Terminal::Case, lexemes)?;
     let (found, rest) = case_inside(alloc, source, rest, depth)?;
+    let found = Boxed::new(alloc, found)?;
     let (close, rest) = expect(Terminal::EndCase, rest)?;
-    Ok((case_of(alloc, to(open, close), found)?, rest))
+    let stmt = case_of(alloc, to(open, close), found.into_inner())?;
+    Ok((stmt, rest))
 }
 
 /// `simple | block | if | for | case`

@@ -222,7 +222,8 @@ pub fn called(
 ) -> Result<MethodCall, BodyFail>
     ensures { GivesAt called_of result (spec.called (task_of task.now) (shown scopes.now) span (instance_of instance) name.now given.now) }
 {
-    let interface = instance.ty.copy(alloc)?;
+    let instance = Boxed::new(alloc, instance)?;
+    let interface = instance.get().ty.copy(alloc)?;
     let Some(found) = method_named(task.context, &interface, name) else {
         return Err(BodyFail::At(span));
     };
@@ -231,7 +232,7 @@ pub fn called(
     let operands = arguments(alloc, task.context, scopes, given, found.params);
     let arguments = at(span, operands)?;
     Ok(MethodCall {
-        instance,
+        instance: instance.into_inner(),
         method,
         effect,
         arguments,

@@ -143,9 +143,11 @@ fn arm(
     ensures { GivesAt (λ b. (shown scopes.new, b)) result (spec.arm_case span (opening_of opening) (spec.arm_of (task_of task.now) branch.now).run (shown scopes.old)) }
 {
     let Opening { condition, bound } = opening;
+    let condition = Boxed::new(alloc, condition)?;
     open_arm(alloc, span, scopes, bound)?;
     let arm = statement(alloc, task, scopes, &branch.arm)?;
     scopes.close();
+    let condition = condition.into_inner();
     Ok(TypedBranch { condition, arm })
 }
 
@@ -207,10 +209,10 @@ fn repeat(
 ) -> Result<Typed, BodyFail>
     ensures { GivesAt (λ x. (shown scopes.new, x)) result (spec.for_case (task_of task.now) span written.now (spec.stmt_run (task_of task.now) body.now) (shown scopes.old)) }
 {
-    let head = head(alloc, task, scopes, span, written)?;
-    let typed = statement(alloc, task, scopes, body)?;
+    let head = Boxed::new(alloc, head(alloc, task, scopes, span, written)?)?;
+    let body = Boxed::new(alloc, statement(alloc, task, scopes, body)?)?;
     scopes.close();
-    Ok(Typed::For(head, Boxed::new(alloc, typed)?))
+    Ok(Typed::For(head.into_inner(), body))
 }
 
 /// The arm of a `case` behind its labels.
@@ -265,9 +267,9 @@ fn case(
 ) -> Result<Typed, BodyFail>
     ensures { GivesAt (λ x. (shown scopes.new, x)) result (spec.case_case (task_of task.now) span subject.now (map (spec.labelled_of (task_of task.now)) arms.now) (option_map (spec.stmt_run (task_of task.now)) otherwise.now) (shown scopes.old)) }
 {
-    let typed = checked(alloc, task, scopes, span, subject, None)?;
-    let labels = labels_of(alloc, task, scopes, span, &typed.ty, arms)?;
+    let typed = Boxed::new(alloc, checked(alloc, task, scopes, span, subject, None)?)?;
+    let labels = labels_of(alloc, task, scopes, span, &typed.get().ty, arms)?;
     let found = cases(alloc, task, scopes, labels, arms)?;
     let last = last_arm(alloc, task, scopes, otherwise)?;
-    Ok(Typed::Case(typed.expr, found, last))
+    Ok(Typed::Case(typed.into_inner().expr, found, last))
 }

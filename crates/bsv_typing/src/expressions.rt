@@ -227,12 +227,13 @@ fn around(
 ) -> Result<(Ty, Items<Typed>), Fail>
     ensures { Gives agreed result (sharing.around (all_seen context.now variables.now front.now) (seen context.now variables.now operand.now ∷ all_seen context.now variables.now after.now)) }
 {
-    let typed = typing(alloc, context, variables, operand, None)?;
-    let mut found = all_as(alloc, context, variables, front, &typed.ty)?;
-    let rest = all_as(alloc, context, variables, after, &typed.ty)?;
-    found.push(typed.expr)?;
+    let Made { ty, expr } = typing(alloc, context, variables, operand, None)?;
+    let operand = Boxed::new(alloc, expr)?;
+    let mut found = all_as(alloc, context, variables, front, &ty)?;
+    let rest = all_as(alloc, context, variables, after, &ty)?;
+    found.push(operand.into_inner())?;
     found.append(rest)?;
-    Ok((typed.ty, found))
+    Ok((ty, found))
 }
 
 /// Operands of the type of the first that is not open.
@@ -415,14 +416,14 @@ fn shift(
     let Some((left, rights)) = operands.split_first() else {
         return Err(Fail::Fault);
     };
-    let typed = typing(alloc, context, variables, left, want)?;
+    let Made { ty, expr } = typing(alloc, context, variables, left, want)?;
+    let mut found = one(alloc, expr)?;
     let rest = amounts(alloc, context, variables, rights)?;
-    if !has_family(&typed.ty) {
+    if !has_family(&ty) {
         return Err(Fail::Fault);
     }
-    let mut found = one(alloc, typed.expr)?;
     found.append(rest)?;
-    context.in_order(applied(alloc, typed.ty, ops, found)?)
+    context.in_order(applied(alloc, ty, ops, found)?)
 }
 
 /// `<`, `<=`, `>` and `>=`.
@@ -668,12 +669,13 @@ fn truncate(
     let Some(ty) = want else {
         return Err(Fail::Fault);
     };
-    let typed = typing(alloc, context, variables, operand, None)?;
-    if !narrows(&typed.ty, ty) {
+    let typed = Boxed::new(alloc, typing(alloc, context, variables, operand, None)?)?;
+    if !narrows(&typed.get().ty, ty) {
         return Err(Fail::Fault);
     }
     let own = ty.copy(alloc)?;
-    Ok(applied_to_one(alloc, own, Op::Truncate, typed.expr)?)
+    let operand = typed.into_inner().expr;
+    Ok(applied_to_one(alloc, own, Op::Truncate, operand)?)
 }
 
 /// `zeroExtend(e)` and `signExtend(e)`.
@@ -692,12 +694,13 @@ fn extend(
     let Some(ty) = want else {
         return Err(Fail::Fault);
     };
-    let typed = typing(alloc, context, variables, operand, None)?;
-    if !widens(&typed.ty, ty) {
+    let typed = Boxed::new(alloc, typing(alloc, context, variables, operand, None)?)?;
+    if !widens(&typed.get().ty, ty) {
         return Err(Fail::Fault);
     }
     let own = ty.copy(alloc)?;
-    Ok(applied_to_one(alloc, own, extension, typed.expr)?)
+    let operand = typed.into_inner().expr;
+    Ok(applied_to_one(alloc, own, extension, operand)?)
 }
 
 /// `unpack(e)`.
@@ -718,8 +721,8 @@ fn unpack(
     let Some(width) = context.width(ty) else {
         return Err(Fail::Fault);
     };
-    let typed = typing(alloc, context, variables, operand, Some(&Ty::Bit(width)))?;
     let own = ty.copy(alloc)?;
+    let typed = typing(alloc, context, variables, operand, Some(&Ty::Bit(width)))?;
     Ok(applied_to_one(alloc, own, Op::Unpack, typed.expr)?)
 }
 
@@ -741,8 +744,8 @@ fn from_integer(
     if !has_family(ty) {
         return Err(Fail::Fault);
     }
-    let typed = typing(alloc, context, variables, operand, Some(&Ty::Integer))?;
     let own = ty.copy(alloc)?;
+    let typed = typing(alloc, context, variables, operand, Some(&Ty::Integer))?;
     Ok(applied_to_one(alloc, own, Op::FromInteger, typed.expr)?)
 }
 
@@ -800,12 +803,13 @@ fn valid_value(
 ) -> Result<Made, Fail>
     ensures { Gives made result (spec.valid_value_case (seen context.now variables.now operand.now) (expected want.entry)) }
 {
-    let typed = typing(alloc, context, variables, operand, None)?;
-    let Some(held) = payload(&typed.ty) else {
+    let typed = Boxed::new(alloc, typing(alloc, context, variables, operand, None)?)?;
+    let Some(held) = payload(&typed.get().ty) else {
         return Err(Fail::Fault);
     };
     let ty = held.copy(alloc)?;
-    as_wanted(want, applied_to_one(alloc, ty, Op::ValidValue, typed.expr)?)
+    let operand = typed.into_inner().expr;
+    as_wanted(want, applied_to_one(alloc, ty, Op::ValidValue, operand)?)
 }
 
 /// `fromMaybe(d, e)`: the Maybe decides the type of the default.
@@ -821,15 +825,16 @@ fn from_maybe(
 ) -> Result<Made, Fail>
     ensures { Gives made result (spec.from_maybe_case (seen context.now variables.now default.now) (seen context.now variables.now operand.now) (expected want.entry)) }
 {
-    let typed = typing(alloc, context, variables, operand, None)?;
-    let Some(held) = payload(&typed.ty) else {
+    let typed = Boxed::new(alloc, typing(alloc, context, variables, operand, None)?)?;
+    let Some(held) = payload(&typed.get().ty) else {
         return Err(Fail::Fault);
     };
-    let other = typing(alloc, context, variables, default, Some(held))?;
     let ty = held.copy(alloc)?;
+    let other = typing(alloc, context, variables, default, Some(held))?;
+    let operand = typed.into_inner().expr;
     as_wanted(
         want,
-        applied_to_two(alloc, ty, Op::FromMaybe, other.expr, typed.expr)?,
+        applied_to_two(alloc, ty, Op::FromMaybe, other.expr, operand)?,
     )
 }
 
@@ -1068,12 +1073,14 @@ fn method_behind(
     let Front::Instance(instance) = front else {
         return Err(Fail::Fault);
     };
-    let interface = instance.ty.copy(alloc)?;
+    let instance = Boxed::new(alloc, instance)?;
+    let interface = instance.get().ty.copy(alloc)?;
     let Some(method) = method_named(context, &interface, name) else {
         return Err(Fail::Fault);
     };
     let ty = method.effect.value_type(alloc)?;
     let operands = arguments(alloc, context, variables, given, method.params)?;
+    let instance = instance.into_inner();
     Ok(Front::Whole(method_call(alloc, instance, method.number, ty, operands)?))
 }
 
@@ -1115,10 +1122,12 @@ fn bit_of(
 ) -> Result<Front, Fail>
     ensures { Gives front_of result (places.bit_of (seen context.now variables.now place.now) (made typed)) }
 {
-    if bit_width(&typed.ty).is_none() {
+    let typed = Boxed::new(alloc, typed)?;
+    if bit_width(&typed.get().ty).is_none() {
         return Err(Fail::Fault);
     }
     let index = typing(alloc, context, variables, place, Some(&Ty::Integer))?;
-    let bit = applied_to_two(alloc, Ty::Bit(1), Op::Index, typed.expr, index.expr)?;
+    let operand = typed.into_inner().expr;
+    let bit = applied_to_two(alloc, Ty::Bit(1), Op::Index, operand, index.expr)?;
     Ok(Front::Whole(bit))
 }

@@ -216,12 +216,14 @@ pub(crate) fn field_named<'a>(context: &'a Context, ty: &Ty, name: &[u8]) -> Opt
 fn field_behind(alloc: Global, context: &Context, name: &[u8], typed: Made) -> Result<Front, Fail>
     ensures { Gives front_of result (spec.field_of (limits context.now) name.now (made typed)) }
 {
-    let Some((place, ty)) = field_named(context, &typed.ty, name) else {
+    let typed = Boxed::new(alloc, typed)?;
+    let Some((place, ty)) = field_named(context, &typed.get().ty, name) else {
         return Err(Fail::Fault);
     };
     let op = Op::Field(place_number(place)?);
     let ty = ty.copy(alloc)?;
-    Ok(Front::Whole(applied_to_one(alloc, ty, op, typed.expr)?))
+    let operand = typed.into_inner().expr;
+    Ok(Front::Whole(applied_to_one(alloc, ty, op, operand)?))
 }
 
 /// `.m` behind an instance.

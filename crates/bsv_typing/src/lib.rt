@@ -15,6 +15,9 @@
 //! `specs/Bodies.antt` how statements are typed, `specs/Returns.antt` which bodies return, `specs/Laws.antt` what
 //! the typing promises, and `specs/Seen.antt`, `specs/SeenBodies.antt` and `specs/ReturnsSeen.antt` what the
 //! definitions see of the code.
+//!
+//! A typed expression that is held while something may still fail stands in a `Boxed`: an early end then drops it in
+//! one step, which keeps the proof of the function short.
 #![tactic(auto)]
 
 mod bodies;
@@ -33,8 +36,6 @@ mod methods;
 mod names;
 mod openness;
 mod simple;
-#[cfg(test)]
-mod tests;
 mod written;
 
 pub use bodies::{

@@ -87,8 +87,8 @@ pub(crate) fn applied_to_one(
 ) -> Result<Made, AllocError>
     ensures { IfOk result (λ m. made m ≡ spec.applied (kind ty) (op ∷ []) (operand ∷ [])) }
 {
-    let operators = one(alloc, op)?;
     let operands = one(alloc, operand)?;
+    let operators = one(alloc, op)?;
     applied(alloc, ty, operators, operands)
 }
 
@@ -102,9 +102,9 @@ pub(crate) fn applied_to_two(
 ) -> Result<Made, AllocError>
     ensures { IfOk result (λ m. made m ≡ spec.applied (kind ty) (op ∷ []) (first ∷ second ∷ [])) }
 {
-    let operators = one(alloc, op)?;
     let mut operands = one(alloc, first)?;
     operands.push(second)?;
+    let operators = one(alloc, op)?;
     applied(alloc, ty, operators, operands)
 }
 

@@ -15,6 +15,7 @@ use crate::context::{Slot, Variable};
 use crate::fail::BodyFail;
 use crate::forms::payload;
 use crate::front::Instance;
+use crate::made::Made;
 use crate::names::is_lower;
 use bsv_ast::{
     Branch, Call, CaseArm, Condition, Declaration, DeclaredType, Expr, Head, Place, Span,
@@ -22,8 +23,8 @@ use bsv_ast::{
 use bsv_bits::Name;
 use bsv_scopes::Scopes;
 use bsv_types::{
-    Condition as TypedCondition, Expr as TypedExpr, Head as TypedHead, Items, MethodResult, PartTy,
-    Place as TypedPlace, Stmt as Typed, Ty,
+    Boxed, Condition as TypedCondition, Expr as TypedExpr, Head as TypedHead, Items, MethodResult,
+    PartTy, Place as TypedPlace, Stmt as Typed, Ty,
 };
 use std::alloc::{AllocError, Global};
 use std::slice;
@@ -150,17 +151,17 @@ pub(crate) fn bind(
     ensures { GivesAt (λ x. (shown scopes.new, x)) result (spec.bind_case (task_of task.now) span declared.now name.now call.now (shown scopes.old)) }
 {
     let want = declared_type(alloc, task, span, declared)?;
-    let found = call_at(alloc, task, scopes, span, call)?;
-    let Some(given) = given_by(&found.effect) else {
+    let found = Boxed::new(alloc, call_at(alloc, task, scopes, span, call)?)?;
+    let Some(given) = given_by(&found.get().effect) else {
         return Err(BodyFail::At(span));
     };
     let ty = given.copy(alloc)?;
     if !(task.acts && is_wanted(&want, &ty)) {
         return Err(BodyFail::At(span));
     }
-    let stmt = bound(alloc, &ty, found)?;
+    let stmt = Boxed::new(alloc, bound(alloc, &ty, found.into_inner())?)?;
     declare(alloc, span, scopes, name, Slot::One(ty))?;
-    Ok(stmt)
+    Ok(stmt.into_inner())
 }
 
 /// `type name = value;`
@@ -175,10 +176,11 @@ pub(crate) fn declaration(
     ensures { GivesAt (λ x. (shown scopes.new, x)) result (spec.declare_case (task_of task.now) span given.now (shown scopes.old)) }
 {
     let want = declared_type(alloc, task, span, &given.declared)?;
-    let typed = checked(alloc, task, scopes, span, &given.value, want.as_ref())?;
-    let own = typed.ty.copy(alloc)?;
-    declare(alloc, span, scopes, &given.name.name, Slot::One(typed.ty))?;
-    Ok(Typed::Declare(own, typed.expr))
+    let Made { ty, expr } = checked(alloc, task, scopes, span, &given.value, want.as_ref())?;
+    let value = Boxed::new(alloc, expr)?;
+    let own = ty.copy(alloc)?;
+    declare(alloc, span, scopes, &given.name.name, Slot::One(ty))?;
+    Ok(Typed::Declare(own, value.into_inner()))
 }
 
 /// `name = value;`
@@ -233,14 +235,14 @@ fn asked(
             })
         }
         Condition::Matches(_, value, name) => {
-            let typed = checked(alloc, task, scopes, span, value, None)?;
-            let Some(held) = payload(&typed.ty) else {
+            let typed = Boxed::new(alloc, checked(alloc, task, scopes, span, value, None)?)?;
+            let Some(held) = payload(&typed.get().ty) else {
                 return Err(BodyFail::At(span));
             };
             let own = Name::new(alloc, name.name.bytes())?;
             let bound = Some((own, held.copy(alloc)?));
             Ok(Opening {
-                condition: TypedCondition::Matches(typed.expr),
+                condition: TypedCondition::Matches(typed.into_inner().expr),
                 bound,
             })
         }
@@ -344,9 +346,10 @@ fn start(
         return Err(BodyFail::At(span));
     }
     let first = of_type(alloc, task, scopes, span, &given.first, &Ty::Integer)?;
+    let first = Boxed::new(alloc, first)?;
     scopes.open(alloc)?;
     declare(alloc, span, scopes, name, Slot::One(Ty::Integer))?;
-    Ok(first)
+    Ok(first.into_inner())
 }
 
 /// The head of a loop. The scope of its variable stays open.
