@@ -15,6 +15,8 @@ mod queue;
 mod refusal;
 mod source;
 #[cfg(test)]
+mod tables;
+#[cfg(test)]
 mod tests;
 #[cfg(test)]
 mod tree_tests;
