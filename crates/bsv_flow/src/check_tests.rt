@@ -1,6 +1,6 @@
 use crate::position::position;
 use crate::tables::{Table, parted, rows_of, unfolded};
-use crate::tests::{fault_text, files_of, joined};
+use crate::tests::{fault_line, files_of, joined};
 use crate::{Loaded, load};
 use bsv_ast::Package;
 use bsv_bits::OutOfMemory;
@@ -1495,19 +1495,18 @@ fn place_text(alloc: Global, loaded: &Loaded, fault: Option<Place>) -> Result<St
     format!(in alloc; "{package} {line}:{column}")
 }
 
+/// The place of the first fault of what was loaded.
+fn found_among(alloc: Global, pass: Pass, loaded: &Loaded) -> Result<String, Fail> {
+    let fault = first_fault(alloc, pass, loaded.packages.as_slice())?;
+    Ok(place_text(alloc, loaded, fault)?)
+}
+
 /// Loads `T.bsv` of these files, and tells the place of the first fault, or why nothing is loaded.
 fn found_in(alloc: Global, pass: Pass, files: &[NamedFile<'_>]) -> Result<String, Fail> {
     let mut given = files_of(alloc, files, &[])?;
     match load(alloc, &mut given, "T.bsv") {
-        Ok(loaded) => {
-            let fault = first_fault(alloc, pass, loaded.packages.as_slice())?;
-            Ok(place_text(alloc, &loaded, fault)?)
-        }
-        Err(fault) => {
-            let bytes = fault_text(alloc, &fault)?;
-            let text = str::from_utf8(bytes.as_slice()).unwrap_or("a fault without a text");
-            Ok(format!(in alloc; "{text}")?)
-        }
+        Ok(loaded) => found_among(alloc, pass, &loaded),
+        Err(fault) => fault_line(alloc, &fault),
     }
 }
 

@@ -1,3 +1,4 @@
+use crate::tables::{Table, parted, rows_of, unfolded};
 use crate::{CompileFault, Loaded, load};
 use bsv_bits::{Name, OutOfMemory};
 use bsv_io::{MemFiles, MemSink};
@@ -7,396 +8,359 @@ use std::process::Abort;
 use std::test::Fail;
 
 /// A file without a tree, and the line and the column of the first token with which none goes on.
-const BROKEN_FILES: [(&str, &str); 103] = [
-    // A file.
-    ("endpackage", "1:1"),
-    ("package ;", "1:9"),
-    ("package a; endpackage", "1:9"),
-    ("package A endpackage", "1:11"),
-    ("package A;", "1:11"),
-    ("package A;  // x", "1:17"),
-    ("package A;\n", "2:1"),
-    ("package A; endpackage package A; endpackage", "1:23"),
-    ("package A; endpackage: B", "1:24"),
-    ("package A; endpackage: A ;", "1:26"),
-    ("package A; endpackage:", "1:23"),
-    (
-        "package A; import B::*; package C; endpackage endpackage",
-        "1:25",
-    ),
-    ("import B::*; endpackage", "1:14"),
-    ("x", "1:1"),
-    ("42", "1:1"),
-    ("rule r; endrule", "1:1"),
-    (";", "1:1"),
-    // An import.
-    ("import b::*;", "1:8"),
-    ("import B;", "1:9"),
-    ("import B:*;", "1:9"),
-    ("import B::C;", "1:11"),
-    ("import B::*", "1:12"),
-    ("import B::* import C::*;", "1:13"),
-    ("import B::*);", "1:11"),
-    // A type definition.
-    ("typedef Bit#(8) byte_t;", "1:17"),
-    ("typedef Byte;", "1:13"),
-    ("typedef byte Byte;", "1:9"),
-    ("typedef Bit#(8) Byte deriving (Bits);", "1:22"),
-    ("typedef Bit#(8) Byte", "1:21"),
-    ("typedef enum {} E;", "1:15"),
-    ("typedef enum { A, } E;", "1:19"),
-    ("typedef enum { A, b } E;", "1:19"),
-    ("typedef enum { A B } E;", "1:18"),
-    ("typedef enum { A, B };", "1:22"),
-    ("typedef enum A;", "1:14"),
-    ("typedef struct { Bool A; } S;", "1:23"),
-    ("typedef struct { Bool a } S;", "1:25"),
-    ("typedef struct { Bool a, Bool b; } S;", "1:24"),
-    ("typedef struct { Bool a; } s;", "1:28"),
-    ("typedef union { Bool a; } U;", "1:9"),
-    ("typedef enum { A } E deriving Bits;", "1:31"),
-    ("typedef enum { A } E deriving ();", "1:32"),
-    ("typedef struct { Bool a; } S deriving (Bits, );", "1:46"),
-    ("typedef struct { Bool a; } S deriving (Bits, eq);", "1:46"),
-    (
-        "typedef struct { Bool a; } S deriving (Bits) deriving (Eq);",
-        "1:46",
-    ),
-    // A type and its argument.
-    ("typedef Bit#() T;", "1:14"),
-    ("typedef Bit#(8, 4) T;", "1:15"),
-    ("typedef Bit#8 T;", "1:13"),
-    ("typedef Bit(8) T;", "1:12"),
-    ("typedef Bit#(n) T;", "1:14"),
-    ("typedef Bit#(65536) T;", "1:14"),
-    ("typedef Bit#(4'd3) T;", "1:14"),
-    ("typedef Bit#('h10000) T;", "1:14"),
-    ("typedef int#(8) T;", "1:12"),
-    ("typedef Maybe#(Bit#(8);", "1:23"),
-    ("typedef Bit#(4 + 4) T;", "1:16"),
-    // Parameters.
-    ("function Bool f(Bool A) = True;", "1:22"),
-    ("function Bool f(a) = True;", "1:17"),
-    ("function Bool f(Bool a, ) = True;", "1:25"),
-    ("function Bool f(Bool a Bool b) = True;", "1:24"),
-    ("function Bool f(Bool) = True;", "1:21"),
-    ("function Bool f(Bool a[3]) = True;", "1:23"),
-    // An interface.
-    ("interface i; endinterface", "1:11"),
-    ("interface I endinterface", "1:13"),
-    ("interface I; Bool b; endinterface", "1:14"),
-    ("interface I; method m(); endinterface", "1:21"),
-    ("interface I; method Bool M(); endinterface", "1:26"),
-    ("interface I; method Bool m() endinterface", "1:30"),
-    ("interface I; method Bool m(Bool a; endinterface", "1:34"),
-    ("interface I; method Bool m= True; endinterface", "1:27"),
-    ("interface I; method Bool m(); endinterface: J", "1:45"),
-    ("interface I; method Bool m();\n\nendmodule", "3:1"),
-    ("interface I;\n  method Bool m();", "2:19"),
-    // A function.
-    ("function f() = 1;", "1:10"),
-    ("function Bool F() = True;", "1:15"),
-    ("function Bool f; return True; endfunction", "1:16"),
-    ("function Bool f() return True; endfunction", "1:19"),
-    ("function Bool f(); return True; endfunction: g", "1:46"),
-    ("function Bool f(); return True; endmethod", "1:33"),
-    ("function Bool f() = True endfunction", "1:26"),
-    ("function Bool f() = True; endfunction", "1:27"),
-    ("function Bool f() = ;", "1:21"),
-    ("function Bool f() if (True) = True;", "1:19"),
-    (
-        "function Bool f(); function Bool g() = True; endfunction",
-        "1:20",
-    ),
-    // A module.
-    ("module MkT(Empty); endmodule", "1:8"),
-    ("module mkT; endmodule", "1:11"),
-    ("module mkT(); endmodule", "1:12"),
-    ("module mkT(Empty, Empty); endmodule", "1:17"),
-    ("module mkT(Empty e); endmodule", "1:18"),
-    ("module mkT#()(Empty); endmodule", "1:13"),
-    ("module mkT#(Bool b; endmodule", "1:19"),
-    ("module mkT#(Bool b); endmodule", "1:20"),
-    ("module mkT(Empty) endmodule", "1:19"),
-    ("module mkT(Empty);", "1:19"),
-    (
-        "module mkT(Empty);\n  // a line\n  /* and\n  two */ endrule",
-        "4:10",
-    ),
-    ("module mkT(Empty); endmodule: mkU", "1:31"),
-    ("module mkT(Empty); endmodule: MkT", "1:31"),
-    ("module mkT(Empty); endmodule;", "1:29"),
-    ("module mkT(Empty); endmodule\r\n)", "2:1"),
-    // A rule and its attributes.
-    ("(* synthesize *) interface I; endinterface", "1:18"),
-    ("(* synthesize *)\n(* other *)\n", "3:1"),
-    ("package A; (* synthesize *) endpackage", "1:29"),
-    // A method.
-    ("method Bool m() = True;", "1:1"),
-];
+const BROKEN_FILES: Table<'static> = (
+    102,
+    r"
+// A file.
+1:1  | endpackage
+1:9  | package ;
+1:9  | package a; endpackage
+1:11 | package A endpackage
+1:11 | package A;
+1:17 | package A;  // x
+2:1  | package A;\n
+1:23 | package A; endpackage package A; endpackage
+1:24 | package A; endpackage: B
+1:26 | package A; endpackage: A ;
+1:23 | package A; endpackage:
+1:25 | package A; import B::*; package C; endpackage endpackage
+1:14 | import B::*; endpackage
+1:1  | x
+1:1  | 42
+1:1  | rule r; endrule
+1:1  | ;
+// An import.
+1:8  | import b::*;
+1:9  | import B;
+1:9  | import B:*;
+1:11 | import B::C;
+1:12 | import B::*
+1:13 | import B::* import C::*;
+1:11 | import B::*);
+// A type definition.
+1:17 | typedef Bit#(8) byte_t;
+1:13 | typedef Byte;
+1:9  | typedef byte Byte;
+1:22 | typedef Bit#(8) Byte deriving (Bits);
+1:21 | typedef Bit#(8) Byte
+1:15 | typedef enum {} E;
+1:19 | typedef enum { A, } E;
+1:19 | typedef enum { A, b } E;
+1:18 | typedef enum { A B } E;
+1:22 | typedef enum { A, B };
+1:14 | typedef enum A;
+1:23 | typedef struct { Bool A; } S;
+1:25 | typedef struct { Bool a } S;
+1:24 | typedef struct { Bool a, Bool b; } S;
+1:28 | typedef struct { Bool a; } s;
+1:9  | typedef union { Bool a; } U;
+1:31 | typedef enum { A } E deriving Bits;
+1:32 | typedef enum { A } E deriving ();
+1:46 | typedef struct { Bool a; } S deriving (Bits, );
+1:46 | typedef struct { Bool a; } S deriving (Bits, eq);
+1:46 | typedef struct { Bool a; } S deriving (Bits) deriving (Eq);
+// A type and its argument.
+1:14 | typedef Bit#() T;
+1:15 | typedef Bit#(8, 4) T;
+1:13 | typedef Bit#8 T;
+1:12 | typedef Bit(8) T;
+1:14 | typedef Bit#(n) T;
+1:14 | typedef Bit#(65536) T;
+1:14 | typedef Bit#(4'd3) T;
+1:14 | typedef Bit#('h10000) T;
+1:12 | typedef int#(8) T;
+1:23 | typedef Maybe#(Bit#(8);
+1:16 | typedef Bit#(4 + 4) T;
+// Parameters.
+1:22 | function Bool f(Bool A) = True;
+1:17 | function Bool f(a) = True;
+1:25 | function Bool f(Bool a, ) = True;
+1:24 | function Bool f(Bool a Bool b) = True;
+1:21 | function Bool f(Bool) = True;
+1:23 | function Bool f(Bool a[3]) = True;
+// An interface.
+1:11 | interface i; endinterface
+1:13 | interface I endinterface
+1:14 | interface I; Bool b; endinterface
+1:21 | interface I; method m(); endinterface
+1:26 | interface I; method Bool M(); endinterface
+1:30 | interface I; method Bool m() endinterface
+1:34 | interface I; method Bool m(Bool a; endinterface
+1:27 | interface I; method Bool m= True; endinterface
+1:45 | interface I; method Bool m(); endinterface: J
+3:1  | interface I; method Bool m();\n\nendmodule
+2:19 | interface I;\n  method Bool m();
+// A function.
+1:10 | function f() = 1;
+1:15 | function Bool F() = True;
+1:16 | function Bool f; return True; endfunction
+1:19 | function Bool f() return True; endfunction
+1:46 | function Bool f(); return True; endfunction: g
+1:33 | function Bool f(); return True; endmethod
+1:26 | function Bool f() = True endfunction
+1:27 | function Bool f() = True; endfunction
+1:21 | function Bool f() = ;
+1:19 | function Bool f() if (True) = True;
+1:20 | function Bool f(); function Bool g() = True; endfunction
+// A module.
+1:8  | module MkT(Empty); endmodule
+1:11 | module mkT; endmodule
+1:12 | module mkT(); endmodule
+1:17 | module mkT(Empty, Empty); endmodule
+1:18 | module mkT(Empty e); endmodule
+1:13 | module mkT#()(Empty); endmodule
+1:19 | module mkT#(Bool b; endmodule
+1:20 | module mkT#(Bool b); endmodule
+1:19 | module mkT(Empty) endmodule
+1:19 | module mkT(Empty);
+4:10 | module mkT(Empty);\n  // a line\n  /* and\n  two */ endrule
+1:31 | module mkT(Empty); endmodule: mkU
+1:31 | module mkT(Empty); endmodule: MkT
+1:29 | module mkT(Empty); endmodule;
+// A rule and its attributes.
+1:18 | (* synthesize *) interface I; endinterface
+3:1  | (* synthesize *)\n(* other *)\n
+1:29 | package A; (* synthesize *) endpackage
+// A method.
+1:1  | method Bool m() = True;
+",
+);
 
 /// The same of what stands in a module, from its second line on.
-const BROKEN_MODULES: [(&str, &str); 90] = [
-    // A module.
-    ("module mkU(Empty); endmodule", "2:1"),
-    ("interface I; endinterface", "2:1"),
-    // A statement of a module.
-    ("Reg#(Bool) X <- mkReg(True);", "2:12"),
-    ("Reg#(Bool) x;", "2:13"),
-    ("Reg#(Bool) x <- MkReg;", "2:17"),
-    ("Reg#(Bool) x <- mkReg(True)", "3:1"),
-    ("Reg#(Bool) x <- mkReg(True;", "2:27"),
-    ("Reg#(Bool) x <- mkReg(True, );", "2:29"),
-    ("Reg#(Bool) x <- mkReg.a;", "2:22"),
-    ("Reg#(Bool) x[];", "2:14"),
-    ("Reg#(Bool) x[3] <- mkReg(True);", "2:17"),
-    ("Reg#(Bool) x[3][4];", "2:16"),
-    ("x[0] = 1;", "2:6"),
-    ("x[0:1] <- mkReg(0);", "2:4"),
-    ("x <- mkReg(0);", "2:3"),
-    ("x <= 1;", "2:3"),
-    ("x.m;", "2:2"),
-    ("x(1);", "2:2"),
-    ("let x <- mkReg(0);", "2:7"),
-    ("let X = 1;", "2:5"),
-    ("let Bool b = True;", "2:5"),
-    ("Integer n = ;", "2:13"),
-    ("Integer n = 1", "3:1"),
-    ("n = 1, m = 2;", "2:6"),
-    ("return 1;", "2:1"),
-    ("noAction;", "2:1"),
-    ("case (x) endcase", "2:1"),
-    (";", "2:1"),
-    ("Bool wire = True;", "2:6"),
-    ("begin n = 1;", "3:1"),
-    ("end", "2:1"),
-    // An if and a for of a module.
-    ("if x n = 1;", "2:4"),
-    ("if () n = 1;", "2:5"),
-    ("if (x) if (y) n = 1;", "2:8"),
-    ("if (x) for (Integer i = 0; i < 1; i = i + 1) n = 1;", "2:8"),
-    ("if (x) method Bool m() = True;", "2:8"),
-    ("if (x) n = 1; else n = 2; else n = 3;", "2:27"),
-    ("if (x) n = 1; else method Bool m() = True;", "2:20"),
-    ("if (x) n = 1; m = 2; else n = 3;", "2:22"),
-    ("if (x matches tagged Valid .v) n = 1;", "2:7"),
-    ("else n = 1;", "2:1"),
-    ("for (Bit i = 0; i < 1; i = i + 1) n = 1;", "2:6"),
-    ("for (int i = 0; i < 1; i = i + 1) n = 1;", "2:6"),
-    ("for (Integer#(3) i = 0; i < 1; i = i + 1) n = 1;", "2:13"),
-    ("for (Integer i <- 0; i < 1; i = i + 1) n = 1;", "2:16"),
-    ("for (Integer i = 0; ; i = i + 1) n = 1;", "2:21"),
-    ("for (Integer i = 0; i < 1) n = 1;", "2:26"),
-    ("for (Integer i = 0; i < 1; i + 1) n = 1;", "2:30"),
-    (
-        "for (Integer i = 0; i < 1; i = i + 1; j = 1) n = 1;",
-        "2:37",
-    ),
-    ("for (Integer i = 0; i < 1; i = i + 1) ;", "2:39"),
-    (
-        "for (Integer i = 0; i < 1; i = i + 1) method Bool m() = True;",
-        "2:39",
-    ),
-    (
-        "for (Integer i = 0; i < 1; i = i + 1) for (Integer j = 0; j < 1; j = j + 1) for (Integer k = 0; k < 1; k = k + 1) n = 1;",
-        "2:77",
-    ),
-    (
-        "for (Integer i = 0; i < 1; i = i + 1) if (x) for (Integer j = 0; j < 1; j = j + 1) n = 1;",
-        "2:46",
-    ),
-    (
-        "for (Integer i = 0; i < 1; i = i + 1) if (x) n = 1; else n = 2; else n = 3;",
-        "2:65",
-    ),
-    // A rule and its attributes.
-    ("rule R; endrule", "2:6"),
-    ("rule r endrule", "2:8"),
-    ("rule r if; endrule", "2:10"),
-    ("rule r (); endrule", "2:9"),
-    ("rule r (x)(y); endrule", "2:11"),
-    ("rule r (x) x <= 1; endrule", "2:12"),
-    ("rule r;", "3:1"),
-    ("rule r; endrule: s", "2:18"),
-    ("rule r; endrule;", "2:16"),
-    ("rule r = x;", "2:8"),
-    ("(* *) rule r; endrule", "2:4"),
-    ("(*) rule r; endrule", "2:3"),
-    ("(* A *) rule r; endrule", "2:4"),
-    ("(* a = 1 *) rule r; endrule", "2:8"),
-    ("(* a = b *) rule r; endrule", "2:8"),
-    ("(* a, *) rule r; endrule", "2:7"),
-    ("(* a b *) rule r; endrule", "2:6"),
-    ("(* a = \"b\" \"c\" *) rule r; endrule", "2:12"),
-    ("(* a ) rule r; endrule", "2:6"),
-    ("(* a *) method Bool m() = True;", "2:9"),
-    ("(* a *) Reg#(Bool) x <- mkReg(True);", "2:9"),
-    ("(* a *)", "3:1"),
-    // A method.
-    ("method m(); endmethod", "2:8"),
-    ("method Bool M() = True;", "2:13"),
-    ("method Bool m() endmethod", "2:17"),
-    ("method Action m(x > 0); endmethod", "2:17"),
-    ("method Bool m() (x) = True;", "2:17"),
-    ("method Bool m() if x = True;", "2:20"),
-    ("method Bool m() if (x)(y) = True;", "2:23"),
-    ("method Bool m() = True endmethod", "2:24"),
-    ("method Bool m() = True; endmethod", "2:25"),
-    ("method Bool m() = ;", "2:19"),
-    ("method Bool m(); return True; endmethod: n", "2:42"),
-    ("method Bool m(); return True; endfunction", "2:31"),
-    ("method Bool m(); return True;", "3:1"),
-    // An if, a for and a case.
-    ("rule r; case (x) 1: y <= 1;\n/* no end */\nendrule", "4:1"),
-];
+const BROKEN_MODULES: Table<'static> = (
+    90,
+    r#"
+// A module.
+2:1  | module mkU(Empty); endmodule
+2:1  | interface I; endinterface
+// A statement of a module.
+2:12 | Reg#(Bool) X <- mkReg(True);
+2:13 | Reg#(Bool) x;
+2:17 | Reg#(Bool) x <- MkReg;
+3:1  | Reg#(Bool) x <- mkReg(True)
+2:27 | Reg#(Bool) x <- mkReg(True;
+2:29 | Reg#(Bool) x <- mkReg(True, );
+2:22 | Reg#(Bool) x <- mkReg.a;
+2:14 | Reg#(Bool) x[];
+2:17 | Reg#(Bool) x[3] <- mkReg(True);
+2:16 | Reg#(Bool) x[3][4];
+2:6  | x[0] = 1;
+2:4  | x[0:1] <- mkReg(0);
+2:3  | x <- mkReg(0);
+2:3  | x <= 1;
+2:2  | x.m;
+2:2  | x(1);
+2:7  | let x <- mkReg(0);
+2:5  | let X = 1;
+2:5  | let Bool b = True;
+2:13 | Integer n = ;
+3:1  | Integer n = 1
+2:6  | n = 1, m = 2;
+2:1  | return 1;
+2:1  | noAction;
+2:1  | case (x) endcase
+2:1  | ;
+2:6  | Bool wire = True;
+3:1  | begin n = 1;
+2:1  | end
+// An if and a for of a module.
+2:4  | if x n = 1;
+2:5  | if () n = 1;
+2:8  | if (x) if (y) n = 1;
+2:8  | if (x) for (Integer i = 0; i < 1; i = i + 1) n = 1;
+2:8  | if (x) method Bool m() = True;
+2:27 | if (x) n = 1; else n = 2; else n = 3;
+2:20 | if (x) n = 1; else method Bool m() = True;
+2:22 | if (x) n = 1; m = 2; else n = 3;
+2:7  | if (x matches tagged Valid .v) n = 1;
+2:1  | else n = 1;
+2:6  | for (Bit i = 0; i < 1; i = i + 1) n = 1;
+2:6  | for (int i = 0; i < 1; i = i + 1) n = 1;
+2:13 | for (Integer#(3) i = 0; i < 1; i = i + 1) n = 1;
+2:16 | for (Integer i <- 0; i < 1; i = i + 1) n = 1;
+2:21 | for (Integer i = 0; ; i = i + 1) n = 1;
+2:26 | for (Integer i = 0; i < 1) n = 1;
+2:30 | for (Integer i = 0; i < 1; i + 1) n = 1;
+2:37 | for (Integer i = 0; i < 1; i = i + 1; j = 1) n = 1;
+2:39 | for (Integer i = 0; i < 1; i = i + 1) ;
+2:39 | for (Integer i = 0; i < 1; i = i + 1) method Bool m() = True;
+2:77 | for (Integer i = 0; i < 1; i = i + 1) for (Integer j = 0; j < 1; j = j + 1) for (Integer k = 0; k < 1; k = k + 1) n = 1;
+2:46 | for (Integer i = 0; i < 1; i = i + 1) if (x) for (Integer j = 0; j < 1; j = j + 1) n = 1;
+2:65 | for (Integer i = 0; i < 1; i = i + 1) if (x) n = 1; else n = 2; else n = 3;
+// A rule and its attributes.
+2:6  | rule R; endrule
+2:8  | rule r endrule
+2:10 | rule r if; endrule
+2:9  | rule r (); endrule
+2:11 | rule r (x)(y); endrule
+2:12 | rule r (x) x <= 1; endrule
+3:1  | rule r;
+2:18 | rule r; endrule: s
+2:16 | rule r; endrule;
+2:8  | rule r = x;
+2:4  | (* *) rule r; endrule
+2:3  | (*) rule r; endrule
+2:4  | (* A *) rule r; endrule
+2:8  | (* a = 1 *) rule r; endrule
+2:8  | (* a = b *) rule r; endrule
+2:7  | (* a, *) rule r; endrule
+2:6  | (* a b *) rule r; endrule
+2:12 | (* a = "b" "c" *) rule r; endrule
+2:6  | (* a ) rule r; endrule
+2:9  | (* a *) method Bool m() = True;
+2:9  | (* a *) Reg#(Bool) x <- mkReg(True);
+3:1  | (* a *)
+// A method.
+2:8  | method m(); endmethod
+2:13 | method Bool M() = True;
+2:17 | method Bool m() endmethod
+2:17 | method Action m(x > 0); endmethod
+2:17 | method Bool m() (x) = True;
+2:20 | method Bool m() if x = True;
+2:23 | method Bool m() if (x)(y) = True;
+2:24 | method Bool m() = True endmethod
+2:25 | method Bool m() = True; endmethod
+2:19 | method Bool m() = ;
+2:42 | method Bool m(); return True; endmethod: n
+2:31 | method Bool m(); return True; endfunction
+3:1  | method Bool m(); return True;
+// An if, a for and a case.
+4:1  | rule r; case (x) 1: y <= 1;\n/* no end */\nendrule
+"#,
+);
 
 /// The same of what stands in a rule, from its second line on.
-const BROKEN_RULES: [(&str, &str); 122] = [
-    // A rule and its attributes.
-    ("rule s; endrule", "2:1"),
-    ("(* a *) x <= 1;", "2:1"),
-    // A statement.
-    ("x = = 1;", "2:5"),
-    ("x[1] = 2;", "2:6"),
-    ("x[1:0] <= 2;", "2:4"),
-    ("x[1][0] <= 2;", "2:5"),
-    ("x <= ;", "2:6"),
-    ("x <= 1", "3:1"),
-    ("x <- y.m;", "2:3"),
-    ("x;", "2:2"),
-    ("x.m(1).n(2);", "2:7"),
-    ("x.y <= 1;", "2:5"),
-    ("x.M;", "2:3"),
-    ("x.m(1, );", "2:8"),
-    ("x.m", "3:1"),
-    ("f(x);", "2:2"),
-    ("Bool x;", "2:7"),
-    ("Bool x[3];", "2:7"),
-    ("Bool x <- y;", "2:12"),
-    ("Bool x <- y(1);", "2:12"),
-    ("Bool x <- Y.m;", "2:11"),
-    ("let x <- y.m + 1;", "2:14"),
-    ("let x;", "2:6"),
-    ("let = 1;", "2:5"),
-    ("Bool X = True;", "2:6"),
-    ("return;", "2:7"),
-    ("noAction", "3:1"),
-    ("noAction x;", "2:10"),
-    (";", "2:1"),
-    ("1 <= x;", "2:1"),
-    ("(x) <= 1;", "2:1"),
-    ("{x, y} <= 1;", "2:1"),
-    ("begin x <= 1;", "3:1"),
-    ("end", "2:1"),
-    ("begin x <= 1; end;", "2:18"),
-    ("action x <= 1; endaction", "2:1"),
-    // An if, a for and a case.
-    ("if x y <= 1;", "2:4"),
-    ("if (x) if (y) z <= 1;", "2:8"),
-    ("if (x) case (y) endcase", "2:8"),
-    (
-        "if (x) for (Integer i = 0; i < 1; i = i + 1) y <= 1;",
-        "2:8",
-    ),
-    ("if (x) y <= 1; else y <= 2; else y <= 3;", "2:29"),
-    (
-        "if (x) y <= 1; else if (z) y <= 2; else y <= 3; else y <= 4;",
-        "2:49",
-    ),
-    ("if (x) begin y <= 1; end; else y <= 2;", "2:25"),
-    ("if (x) y <= 1; else case (z) endcase", "2:21"),
-    ("else y <= 1;", "2:1"),
-    ("if (x matches tagged Invalid .v) y <= 1;", "2:22"),
-    ("if (x matches Valid .v) y <= 1;", "2:15"),
-    ("if (x matches tagged Valid v) y <= 1;", "2:28"),
-    ("if (x matches tagged Valid .V) y <= 1;", "2:29"),
-    ("if (x matches tagged Valid .v && z) y <= 1;", "2:31"),
-    ("if (x matches tagged Valid .v ? y : z) y <= 1;", "2:31"),
-    ("for (Bool i = 0; i < 1; i = i + 1) y <= 1;", "2:6"),
-    ("for (Integer I = 0; i < 1; i = i + 1) y <= 1;", "2:14"),
-    ("for (Integer i = 0; i < 1; I = i + 1) y <= 1;", "2:28"),
-    ("for (i = 0; i < 1; i = i + 1) y <= 1;", "2:6"),
-    ("for (Integer i = 0; i < 1; i <= i + 1) y <= 1;", "2:30"),
-    (
-        "for (Integer i = 0; i < 1; i = i + 1) case (i) endcase",
-        "2:39",
-    ),
-    (
-        "for (Integer i = 0; i < 1; i = i + 1)\n for (Integer j = 0; j < 1; j = j + 1)\n  for (Integer k = 0; k < 1; k = k + 1)\n   y <= 1;",
-        "4:3",
-    ),
-    ("case x endcase", "2:6"),
-    ("case (x) 1, : y <= 1; endcase", "2:13"),
-    ("case (x) 1 y <= 1; endcase", "2:12"),
-    ("case (x) 1: endcase", "2:13"),
-    ("case (x) 1: case (y) endcase endcase", "2:13"),
-    (
-        "case (x) 1: for (Integer i = 0; i < 1; i = i + 1) y <= 1; endcase",
-        "2:13",
-    ),
-    ("case (x) default y <= 1; endcase", "2:18"),
-    ("case (x) default: y <= 1; 2: y <= 2; endcase", "2:27"),
-    ("case (x) default: y <= 1; default: y <= 2; endcase", "2:27"),
-    ("case (x) 1: y <= 1; end", "2:21"),
-    (
-        "case (x) 1: if (z) y <= 1; else y <= 2; else y <= 3; endcase",
-        "2:41",
-    ),
-    ("case (x) tagged Other .v: y <= 1; endcase", "2:17"),
-    // An expression.
-    ("x <= a ? b;", "2:11"),
-    ("x <= a ? b ? c : d : e;", "2:12"),
-    ("x <= a ? b : c : d;", "2:16"),
-    ("x <= a ? : c;", "2:10"),
-    ("x <= a + ;", "2:10"),
-    ("x <= a b;", "2:8"),
-    ("x <= a = b;", "2:8"),
-    ("x <= a <- b;", "2:8"),
-    ("x <= a + * b;", "2:10"),
-    ("x <= a && & b;", "2:11"),
-    ("x <= !!a;", "2:7"),
-    ("x <= - -a;", "2:8"),
-    ("x <= +a;", "2:6"),
-    ("x <= ~tagged Invalid;", "2:7"),
-    ("x <= tagged Invalid x;", "2:21"),
-    ("x <= tagged Invalid.x;", "2:20"),
-    ("x <= tagged Other x;", "2:13"),
-    ("x <= tagged valid x;", "2:13"),
-    ("x <= tagged Valid;", "2:18"),
-    ("x <= tagged Valid -x;", "2:19"),
-    ("x <= a.B;", "2:8"),
-    ("x <= a.3;", "2:8"),
-    ("x <= a[];", "2:8"),
-    ("x <= a[1:];", "2:10"),
-    ("x <= a[1:2:3];", "2:11"),
-    ("x <= a[1, 2];", "2:9"),
-    ("x <= f(a, );", "2:11"),
-    ("x <= f(a b);", "2:10"),
-    ("x <= f(a)(b);", "2:10"),
-    ("x <= f(;", "2:8"),
-    ("x <= S(a);", "2:7"),
-    ("x <= 3(a);", "2:7"),
-    ("x <= 0x1;", "2:7"),
-    ("x <= 12ab;", "2:8"),
-    ("x <= 4 'd1;", "2:8"),
-    ("x <= ();", "2:7"),
-    ("x <= (a;", "2:8"),
-    ("x <= (a, b);", "2:8"),
-    ("x <= {};", "2:7"),
-    ("x <= {a, };", "2:10"),
-    ("x <= {a;", "2:8"),
-    ("x <= S {};", "2:9"),
-    ("x <= S { F: 1 };", "2:10"),
-    ("x <= S { f = 1 };", "2:12"),
-    ("x <= S { f: 1, };", "2:16"),
-    ("x <= S { f: 1 g: 2 };", "2:15"),
-    ("x <= s { f: 1 };", "2:8"),
-    ("x <= \"a\";", "2:6"),
-    ("x <= int;", "2:6"),
-    ("x <= reg;", "2:6"),
-    ("x <= a matches tagged Valid .v;", "2:8"),
-    ("x <= a[*b];", "2:8"),
-];
+const BROKEN_RULES: Table<'static> = (
+    122,
+    r#"
+// A rule and its attributes.
+2:1  | rule s; endrule
+2:1  | (* a *) x <= 1;
+// A statement.
+2:5  | x = = 1;
+2:6  | x[1] = 2;
+2:4  | x[1:0] <= 2;
+2:5  | x[1][0] <= 2;
+2:6  | x <= ;
+3:1  | x <= 1
+2:3  | x <- y.m;
+2:2  | x;
+2:7  | x.m(1).n(2);
+2:5  | x.y <= 1;
+2:3  | x.M;
+2:8  | x.m(1, );
+3:1  | x.m
+2:2  | f(x);
+2:7  | Bool x;
+2:7  | Bool x[3];
+2:12 | Bool x <- y;
+2:12 | Bool x <- y(1);
+2:11 | Bool x <- Y.m;
+2:14 | let x <- y.m + 1;
+2:6  | let x;
+2:5  | let = 1;
+2:6  | Bool X = True;
+2:7  | return;
+3:1  | noAction
+2:10 | noAction x;
+2:1  | ;
+2:1  | 1 <= x;
+2:1  | (x) <= 1;
+2:1  | {x, y} <= 1;
+3:1  | begin x <= 1;
+2:1  | end
+2:18 | begin x <= 1; end;
+2:1  | action x <= 1; endaction
+// An if, a for and a case.
+2:4  | if x y <= 1;
+2:8  | if (x) if (y) z <= 1;
+2:8  | if (x) case (y) endcase
+2:8  | if (x) for (Integer i = 0; i < 1; i = i + 1) y <= 1;
+2:29 | if (x) y <= 1; else y <= 2; else y <= 3;
+2:49 | if (x) y <= 1; else if (z) y <= 2; else y <= 3; else y <= 4;
+2:25 | if (x) begin y <= 1; end; else y <= 2;
+2:21 | if (x) y <= 1; else case (z) endcase
+2:1  | else y <= 1;
+2:22 | if (x matches tagged Invalid .v) y <= 1;
+2:15 | if (x matches Valid .v) y <= 1;
+2:28 | if (x matches tagged Valid v) y <= 1;
+2:29 | if (x matches tagged Valid .V) y <= 1;
+2:31 | if (x matches tagged Valid .v && z) y <= 1;
+2:31 | if (x matches tagged Valid .v ? y : z) y <= 1;
+2:6  | for (Bool i = 0; i < 1; i = i + 1) y <= 1;
+2:14 | for (Integer I = 0; i < 1; i = i + 1) y <= 1;
+2:28 | for (Integer i = 0; i < 1; I = i + 1) y <= 1;
+2:6  | for (i = 0; i < 1; i = i + 1) y <= 1;
+2:30 | for (Integer i = 0; i < 1; i <= i + 1) y <= 1;
+2:39 | for (Integer i = 0; i < 1; i = i + 1) case (i) endcase
+4:3  | for (Integer i = 0; i < 1; i = i + 1)\n for (Integer j = 0; j < 1; j = j + 1)\n  for (Integer k = 0; k < 1; k = k + 1)\n   y <= 1;
+2:6  | case x endcase
+2:13 | case (x) 1, : y <= 1; endcase
+2:12 | case (x) 1 y <= 1; endcase
+2:13 | case (x) 1: endcase
+2:13 | case (x) 1: case (y) endcase endcase
+2:13 | case (x) 1: for (Integer i = 0; i < 1; i = i + 1) y <= 1; endcase
+2:18 | case (x) default y <= 1; endcase
+2:27 | case (x) default: y <= 1; 2: y <= 2; endcase
+2:27 | case (x) default: y <= 1; default: y <= 2; endcase
+2:21 | case (x) 1: y <= 1; end
+2:41 | case (x) 1: if (z) y <= 1; else y <= 2; else y <= 3; endcase
+2:17 | case (x) tagged Other .v: y <= 1; endcase
+// An expression.
+2:11 | x <= a ? b;
+2:12 | x <= a ? b ? c : d : e;
+2:16 | x <= a ? b : c : d;
+2:10 | x <= a ? : c;
+2:10 | x <= a + ;
+2:8  | x <= a b;
+2:8  | x <= a = b;
+2:8  | x <= a <- b;
+2:10 | x <= a + * b;
+2:11 | x <= a && & b;
+2:7  | x <= !!a;
+2:8  | x <= - -a;
+2:6  | x <= +a;
+2:7  | x <= ~tagged Invalid;
+2:21 | x <= tagged Invalid x;
+2:20 | x <= tagged Invalid.x;
+2:13 | x <= tagged Other x;
+2:13 | x <= tagged valid x;
+2:18 | x <= tagged Valid;
+2:19 | x <= tagged Valid -x;
+2:8  | x <= a.B;
+2:8  | x <= a.3;
+2:8  | x <= a[];
+2:10 | x <= a[1:];
+2:11 | x <= a[1:2:3];
+2:9  | x <= a[1, 2];
+2:11 | x <= f(a, );
+2:10 | x <= f(a b);
+2:10 | x <= f(a)(b);
+2:8  | x <= f(;
+2:7  | x <= S(a);
+2:7  | x <= 3(a);
+2:7  | x <= 0x1;
+2:8  | x <= 12ab;
+2:8  | x <= 4 'd1;
+2:7  | x <= ();
+2:8  | x <= (a;
+2:8  | x <= (a, b);
+2:7  | x <= {};
+2:10 | x <= {a, };
+2:8  | x <= {a;
+2:9  | x <= S {};
+2:10 | x <= S { F: 1 };
+2:12 | x <= S { f = 1 };
+2:16 | x <= S { f: 1, };
+2:15 | x <= S { f: 1 g: 2 };
+2:8  | x <= s { f: 1 };
+2:6  | x <= "a";
+2:6  | x <= int;
+2:6  | x <= reg;
+2:8  | x <= a matches tagged Valid .v;
+2:8  | x <= a[*b];
+"#,
+);
 
 /// A file whose bytes are no tokens, and the line of its refusal.
 const REFUSED: [(&[u8], &str); 60] = [
@@ -893,6 +857,13 @@ pub(crate) fn fault_text(alloc: Global, fault: &CompileFault) -> Result<Vec<u8>,
     }
 }
 
+/// What is told of a fault, as a text.
+pub(crate) fn fault_line(alloc: Global, fault: &CompileFault) -> Result<String, Fail> {
+    let bytes = fault_text(alloc, fault)?;
+    let text = str::from_utf8(bytes.as_slice()).unwrap_or("a fault without a text");
+    Ok(format!(in alloc; "{text}")?)
+}
+
 /// The names of the files that were loaded, each behind a blank.
 fn names_of(alloc: Global, loaded: &Loaded) -> Result<Vec<u8>, AllocError> {
     let mut made = Vec::new(alloc);
@@ -924,6 +895,18 @@ fn is_whole(loaded: &Loaded, files: &[(&[u8], &[u8])]) -> bool {
         ) == source.bytes())
 }
 
+/// Asserts that what was loaded is whole, and gives its names.
+fn whole_names(
+    rt: &impl Abort,
+    alloc: Global,
+    loaded: &Loaded,
+    files: &[(&[u8], &[u8])],
+) -> Result<Vec<u8>, AllocError> {
+    let names = names_of(alloc, loaded)?;
+    assert!(rt; is_whole(loaded, files), "{names:?}");
+    Ok(names)
+}
+
 /// Loads the first of these files: the names of what is loaded, or what is told of the fault.
 fn answer(
     rt: &impl Abort,
@@ -934,10 +917,7 @@ fn answer(
 ) -> Result<Vec<u8>, Fail> {
     let mut source = files_of(alloc, files, failing)?;
     match load(alloc, &mut source, first) {
-        Ok(loaded) => {
-            assert!(rt; is_whole(&loaded, files), "{first:?}");
-            Ok(names_of(alloc, &loaded)?)
-        }
+        Ok(loaded) => Ok(whole_names(rt, alloc, &loaded, files)?),
         Err(fault) => fault_text(alloc, &fault),
     }
 }
@@ -947,22 +927,30 @@ fn answer_of(rt: &impl Abort, alloc: Global, source: &[u8]) -> Result<Vec<u8>, F
     answer(rt, alloc, &[(b"T.bsv", source)], &[], "T.bsv")
 }
 
-/// Asserts that each text between a front and a back is refused at its place.
+/// Asserts that this source is refused at its place.
+fn expect_syntax(rt: &impl Abort, alloc: Global, source: &[u8], place: &str) -> Result<(), Fail> {
+    let want = joined(
+        alloc,
+        &[b"refused 5 Syntax T.bsv:", place.as_bytes(), b"\n"],
+    )?;
+    let found = answer_of(rt, alloc, source)?;
+    assert_eq!(rt; found.as_slice(), want.as_slice(), "at {source:?}");
+    Ok(())
+}
+
+/// Asserts that each text of a table, between a front and a back, is refused at its place.
 fn expect_broken(
     rt: &impl Abort,
     alloc: Global,
-    rows: &[(&str, &str)],
+    table: Table<'_>,
     front: &[u8],
     back: &[u8],
 ) -> Result<(), Fail> {
-    for (text, place) in rows {
+    for row in rows_of(rt, alloc, table)?.as_slice() {
+        let (place, text) = parted(row);
+        let text = unfolded(alloc, text)?;
         let source = joined(alloc, &[front, text.as_bytes(), back])?;
-        let want = joined(
-            alloc,
-            &[b"refused 5 Syntax T.bsv:", place.as_bytes(), b"\n"],
-        )?;
-        let found = answer_of(rt, alloc, source.as_slice())?;
-        assert_eq!(rt; found.as_slice(), want.as_slice(), "at {text:?}");
+        expect_syntax(rt, alloc, source.as_slice(), place)?;
     }
     Ok(())
 }
@@ -970,18 +958,19 @@ fn expect_broken(
 #[test]
 fn broken_texts_are_refused_at_their_places(rt: HostRuntime) -> Result<(), Fail> {
     let alloc = rt.alloc();
-    expect_broken(&rt, alloc, &BROKEN_FILES, b"", b"")?;
+    expect_syntax(&rt, alloc, b"module mkT(Empty); endmodule\r\n)", "2:1")?;
+    expect_broken(&rt, alloc, BROKEN_FILES, b"", b"")?;
     expect_broken(
         &rt,
         alloc,
-        &BROKEN_MODULES,
+        BROKEN_MODULES,
         b"module mkT(Empty);\n",
         b"\nendmodule\n",
     )?;
     expect_broken(
         &rt,
         alloc,
-        &BROKEN_RULES,
+        BROKEN_RULES,
         b"module mkT(Empty); rule r;\n",
         b"\nendrule endmodule\n",
     )

@@ -1,5 +1,5 @@
-use crate::load;
 use crate::tests::{fault_text, files_of, joined};
+use crate::{Loaded, load};
 use bsv_ast::{
     AttributeGroup, Base, Body, Boxed, Branch, Call, CaseArm, Condition, Declaration, DeclaredType,
     Expr, FieldValue, Function, Head, Ident, Interface, Item, Items, Level, Literal, Make, Method,
@@ -1241,6 +1241,15 @@ fn show_package(shown: &mut Shown, package: &Package) -> Result<(), AllocError> 
     close(shown)
 }
 
+/// The tree of what was loaded, which has to be one package.
+fn show_loaded(rt: &impl Abort, shown: &mut Shown, loaded: &Loaded) -> Result<(), AllocError> {
+    assert_eq!(rt; loaded.packages.len(), 1);
+    for package in loaded.packages.as_slice() {
+        show_package(shown, package)?;
+    }
+    Ok(())
+}
+
 /// The tree of a text, which is loaded as `T.bsv`.
 fn shown_of(rt: &impl Abort, alloc: Global, source: &[u8]) -> Result<Shown, Fail> {
     let mut shown = Shown {
@@ -1249,12 +1258,7 @@ fn shown_of(rt: &impl Abort, alloc: Global, source: &[u8]) -> Result<Shown, Fail
     };
     let mut files = files_of(alloc, &[(b"T.bsv", source)], &[])?;
     match load(alloc, &mut files, "T.bsv") {
-        Ok(loaded) => {
-            assert_eq!(rt; loaded.packages.len(), 1);
-            for package in loaded.packages.as_slice() {
-                show_package(&mut shown, package)?;
-            }
-        }
+        Ok(loaded) => show_loaded(rt, &mut shown, &loaded)?,
         Err(fault) => put(&mut shown, fault_text(alloc, &fault)?.as_slice())?,
     }
     Ok(shown)

@@ -1,6 +1,6 @@
 use crate::position::position;
 use crate::tables::{Table, parted, rows_of, unfolded};
-use crate::tests::{fault_text, files_of, joined};
+use crate::tests::{fault_line, files_of, joined};
 use crate::{Loaded, load};
 use bsv_check::{CheckFault, check};
 use bsv_names::Place;
@@ -2393,19 +2393,20 @@ fn told(alloc: Global, loaded: &Loaded, fault: &CheckFault) -> Result<String, Al
     format!(in alloc; "{number} {package} {line}:{column}")
 }
 
+/// What typing answers to what was loaded.
+fn answer_to(alloc: Global, loaded: &Loaded) -> Result<String, AllocError> {
+    match check(alloc, loaded.packages.as_slice()) {
+        Ok(_) => format!(in alloc; "typed"),
+        Err(fault) => told(alloc, loaded, &fault),
+    }
+}
+
 /// Loads `T.bsv` of these files, and tells what typing answers, or why nothing is loaded.
 fn answer(alloc: Global, files: &[NamedFile<'_>]) -> Result<String, Fail> {
     let mut given = files_of(alloc, files, &[])?;
     match load(alloc, &mut given, "T.bsv") {
-        Ok(loaded) => match check(alloc, loaded.packages.as_slice()) {
-            Ok(_) => Ok(format!(in alloc; "typed")?),
-            Err(fault) => Ok(told(alloc, &loaded, &fault)?),
-        },
-        Err(fault) => {
-            let bytes = fault_text(alloc, &fault)?;
-            let text = str::from_utf8(bytes.as_slice()).unwrap_or("a fault without a text");
-            Ok(format!(in alloc; "{text}")?)
-        }
+        Ok(loaded) => Ok(answer_to(alloc, &loaded)?),
+        Err(fault) => fault_line(alloc, &fault),
     }
 }
 
