@@ -6,7 +6,6 @@ pub mod Gathered
 pub mod Growth
 pub mod Headers
 pub mod Listed
-pub mod MadeAfter
 pub mod Marks
 pub mod MethodPlaces
 pub mod Names

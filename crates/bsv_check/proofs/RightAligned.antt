@@ -26,7 +26,8 @@ use Rattle.bsv_typing.proofs.Bound.{some_is}
 use Rattle.bsv_typing.proofs.RightCalls.{ok_is, went, there_is}
 use Rattle.bsv_check.specs.Modules.{Header}
 use Rattle.bsv_check.specs.Programs.{types_behind, Program, added, value_params, function_header, function_entry, with_function, has_number, is_function, function_case, module_params, module_header, header_of, module_entry, with_module, is_module, module_case}
-use Rattle.bsv_check.specs.Checked.{over_items, over_all, or_kept, header_step, Done, function_step, module_step, item_step, all_items, package_step, all_packages}
+use Rattle.bsv_check.specs.Headers.{over_items, over_all, or_kept, header_step}
+use Rattle.bsv_check.specs.Checked.{Done, function_step, module_step, item_step, all_items, package_step, all_packages}
 use Rattle.bsv_check.proofs.Entries.{distinct_with}
 use Rattle.bsv_check.proofs.Headers.{function_seen, module_seen}
 use Rattle.bsv_check.proofs.RightTypes.{name_added}
@@ -271,18 +272,13 @@ module_behind h p s m d next ahead a e =
     let same = ap (λ xs. record d { modules = xs }) (ok_is (d.modules ++ r.0 ∷ []) ms.0 r.2) ∙ ok_is (record d { modules = ms.0 }) next ms.2 in
     subst (λ q. Aligned q next) (ap (λ o. or_kept o h) (sym is)) (subst (Aligned whole) same aligned)
 
-types_step : (h p : Program) (i : Item) (d next : Done) → Aligned h d → (types_behind i d.types >=> λ t. Ok (record d { types = t })) ≡ Ok next → Aligned h next
-types_step h p i d next a e =
-    let r = went (types_behind i d.types) _ next e in
-    subst (Aligned h) (ok_is (record d { types = r.0 }) next r.2) (record { functions = a.functions; modules = a.modules })
-
 step_aligned : (h p : Program) (i : Item) (d next : Done) → Ahead h p → Aligned h d → item_step p i d ≡ Ok next → Aligned (header_step i h) next
 unfolding header_step item_step
 step_aligned h p (item.Function s f) d next ahead a e = function_behind h p s f d next ahead a e
 step_aligned h p (item.Module s m) d next ahead a e = module_behind h p s m d next ahead a e
-step_aligned h p (item.Import s x) d next ahead a e = types_step h p (item.Import s x) d next a e
-step_aligned h p (item.Typedef s x) d next ahead a e = types_step h p (item.Typedef s x) d next a e
-step_aligned h p (item.Interface s x) d next ahead a e = types_step h p (item.Interface s x) d next a e
+step_aligned h p (item.Import s x) d next ahead a e = subst (Aligned h) (ok_is d next e) a
+step_aligned h p (item.Typedef s x) d next ahead a e = subst (Aligned h) (ok_is d next e) a
+step_aligned h p (item.Interface s x) d next ahead a e = subst (Aligned h) (ok_is d next e) a
 
 items_aligned : (is : List Item) (h p : Program) (d next : Done) → Ahead (over_items header_step is h) p → Aligned h d → all_items p is d ≡ Ok next → Aligned (over_items header_step is h) next
 items_aligned [] h p d next ahead a e = subst (Aligned h) (ok_is d next e) a

@@ -36,13 +36,16 @@ use Rattle.bsv_typing.proofs.RightOperands.{strict_value}
 use Rattle.bsv_typing.proofs.RightCalls.{ok_is, went}
 use Rattle.bsv_check.specs.Modules.{Header, params_at, are_named}
 use Rattle.bsv_check.specs.Programs.{Types, shapes_of, limits_of, type_names, no_types, types_behind, Program, env_of, value_kind, value_params, written_at, function_header, function_case, module_case}
-use Rattle.bsv_check.specs.Checked.{over_items, over_all, or_kept, type_step, all_types, no_headers, all_headers, Done, nothing, function_step, module_step, item_step, all_items, AtPlace, ◌>==◌, package_step, all_packages, Made, made_of, typing}
+use Rattle.bsv_check.specs.Headers.{over_items, over_all, or_kept, type_step, all_types, no_headers, all_headers, AtPlace, ◌>==◌}
+use Rattle.bsv_check.specs.Checked.{Done, nothing, function_step, module_step, item_step, all_items, package_step, all_packages, Made, made_of, bodies, unless_blamed, typing}
+use Rattle.bsv_names.specs.declared.place.Place.{Place}
+use Rattle.bsv_check.specs.Blame.{Blame, headers_blame}
 use Rattle.bsv_check.specs.Rightness.{is_counted}
 use Rattle.bsv_check.specs.Laws.{FitsProgram}
 use Rattle.bsv_check.proofs.RightEnums.{enum_kept, enum_is_right}
 use Rattle.bsv_check.proofs.RightTypes.{struct_kept, interface_kept, labels, Kept}
 use Rattle.bsv_check.proofs.RightShapes.{item_right}
-use Rattle.bsv_check.proofs.RightRuns.{at_place, packaged, packages_types, all_header_types}
+use Rattle.bsv_check.proofs.RightRuns.{at_place, packaged, all_header_types}
 use Rattle.bsv_check.proofs.RightAligned.{found_at, ahead_self, Call, FunctionsAligned, ModulesAligned, Aligned, packages_aligned, calls_many}
 use Rattle.bsv_check.proofs.Headers.{function_seen}
 use Rattle.bsv_check.proofs.RightMethods.{sure_is}
@@ -106,11 +109,6 @@ pub record AllTyped (p : Program) (d : Done) : Type 0 where
   functions : (i : ℕ) (x : Function) → slice_get d.functions i ≡ Some x → FunctionTyped p i x
   modules : (i : ℕ) (x : Module) → slice_get d.modules i ≡ Some x → ModuleTyped p i x
 
-types_typed : (p : Program) (i : Item) (d next : Done) → AllTyped p d → (types_behind i d.types >=> λ t. Ok (record d { types = t })) ≡ Ok next → AllTyped p next
-types_typed p i d next a e =
-    let r = went (types_behind i d.types) _ next e in
-    subst (AllTyped p) (ok_is (record d { types = r.0 }) next r.2) (record { functions = a.functions; modules = a.modules })
-
 step_typed : (p : Program) (i : Item) (d next : Done) → AllTyped p d → item_step p i d ≡ Ok next → AllTyped p next
 unfolding item_step function_step module_step
 step_typed p (item.Function s f) d next a e =
@@ -123,9 +121,9 @@ step_typed p (item.Module s m) d next a e =
     let r = went (module_case p (length d.modules) m) (λ r. Ok (d.modules ++ r ∷ [])) ms.0 ms.1 in
     let whole : AllTyped p (record d { modules = d.modules ++ r.0 ∷ [] }) = record { functions = a.functions; modules = at_more (ModuleTyped p) d.modules r.0 a.modules (m, r.1) } in
     subst (AllTyped p) (ap (λ xs. record d { modules = xs }) (ok_is (d.modules ++ r.0 ∷ []) ms.0 r.2) ∙ ok_is (record d { modules = ms.0 }) next ms.2) whole
-step_typed p (item.Import s x) d next a e = types_typed p (item.Import s x) d next a e
-step_typed p (item.Typedef s x) d next a e = types_typed p (item.Typedef s x) d next a e
-step_typed p (item.Interface s x) d next a e = types_typed p (item.Interface s x) d next a e
+step_typed p (item.Import s x) d next a e = subst (AllTyped p) (ok_is d next e) a
+step_typed p (item.Typedef s x) d next a e = subst (AllTyped p) (ok_is d next e) a
+step_typed p (item.Interface s x) d next a e = subst (AllTyped p) (ok_is d next e) a
 
 items_typed : (p : Program) (is : List Item) (d next : Done) → AllTyped p d → all_items p is d ≡ Ok next → AllTyped p next
 items_typed p [] d next a e = subst (AllTyped p) (ok_is d next e) a
@@ -355,32 +353,36 @@ regroup : (a b c d e : Bool) → (a && b && c && d && e) ≡ true → (a && (b &
 regroup true b c d e h = h
 regroup false b c d e h = absurd cc
 
-start_aligned : (t : Types) → Aligned (no_headers t) (nothing true)
+start_aligned : (t : Types) → Aligned (no_headers t) nothing
 start_aligned t = record {
   functions = record { calls = refl; names = refl; once = refl; numbered = tt };
   modules = record { faces = refl; names = refl; once = refl; numbered = tt };
 }
 
-start_typed : (p : Program) → AllTyped p (nothing true)
+start_typed : (p : Program) → AllTyped p nothing
 start_typed p = record { functions = λ i x e. absurd cc; modules = λ i x e. absurd cc }
+
+-- what has a typing has the typing of its bodies, since nothing is blamed
+unblamed : (p : Program) (b : Blame) (ps : List Package) (m : Made) → unless_blamed p b ps ≡ Ok m → bodies p ps ≡ Ok m
+unblamed p b ps m e = by b.fault e where
+  by : (o : Option Place) → unless_blamed p (record b { fault = o }) ps ≡ Ok m → bodies p ps ≡ Ok m
+  by None e = e
+  by (Some first) e = absurd cc
 
 pub programs_right : (ps : List Package) (m : Made) → typing true ps ≡ Ok m → is_counted m ≡ true → is_right m.enums m.structs m.interfaces m.functions m.modules ≡ true
 unfolding typing all_headers all_types is_counted
 programs_right ps m e counts =
     let p = all_headers true ps in
-    let d = packaged_all (all_packages p 0 ps (nothing true)) m e in
+    let d = packaged_all p.types (all_packages p 0 ps nothing) m (unblamed p (headers_blame true ps) ps m e) in
     let start = no_headers (all_types true ps) in
-    let types_are = all_header_types ps start ∙ packages_types p 0 ps (nothing true) d.0 d.1 in
     let kept = subst Kept (sym (all_header_types ps start)) (all_kept ps (no_types true) start_kept) in
-    let aligned = packages_aligned ps 0 start p (nothing true) d.0 (ahead_self p) (start_aligned (all_types true ps)) d.1 in
-    let typed = packages_typed p 0 ps (nothing true) d.0 (start_typed p) d.1 in
-    let made : Made = record { enums = p.types.enums; structs = p.types.structs; interfaces = p.types.interfaces; functions = d.0.functions; modules = d.0.modules } in
-    let same : made ≡ m = ap (λ (t : Types). record { enums = t.enums; structs = t.structs; interfaces = t.interfaces; functions = d.0.functions; modules = d.0.modules }) types_are ∙ d.2 in
-    subst (λ (x : Made). is_right x.enums x.structs x.interfaces x.functions x.modules ≡ true) same
-    (few_right p d.0 kept aligned typed (subst (λ (x : Made). is_counted x ≡ true) (sym same) counts)) where
-      packaged_all : (r : AtPlace Done) (m : Made) → (r >== λ d. Ok (made_of d)) ≡ Ok m → (d : Done) × (r ≡ Ok d) × (made_of d ≡ m)
-      packaged_all (Ok d) m e = (d, refl, at_place (made_of d) m e)
-      packaged_all (Err s) m e = absurd cc
+    let aligned = packages_aligned ps 0 start p nothing d.0 (ahead_self p) (start_aligned (all_types true ps)) d.1 in
+    let typed = packages_typed p 0 ps nothing d.0 (start_typed p) d.1 in
+    subst (λ (x : Made). is_right x.enums x.structs x.interfaces x.functions x.modules ≡ true) d.2
+    (few_right p d.0 kept aligned typed (subst (λ (x : Made). is_counted x ≡ true) (sym d.2) counts)) where
+      packaged_all : (t : Types) (r : AtPlace Done) (m : Made) → (r >== λ d. Ok (made_of t d)) ≡ Ok m → (d : Done) × (r ≡ Ok d) × (made_of t d ≡ m)
+      packaged_all t (Ok d) m e = (d, refl, at_place (made_of t d) m e)
+      packaged_all t (Err s) m e = absurd cc
 
       few_right : (p : Program) (d : Done) → Kept p.types → Aligned p d → AllTyped p d →
           is_counted (record { enums = p.types.enums; structs = p.types.structs; interfaces = p.types.interfaces; functions = d.functions; modules = d.modules }) ≡ true →

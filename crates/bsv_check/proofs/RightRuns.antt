@@ -1,5 +1,4 @@
--- A program whose items all have a typing: its types are those of all items, and its functions and modules are those
--- that the headers tell, by number.
+-- Headers leave the types of a program as they are, and what packages give is what their items give.
 use Rattle.std.proofs.Common.{◌≡◌, ◌∙◌, ℕ, ◌+◌, List, [], ◌∷◌, Ok, Err, refl, sym, ap}
 use Rattle.bsv_ast.specs.declared.package.Function.{Function as WrittenFunction}
 use Rattle.bsv_ast.specs.declared.modules.Module.{Module as WrittenModule}
@@ -10,31 +9,8 @@ use Rattle.bsv_names.specs.PackageEvents.{items_of}
 use Rattle.bsv_typing.specs.Bodies.{Or}
 use Rattle.bsv_typing.proofs.RightCalls.{ok_is, went, there_is}
 use Rattle.bsv_check.specs.Programs.{types_behind, Program, added, function_entry, with_function, module_entry, with_module}
-use Rattle.bsv_check.specs.Checked.{over_items, over_all, or_kept, type_step, header_step, Done, function_step, module_step, item_step, all_items, AtPlace, placed, ◌>==◌, package_step, all_packages}
-
--- ---- the types
-
-item_types : (p : Program) (i : Item) (d next : Done) → item_step p i d ≡ Ok next → type_step i d.types ≡ next.types
-unfolding item_step type_step
-item_types p (item.Function s f) d next e =
-    let r = went (function_step p f d.functions) _ next e in
-    ap (λ (x : Done). x.types) (ok_is _ next r.2)
-item_types p (item.Module s m) d next e =
-    let r = went (module_step p m d.modules) _ next e in
-    ap (λ (x : Done). x.types) (ok_is _ next r.2)
-item_types p (item.Import s x) d next e = ap (λ (x : Done). x.types) (ok_is _ next e)
-item_types p (item.Typedef s x) d next e =
-    let r = went (types_behind (item.Typedef s x) d.types) _ next e in
-    ap (λ o. or_kept o d.types) r.1 ∙ ap (λ (x : Done). x.types) (ok_is _ next r.2)
-item_types p (item.Interface s x) d next e =
-    let r = went (types_behind (item.Interface s x) d.types) _ next e in
-    ap (λ o. or_kept o d.types) r.1 ∙ ap (λ (x : Done). x.types) (ok_is _ next r.2)
-
-items_types : (p : Program) (is : List Item) (d next : Done) → all_items p is d ≡ Ok next → over_items type_step is d.types ≡ next.types
-items_types p [] d next e = ap (λ (x : Done). x.types) (ok_is d next e)
-items_types p (i ∷ is) d next e =
-    let r = went (item_step p i d) (all_items p is) next e in
-    ap (over_items type_step is) (item_types p i d r.0 r.1) ∙ items_types p is r.0 next r.2
+use Rattle.bsv_check.specs.Headers.{over_items, over_all, or_kept, type_step, header_step, AtPlace, placed, ◌>==◌}
+use Rattle.bsv_check.specs.Checked.{Done, function_step, module_step, item_step, all_items, package_step, all_packages}
 
 pub at_place : {A : Type 0} (x y : A) → ◌≡◌ {A = AtPlace A} (Ok x) (Ok y) → x ≡ y
 at_place x y e = cc
@@ -42,13 +18,6 @@ at_place x y e = cc
 pub packaged : {A B : Type 0} (n : ℕ) (r : Or A) (f : A → AtPlace B) (y : B) → (placed n r >== f) ≡ Ok y → (x : A) × (r ≡ Ok x) × (f x ≡ Ok y)
 packaged n (Ok x) f y e = (x, refl, e)
 packaged n (Err s) f y e = absurd cc
-
-pub packages_types : (p : Program) (n : ℕ) (ps : List Package) (d next : Done) → all_packages p n ps d ≡ Ok next → over_all type_step ps d.types ≡ next.types
-unfolding package_step
-packages_types p n [] d next e = ap (λ (x : Done). x.types) (at_place d next e)
-packages_types p n (x ∷ xs) d next e =
-    let r = packaged n (all_items p (items_of x) d) (all_packages p (n + 1) xs) next e in
-    ap (over_all type_step xs) (items_types p (items_of x) d r.0 r.1) ∙ packages_types p (n + 1) xs r.0 next r.2
 
 -- headers leave the types as they are
 kept_types : (o : Or Program) (p : Program) → ((q : Program) → o ≡ Ok q → q.types ≡ p.types) → (or_kept o p).types ≡ p.types

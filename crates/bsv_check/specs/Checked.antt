@@ -11,11 +11,13 @@ use Rattle.bsv_types.specs.declared.definitions.Interface.{Interface}
 use Rattle.bsv_types.specs.declared.definitions.Function.{Function}
 use Rattle.bsv_types.specs.declared.modules.Module.{Module}
 use Rattle.bsv_names.specs.PackageEvents.{items_of}
-use Rattle.bsv_names.specs.Faults.{in_package, first_twice, first_unknown}
+use Rattle.bsv_names.specs.Faults.{first_twice, first_unknown}
 use Rattle.bsv_names.specs.Attributes.{first_bad_attribute}
 use Rattle.bsv_names.specs.declared.place.Place.{Place}
 use Rattle.bsv_typing.specs.Bodies.{Or, ◌>=>◌}
-use Rattle.bsv_check.specs.Programs.{Types, no_types, types_behind, Program, with_function, with_module, function_case, module_case}
+use Rattle.bsv_check.specs.Programs.{Types, Program, function_case, module_case}
+use Rattle.bsv_check.specs.Headers.{AtPlace, placed, ◌>==◌, all_headers}
+use Rattle.bsv_check.specs.Blame.{Blame, headers_blame, packages_judged, told}
 
 -- what a program is typed as
 pub record Made : Type 0 where
@@ -25,54 +27,15 @@ pub record Made : Type 0 where
   pub functions : List Function
   pub modules : List Module
 
--- ---- all definitions of a program
-
-module _ {A : Type 0} (step : Item → A → A) where
-  abbrev pub over_items : List Item → A → A
-  over_items [] x = x
-  over_items (i ∷ is) x = over_items is (step i x)
-
-  -- each item of each package, in load and text order
-  abbrev pub over_all : List Package → A → A
-  over_all [] x = x
-  over_all (p ∷ ps) x = over_all ps (over_items (items_of p) x)
-
--- an item with a fault defines nothing
-abbrev pub or_kept : {A : Type 0} → Or A → A → A
-or_kept (Ok y) x = y
-or_kept (Err s) x = x
-
-unfoldable pub type_step : Item → Types → Types
-type_step i t = or_kept (types_behind i t) t
-
-unfoldable pub all_types : Bool → List Package → Types
-all_types strict ps = over_all type_step ps (no_types strict)
-
-abbrev pub headers_behind : Item → Program → Or Program
-headers_behind (item.Function s f) p = with_function p f
-headers_behind (item.Module s m) p = with_module p m
-headers_behind _ p = Ok p
-
-unfoldable pub header_step : Item → Program → Program
-header_step i p = or_kept (headers_behind i p) p
-
-abbrev pub no_headers : Types → Program
-no_headers t = record { types = t; functions = []; modules = [] }
-
--- all types, and the headers of all functions and modules
-unfoldable pub all_headers : Bool → List Package → Program
-all_headers strict ps = over_all header_step ps (no_headers (all_types strict ps))
-
 -- ---- item by item
 
--- what was typed so far: the types before the next item, functions and modules
+-- the functions and modules that were typed so far
 pub record Done : Type 0 where
-  pub types : Types
   pub functions : List Function
   pub modules : List Module
 
-abbrev pub nothing : Bool → Done
-nothing strict = record { types = no_types strict; functions = []; modules = [] }
+abbrev pub nothing : Done
+nothing = record { functions = []; modules = [] }
 
 unfoldable pub function_step : Program → WrittenFunction → List Function → Or (List Function)
 function_step p f fs = function_case p (length fs) f >=> λ r. Ok (fs ++ r ∷ [])
@@ -83,24 +46,11 @@ module_step p m ms = module_case p (length ms) m >=> λ r. Ok (ms ++ r ∷ [])
 unfoldable pub item_step : Program → Item → Done → Or Done
 item_step p (item.Function s f) d = function_step p f d.functions >=> λ fs. Ok (record d { functions = fs })
 item_step p (item.Module s m) d = module_step p m d.modules >=> λ ms. Ok (record d { modules = ms })
-item_step p i d = types_behind i d.types >=> λ t. Ok (record d { types = t })
+item_step p i d = Ok d
 
 abbrev pub all_items : Program → List Item → Done → Or Done
 all_items p [] d = Ok d
 all_items p (i ∷ is) d = item_step p i d >=> all_items p is
-
--- with the number of the package in which a fault stands
-abbrev pub AtPlace : Type 0 → Type 0
-AtPlace A = Result A Place
-
-abbrev pub placed : {A : Type 0} → ℕ → Or A → AtPlace A
-placed number (Ok x) = Ok x
-placed number (Err s) = Err (in_package number s)
-
-infixl 10 ◌>==◌
-abbrev pub ◌>==◌ : {A B : Type 0} → AtPlace A → (A → AtPlace B) → AtPlace B
-(Ok x) >== f = f x
-(Err p) >== f = Err p
 
 unfoldable pub package_step : Program → ℕ → Package → Done → AtPlace Done
 package_step p number x d = placed number (all_items p (items_of x) d)
@@ -110,12 +60,23 @@ abbrev pub all_packages : Program → ℕ → List Package → Done → AtPlace 
 all_packages p number [] d = Ok d
 all_packages p number (x ∷ xs) d = package_step p number x d >== all_packages p (number + 1) xs
 
-abbrev pub made_of : Done → Made
-made_of d = record { enums = d.types.enums; structs = d.types.structs; interfaces = d.types.interfaces; functions = d.functions; modules = d.modules }
+abbrev pub made_of : Types → Done → Made
+made_of t d = record { enums = t.enums; structs = t.structs; interfaces = t.interfaces; functions = d.functions; modules = d.modules }
 
--- the typing of a program, or the place of its first fault
+-- the bodies of a program whose types and headers have a typing
+abbrev pub bodies : Program → List Package → AtPlace Made
+bodies p ps = all_packages p 0 ps nothing >== λ d. Ok (made_of p.types d)
+
+-- the fault of a type or a header, if one is blamed; behind it or in front of it may be one of a body
+abbrev pub unless_blamed : Program → Blame → List Package → AtPlace Made
+unless_blamed p b ps = by b.fault where
+  by : Option Place → AtPlace Made
+  by None = bodies p ps
+  by (Some first) = Err (told first (packages_judged p b 0 ps))
+
+-- the typing of a program, or the place of the first fault that is blamed
 unfoldable pub typing : Bool → List Package → AtPlace Made
-typing strict ps = all_packages (all_headers strict ps) 0 ps (nothing strict) >== λ d. Ok (made_of d)
+typing strict ps = unless_blamed (all_headers strict ps) (headers_blame strict ps) ps
 
 -- widths and fits left aside
 abbrev pub loosely : List Package → AtPlace Made

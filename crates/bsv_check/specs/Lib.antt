@@ -1,3 +1,5 @@
+pub mod Headers
+pub mod Blame
 pub mod Checked
 pub mod Growing
 pub mod Laws

@@ -1,7 +1,7 @@
 -- The typing of modules: their statements, instances, rules and methods (Bluespec reference guide, "Module
 -- definitions"). A fault stands at the statement, the rule or the method that it is in.
 use Rattle.std.specs.Prelude.{ℕ, Bool, true, false, ◌&&◌, List, [], ◌∷◌, ◌++◌, map, length, slice_get, slice_set, replicate, Option, Some, None, Ok, Err, codes, if◌then◌else◌}
-use Rattle.std.specs.List.{list_all, flat_map}
+use Rattle.std.specs.List.{list_all}
 use Rattle.std.specs.Option.{option_or}
 use Rattle.std.specs.Str.{bytes_eq}
 use Rattle.bsv_ast.specs.Names.{is_lower}
@@ -17,7 +17,7 @@ use Rattle.bsv_ast.specs.declared.modules.Rule.{Rule as WrittenRule}
 use Rattle.bsv_ast.specs.declared.modules.Method.{Method as WrittenMethod}
 use Rattle.bsv_ast.specs.declared.modules.ModuleStmt.{ModuleStmt as WrittenStmt, fold-ModuleStmt, out-ModuleStmt}
 use Rattle.bsv_ast.specs.declared.modules.ModuleStmt.TheOpen.{ModuleStmt-F, ModuleBranch-F}
-use Rattle.bsv_ast.specs.declared.modules.ModuleBranch.{ModuleBranch as WrittenBranch}
+use Rattle.bsv_ast.specs.declared.modules.ModuleBranch.{ModuleBranch as WrittenBranch, fold-ModuleBranch}
 use Rattle.bsv_ast.specs.declared.statements.Stmt.{Stmt as InnerStmt}
 use Rattle.bsv_ast.specs.declared.statements.Declaration.{Declaration as InnerDeclaration}
 use Rattle.bsv_ast.specs.declared.statements.Head.{Head as InnerHead}
@@ -419,13 +419,32 @@ direct_step site x _ = x
 abbrev pub direct : Site → WrittenStmt → Run
 direct site x = direct_step site (nested site x) (out-ModuleStmt x)
 
--- the names of the methods that stand directly in the body
-abbrev pub own_name : ModuleStmt-F WrittenStmt WrittenBranch → List (List ℕ)
-own_name (ModuleStmt-F.Method s m) = m.name.name ∷ []
-own_name _ = []
+-- one list behind the other
+abbrev pub together : List (List (List ℕ)) → List (List ℕ)
+together [] = []
+together (xs ∷ xss) = xs ++ together xss
 
+abbrev pub last_names : Option (List (List ℕ)) → List (List ℕ)
+last_names None = []
+last_names (Some xs) = xs
+
+abbrev pub names_step : ModuleStmt-F (List (List ℕ)) (List (List ℕ)) → List (List ℕ)
+names_step (ModuleStmt-F.Method s m) = m.name.name ∷ []
+names_step (ModuleStmt-F.Block s xs) = together xs
+names_step (ModuleStmt-F.If s branches otherwise) = together branches ++ last_names otherwise
+names_step (ModuleStmt-F.For s h x) = x
+names_step _ = []
+
+-- the names of the methods of a statement, also of those in it
+abbrev pub stmt_names : WrittenStmt → List (List ℕ)
+stmt_names = fold-ModuleStmt (List (List ℕ)) (List (List ℕ)) names_step (λ b. b.arm)
+
+abbrev pub branch_names : WrittenBranch → List (List ℕ)
+branch_names = fold-ModuleBranch (List (List ℕ)) (List (List ℕ)) names_step (λ b. b.arm)
+
+-- the names of the methods that stand anywhere in the body; one that stands in a block has a fault of its own
 abbrev pub method_names : List WrittenStmt → List (List ℕ)
-method_names xs = flat_map (λ x. own_name (out-ModuleStmt x)) xs
+method_names xs = together (map stmt_names xs)
 
 -- the methods of these names, by their numbers
 abbrev pub marked : Option (ℕ × Signature) → List Bool → List Bool

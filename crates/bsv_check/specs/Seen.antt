@@ -6,6 +6,7 @@ use Rattle.bsv_scopes.specs.Scopes.{Entries, found}
 use Rattle.bsv_scopes.specs.Seen.{entries}
 use Rattle.bsv_scopes.specs.declared.scope.Scope.{Scope}
 use Rattle.bsv_names.specs.declared.place.Place.{Place}
+use Rattle.bsv_names.specs.UntypedSeen.{untyped}
 use Rattle.bsv_types.specs.declared.types.Ty.{Ty}
 use Rattle.bsv_types.specs.declared.definitions.Param.{Param}
 use Rattle.bsv_types.specs.declared.modules.ModuleStmt.{ModuleStmt}
@@ -24,6 +25,8 @@ use Rattle.bsv_typing.specs.declared.fail.BodyFail.TheVariants as body_fail
 use Rattle.bsv_check.specs.declared.named.SeenNames as code_names
 use Rattle.bsv_check.specs.declared.program.Program as code_program
 use Rattle.bsv_check.specs.declared.checking.Done as code_done
+use Rattle.bsv_check.specs.declared.checking.Parts as code_parts
+use Rattle.bsv_check.specs.declared.blame.Blame as code_blame
 use Rattle.bsv_check.specs.declared.checking.PlaceFail.{PlaceFail}
 use Rattle.bsv_check.specs.declared.checking.PlaceFail.TheVariants as place_fail
 use Rattle.bsv_check.specs.declared.site.Header as code_header
@@ -35,7 +38,9 @@ use Rattle.bsv_check.specs.Modules.{Header, Site, State, Run, Arm, stmt_step, ar
 use Rattle.bsv_check.specs.Programs.{Types, Program}
 use Rattle.bsv_check.specs.declared.fault.CheckFault.{CheckFault}
 use Rattle.bsv_check.specs.declared.fault.CheckFault.TheVariants as fault
-use Rattle.bsv_check.specs.Checked.{AtPlace, Done, Made, made_of, Refused, twice_defined, bad_attribute, unknown_name, type_fault, width_fault}
+use Rattle.bsv_check.specs.Headers.{AtPlace}
+use Rattle.bsv_check.specs.Blame.{Blame}
+use Rattle.bsv_check.specs.Checked.{Done, Made, made_of, Refused, twice_defined, bad_attribute, unknown_name, type_fault, width_fault}
 
 abbrev pub kinds : List Ty → List Kind
 kinds ts = map kind ts
@@ -133,10 +138,14 @@ abbrev pub body_seen : code_state.State × List ModuleStmt → State × List Mod
 body_seen r = (state_of r.0, r.1)
 
 abbrev pub done_of : code_done.Done → Done
-done_of d = record { types = types_of d.types; functions = d.functions; modules = d.modules }
+done_of d = record { functions = d.functions; modules = d.modules }
 
-abbrev pub made_by : code_done.Done → Made
-made_by d = made_of (done_of d)
+abbrev pub made_by : code_parts.Parts → Made
+made_by x = made_of (types_of x.types) (done_of x.done)
+
+-- what is blamed so far
+abbrev pub blame_of : code_blame.Blame → Blame
+blame_of b = record { untyped = untyped b.untyped; leaning = keys_of (entries b.leaning); fault = b.fault }
 
 -- what a function that fails leaves open: nothing where it says that there is no typing at this place
 abbrev pub FailsAtPlace : {Y : Type 0} → PlaceFail → AtPlace Y → Type 0

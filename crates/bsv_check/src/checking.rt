@@ -1,30 +1,28 @@
-ghost use Rattle.std.specs.Prelude.{◌≡◌, Ok, IfOk};
-ghost use Rattle.bsv_scopes.specs.Seen.{entries};
-ghost use Rattle.bsv_types.specs.Kinds.{kind};
+ghost use Rattle.std.specs.Prelude.{◌≡◌, Ok, Err, IfOk};
 ghost use Rattle.bsv_typing.specs.SeenBodies.{GivesAt};
+ghost use Rattle.bsv_check.specs.Blame as blames;
 ghost use Rattle.bsv_check.specs.Checked as spec;
-ghost use Rattle.bsv_check.specs.Programs as programs;
 ghost use Rattle.bsv_check.specs.declared.checking.PlaceFail.TheVariants as place_fail;
 ghost use Rattle.bsv_check.specs.declared.fault.CheckFault.TheVariants as check_fault;
-ghost use Rattle.bsv_check.specs.Seen.{Answers, GivesPlace, KeptAt, Refuses, Stands, done_of, made_by, program_of, seen_by, typed_seen, types_of};
-ghost use Rattle.bsv_names.specs.PackageEvents as listed;
+ghost use Rattle.bsv_check.specs.Seen.{Answers, GivesPlace, blame_of, Refuses, Stands, done_of, made_by, program_of, typed_seen};
 
+use crate::blame::{Blame, earlier};
 use crate::counted::is_counted;
-use crate::definitions::define_types;
 use crate::fault::CheckFault;
+use crate::headings::{Headings, items_of, read_headings};
+use crate::judged::judge_packages;
 use crate::law::programs_are_right;
-use crate::program::{Program, announce_function, announce_module, function, module};
+use crate::program::{Program, function, module};
 use bsv_ast::{Function as WrittenFunction, Item, Module as WrittenModule, Package};
-use bsv_bits::{Name, OutOfMemory};
+use bsv_bits::OutOfMemory;
 use bsv_names::{Place, bad_attribute, twice, unknown};
-use bsv_scopes::Scope;
-use bsv_types::{Function, Interface, Items, Module, Ty, Typed};
+use bsv_types::{Function, Items, Module, Typed};
 use bsv_typing::{BodyFail, Context, at, place_number};
 use std::alloc::Global;
 
 /// Why a program has no typing.
 #[derive(Debug, Drop)]
-enum PlaceFail {
+pub(crate) enum PlaceFail {
     /// Memory ran out.
     Memory,
     /// What stands at this place has none.
@@ -39,165 +37,18 @@ impl From<OutOfMemory> for PlaceFail {
     }
 }
 
-/// What was typed so far.
+/// The functions and modules that were typed so far.
 #[derive(Drop)]
 pub(crate) struct Done {
-    /// The types before the next item.
-    pub(crate) types: Context,
     pub(crate) functions: Items<Function>,
     pub(crate) modules: Items<Module>,
 }
 
-/// The items of a package.
-fn items_of(package: &Package) -> &[Item]
-    ensures { result.now ≡ listed.items_of «package».now }
-{
-    match package {
-        Package::Named(_, _, items) | Package::Bare(_, items) => items.as_slice(),
-    }
-}
-
-/// `Empty`, which has no methods.
-fn empty_interface(alloc: Global) -> Result<Interface, OutOfMemory>
-    ensures { IfOk result (λ i. i ≡ programs.empty_interface) }
-{
-    let name = Name::new(alloc, b"Empty")?;
-    Ok(Interface {
-        name,
-        methods: Items::new(alloc),
-    })
-}
-
-/// The name `Empty` alone.
-#[tactic(auto, unfolding(crate::specs::Seen::seen_by))]
-fn empty_name(alloc: Global) -> Result<Scope<Ty>, OutOfMemory>
-    ensures { IfOk result (λ names. seen_by kind (entries names) ≡ programs.empty_name) }
-{
-    let mut names = Scope::new(alloc);
-    let name = Name::new(alloc, b"Empty")?;
-    names.define(name, Ty::Interface(0))?;
-    Ok(names)
-}
-
-/// `Empty` alone.
-#[tactic(auto, using(crate::proofs::Views::nothing))]
-fn no_types(alloc: Global, strict: bool) -> Result<Context, OutOfMemory>
-    ensures { IfOk result (λ c. types_of c ≡ programs.no_types strict) }
-{
-    let types = empty_name(alloc)?;
-    let empty = empty_interface(alloc)?;
-    let mut interfaces = Items::new(alloc);
-    interfaces.push(empty)?;
-    Ok(Context {
-        strict,
-        enums: Items::new(alloc),
-        structs: Items::new(alloc),
-        interfaces,
-        functions: Scope::new(alloc),
-        callable: 0,
-        labels: Scope::new(alloc),
-        types,
-    })
-}
-
-/// The types of an item more, or none where it has a fault.
-#[tactic(auto, unfolding(crate::specs::Checked::type_step))]
-fn add_type(alloc: Global, context: &mut Context, item: &Item) -> Result<(), OutOfMemory>
-    ensures { IfOk result (λ done. types_of context.new ≡ spec.type_step item.now (types_of context.old)) }
-{
-    match define_types(alloc, context, item) {
-        Ok(()) | Err(BodyFail::At(_)) => Ok(()),
-        Err(BodyFail::Memory) => Err(OutOfMemory),
-    }
-}
-
-/// The types of these items more, but those of items with faults.
-fn add_types(alloc: Global, context: &mut Context, items: &[Item]) -> Result<(), OutOfMemory>
-    ensures { IfOk result (λ done. types_of context.new ≡ spec.over_items spec.type_step items.now (types_of context.old)) }
-{
-    let mut rest = items;
-    while let Some((item, after)) = rest.split_first() {
-        add_type(alloc, context, item)?;
-        rest = after;
-    }
-    Ok(())
-}
-
-/// All types of a program.
-#[tactic(auto, unfolding(crate::specs::Checked::all_types))]
-fn all_types(alloc: Global, strict: bool, packages: &[Package]) -> Result<Context, OutOfMemory>
-    ensures { IfOk result (λ c. types_of c ≡ spec.all_types strict packages.now) }
-{
-    let mut context = no_types(alloc, strict)?;
-    let mut rest = packages;
-    while let Some((package, after)) = rest.split_first() {
-        add_types(alloc, &mut context, items_of(package))?;
-        rest = after;
-    }
-    Ok(context)
-}
-
-/// The heading of the function or the module that an item defines.
-fn announce(alloc: Global, program: &mut Program, item: &Item) -> Result<(), BodyFail>
-    ensures given { GivesAt (λ done. program_of program.new) result (spec.headers_behind item.now (program_of program.old)) }
-    ensures kept { KeptAt result (program_of program.new ≡ program_of program.old) }
-{
-    match item {
-        Item::Function(_, written) => announce_function(alloc, program, written),
-        Item::Module(_, written) => announce_module(alloc, program, written),
-        Item::Import(_, _) | Item::Typedef(_, _) | Item::Interface(_, _) => Ok(()),
-    }
-}
-
-/// The heading of an item more, or none where it has a fault.
-#[tactic(auto, unfolding(crate::specs::Checked::header_step))]
-fn add_heading(alloc: Global, program: &mut Program, item: &Item) -> Result<(), OutOfMemory>
-    ensures { IfOk result (λ done. program_of program.new ≡ spec.header_step item.now (program_of program.old)) }
-{
-    match announce(alloc, program, item) {
-        Ok(()) | Err(BodyFail::At(_)) => Ok(()),
-        Err(BodyFail::Memory) => Err(OutOfMemory),
-    }
-}
-
-/// The headings of these items more, but those of items with faults.
-fn add_headings(alloc: Global, program: &mut Program, items: &[Item]) -> Result<(), OutOfMemory>
-    ensures { IfOk result (λ done. program_of program.new ≡ spec.over_items spec.header_step items.now (program_of program.old)) }
-{
-    let mut rest = items;
-    while let Some((item, after)) = rest.split_first() {
-        add_heading(alloc, program, item)?;
-        rest = after;
-    }
-    Ok(())
-}
-
-/// A program of these types, in which nothing has a heading yet.
-#[tactic(auto, using(crate::proofs::Views::nothing))]
-fn no_headings(alloc: Global, types: Context) -> Program
-    ensures { program_of result ≡ spec.no_headers (types_of types) }
-{
-    let mut context = types;
-    context.functions = Scope::new(alloc);
-    Program {
-        context,
-        modules: Scope::new(alloc),
-    }
-}
-
-/// All types of a program, and the headings of all its functions and modules.
-#[tactic(auto, unfolding(crate::specs::Checked::all_headers))]
-fn all_headings(alloc: Global, strict: bool, packages: &[Package]) -> Result<Program, OutOfMemory>
-    ensures { IfOk result (λ p. program_of p ≡ spec.all_headers strict packages.now) }
-{
-    let types = all_types(alloc, strict, packages)?;
-    let mut program = no_headings(alloc, types);
-    let mut rest = packages;
-    while let Some((package, after)) = rest.split_first() {
-        add_headings(alloc, &mut program, items_of(package))?;
-        rest = after;
-    }
-    Ok(program)
+/// What a program is typed as.
+#[derive(Drop)]
+pub(crate) struct Parts {
+    pub(crate) types: Context,
+    pub(crate) done: Done,
 }
 
 /// A function, one more that is typed.
@@ -248,9 +99,7 @@ fn add_item(
     match item {
         Item::Function(_, written) => add_function(alloc, program, &mut done.functions, written),
         Item::Module(_, written) => add_module(alloc, program, &mut done.modules, written),
-        Item::Import(_, _) | Item::Typedef(_, _) | Item::Interface(_, _) => {
-            define_types(alloc, &mut done.types, item)
-        }
+        Item::Import(_, _) | Item::Typedef(_, _) | Item::Interface(_, _) => Ok(()),
     }
 }
 
@@ -301,7 +150,8 @@ fn add_packages(
     done: &mut Done,
     packages: &[Package],
 ) -> Result<(), PlaceFail>
-    ensures { GivesPlace (λ u. done_of done.new) result (spec.all_packages (program_of program.old) 0 packages.now (done_of done.old)) }
+    ensures typed { GivesPlace (λ u. done_of done.new) result (spec.all_packages (program_of program.old) 0 packages.now (done_of done.old)) }
+    ensures kept { program_of program.new ≡ program_of program.old }
 {
     let mut rest = packages;
     let mut number: u32 = 0;
@@ -313,38 +163,52 @@ fn add_packages(
     Ok(())
 }
 
-/// Nothing is typed yet.
-fn nothing(alloc: Global, strict: bool) -> Result<Done, OutOfMemory>
-    ensures { IfOk result (λ d. done_of d ≡ spec.nothing strict) }
+/// The bodies of a program whose types and headers have a typing, or the place of the first fault.
+fn bodies(alloc: Global, program: Program, packages: &[Package]) -> Result<Parts, PlaceFail>
+    ensures { GivesPlace made_by result (spec.bodies (program_of program) packages.now) }
 {
-    let types = no_types(alloc, strict)?;
-    Ok(Done {
-        types,
+    let mut program = program;
+    let mut done = Done {
         functions: Items::new(alloc),
         modules: Items::new(alloc),
+    };
+    add_packages(alloc, &mut program, &mut done, packages)?;
+    Ok(Parts {
+        types: program.context,
+        done,
     })
 }
 
-/// All items of a program that are typed, or the place of the first fault.
-fn typed_items(
+/// The place that is told where a type or a header is blamed at the first one.
+fn told(
     alloc: Global,
     program: &mut Program,
-    strict: bool,
+    blame: &Blame,
+    first: Place,
     packages: &[Package],
-) -> Result<Done, PlaceFail>
-    ensures { GivesPlace done_of result (spec.all_packages (program_of program.old) 0 packages.now (spec.nothing strict)) }
+) -> Result<Parts, PlaceFail>
+    ensures { GivesPlace made_by result (Err (blames.told first (blames.packages_judged (program_of program.old) (blame_of blame.now) 0 packages.now))) }
 {
-    let mut done = nothing(alloc, strict)?;
-    add_packages(alloc, program, &mut done, packages)?;
-    Ok(done)
+    match judge_packages(alloc, program, blame, packages) {
+        Ok(()) => Err(PlaceFail::At(first)),
+        Err(PlaceFail::At(place)) => Err(PlaceFail::At(earlier(Some(first), place))),
+        Err(PlaceFail::Memory) => Err(PlaceFail::Memory),
+    }
 }
 
-/// The typing of a program, or the place of its first fault.
-fn typing(alloc: Global, strict: bool, packages: &[Package]) -> Result<Done, PlaceFail>
+/// The typing of a program, or the place of the first fault that is blamed.
+#[tactic(auto, unfolding(crate::specs::Checked::typing))]
+fn typing(alloc: Global, strict: bool, packages: &[Package]) -> Result<Parts, PlaceFail>
     ensures { GivesPlace made_by result (spec.typing strict packages.now) }
 {
-    let mut program = all_headings(alloc, strict, packages)?;
-    typed_items(alloc, &mut program, strict, packages)
+    let Headings { program, blame } = read_headings(alloc, strict, packages)?;
+    match blame.fault {
+        None => bodies(alloc, program, packages),
+        Some(first) => {
+            let mut program = program;
+            told(alloc, &mut program, &blame, first, packages)
+        }
+    }
 }
 
 /// Nothing where no name and no attribute has a fault.
@@ -365,7 +229,7 @@ fn check_names(alloc: Global, packages: &[Package]) -> Result<(), CheckFault>
 }
 
 /// The typing of a program, widths and fits left aside.
-fn check_loosely(alloc: Global, packages: &[Package]) -> Result<Done, CheckFault>
+fn check_loosely(alloc: Global, packages: &[Package]) -> Result<Parts, CheckFault>
     ensures { Answers made_by result (spec.or_type_fault (spec.loosely packages.now)) }
 {
     match typing(alloc, false, packages) {
@@ -376,7 +240,7 @@ fn check_loosely(alloc: Global, packages: &[Package]) -> Result<Done, CheckFault
 }
 
 /// The typing of a program with widths and fits.
-fn check_strictly(alloc: Global, packages: &[Package]) -> Result<Done, CheckFault>
+fn check_strictly(alloc: Global, packages: &[Package]) -> Result<Parts, CheckFault>
     ensures answers { Answers made_by result (spec.or_width_fault (spec.strictly packages.now)) }
     ensures strict { IfOk result (λ d. spec.strictly packages.now ≡ Ok (made_by d)) }
 {
@@ -389,7 +253,7 @@ fn check_strictly(alloc: Global, packages: &[Package]) -> Result<Done, CheckFaul
 
 /// The typing of a program that has both typings.
 #[tactic(auto, unfolding(crate::specs::Checked::typed))]
-fn check_types(alloc: Global, packages: &[Package]) -> Result<Done, CheckFault>
+fn check_types(alloc: Global, packages: &[Package]) -> Result<Parts, CheckFault>
     ensures answers { Answers made_by result (spec.typed packages.now) }
     ensures strict { IfOk result (λ d. spec.strictly packages.now ≡ Ok (made_by d)) }
 {
@@ -399,7 +263,7 @@ fn check_types(alloc: Global, packages: &[Package]) -> Result<Done, CheckFault>
 
 /// The typing of a program without a fault, or the first refusal.
 #[tactic(auto, unfolding(crate::specs::Checked::checked))]
-fn checked_parts(alloc: Global, packages: &[Package]) -> Result<Done, CheckFault>
+fn checked_parts(alloc: Global, packages: &[Package]) -> Result<Parts, CheckFault>
     ensures answers { Answers made_by result (spec.checked packages.now) }
     ensures strict { IfOk result (λ d. spec.strictly packages.now ≡ Ok (made_by d)) }
 {
@@ -411,22 +275,18 @@ fn checked_parts(alloc: Global, packages: &[Package]) -> Result<Done, CheckFault
 fn check_all(alloc: Global, packages: &[Package]) -> Result<Typed, CheckFault>
     ensures { Answers typed_seen result (spec.checked packages.now) }
 {
-    let done = checked_parts(alloc, packages)?;
-    if !is_counted(&done) {
+    let parts = checked_parts(alloc, packages)?;
+    if !is_counted(&parts) {
         return Err(CheckFault::OutOfMemory);
     }
     programs_are_right();
-    let Done {
-        types,
-        functions,
-        modules,
-    } = done;
+    let Parts { types, done } = parts;
     Ok(Typed::new(
         types.enums,
         types.structs,
         types.interfaces,
-        functions,
-        modules,
+        done.functions,
+        done.modules,
     ))
 }
 

@@ -5,14 +5,21 @@ ghost use Rattle.bsv_types.specs.Programs.{all_countable};
 ghost use Rattle.bsv_check.specs.Rightness as spec;
 ghost use Rattle.bsv_check.specs.Seen.{made_by};
 
-use crate::checking::Done;
+use crate::checking::Parts;
 use bsv_types::{Enum, Interface, Items, Module, Struct};
+
+/// Whether a number of 32 bits names each place of a slice.
+fn is_slice_countable<T>(items: &[T]) -> bool
+    ensures { result ≡ countable items.now }
+{
+    (items.len() as u64) < 4_294_967_296
+}
 
 /// Whether a number of 32 bits names each place of a list.
 fn is_countable<T>(items: &Items<T>) -> bool
     ensures { result ≡ countable items.now }
 {
-    (items.len() as u64) < 4_294_967_296
+    is_slice_countable(items.as_slice())
 }
 
 /// Whether a number names each label of the enums.
@@ -49,7 +56,7 @@ fn are_interfaces_counted(interfaces: &[Interface]) -> bool
 {
     let mut rest = interfaces;
     while let Some((next, after)) = rest.split_first() {
-        if !is_countable(&next.methods) {
+        if !is_slice_countable(next.methods.as_slice()) {
             return false;
         }
         rest = after;
@@ -72,24 +79,24 @@ fn are_modules_counted(modules: &[Module]) -> bool
 }
 
 /// Whether a number names each definition.
-fn are_definitions_counted(done: &Done) -> bool
-    ensures { result ≡ all_countable done.now.types.enums done.now.types.structs done.now.types.interfaces done.now.functions done.now.modules }
+fn are_definitions_counted(parts: &Parts) -> bool
+    ensures { result ≡ all_countable parts.now.types.enums parts.now.types.structs parts.now.types.interfaces parts.now.done.functions parts.now.done.modules }
 {
-    is_countable(&done.types.enums)
-        && is_countable(&done.types.structs)
-        && is_countable(&done.types.interfaces)
-        && is_countable(&done.functions)
-        && is_countable(&done.modules)
+    is_countable(&parts.types.enums)
+        && is_countable(&parts.types.structs)
+        && is_countable(&parts.types.interfaces)
+        && is_countable(&parts.done.functions)
+        && is_countable(&parts.done.modules)
 }
 
 /// Whether a number of 32 bits names each place of each list that is numbered.
 #[tactic(auto, unfolding(crate::specs::Rightness::is_counted))]
-pub(crate) fn is_counted(done: &Done) -> bool
-    ensures { result ≡ spec.is_counted (made_by done.now) }
+pub(crate) fn is_counted(parts: &Parts) -> bool
+    ensures { result ≡ spec.is_counted (made_by parts.now) }
 {
-    are_definitions_counted(done)
-        && are_enums_counted(done.types.enums.as_slice())
-        && are_structs_counted(done.types.structs.as_slice())
-        && are_interfaces_counted(done.types.interfaces.as_slice())
-        && are_modules_counted(done.modules.as_slice())
+    are_definitions_counted(parts)
+        && are_enums_counted(parts.types.enums.as_slice())
+        && are_structs_counted(parts.types.structs.as_slice())
+        && are_interfaces_counted(parts.types.interfaces.as_slice())
+        && are_modules_counted(parts.done.modules.as_slice())
 }

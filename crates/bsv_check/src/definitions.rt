@@ -16,7 +16,7 @@ use bsv_ast::{
 };
 use bsv_bits::{Name, OutOfMemory};
 use bsv_scopes::Scope;
-use bsv_types::{Enum, Field, Interface, Items, MethodHeader, Struct, Ty};
+use bsv_types::{Enum, Field, Interface, Items, MethodHeader, Methods, Struct, Ty};
 use bsv_typing::{
     BodyFail, Context, Fail, Label, at, is_lower, is_upper, place_number, written_effect,
     written_type,
@@ -392,6 +392,7 @@ fn made_interface(
         return Err(BodyFail::At(span));
     }
     let name = Name::new(alloc, text)?;
+    let methods = Methods::new(alloc, methods)?;
     Ok(Interface { name, methods })
 }
 

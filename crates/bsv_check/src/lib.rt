@@ -3,11 +3,13 @@
 //! Modules in reading order: `fault` (why there is no typed tree), `site` (what the statements of a module may
 //! name), `params` (parameters), `named` (names that come once), `attributes` (what attributes ask for), `makers`
 //! (what makes an instance), `elements` (bodies, rules and methods), `module_statements` (the statements of
-//! modules), `definitions` (types), `program` (functions and modules), `counted` (lists that numbers of 32 bits
-//! name), `law` (what the typing promises), `checking` (whole programs).
+//! modules), `definitions` (types), `program` (functions and modules), `blame` (who is blamed for a fault),
+//! `headings` (all types and headers), `judged` (bodies without a fault of their own), `counted` (lists that
+//! numbers of 32 bits name), `law` (what the typing promises), `checking` (whole programs).
 //!
-//! The definition is `specs/Checked.antt` (the first refusal, and the typed program), over `specs/Programs.antt`
-//! (types, functions and modules) and `specs/Modules.antt` (the statements of modules). `specs/Rightness.antt` says
+//! The definition is `specs/Checked.antt` (the first refusal, and the typed program), over `specs/Blame.antt` (which
+//! fault of types is told), `specs/Headers.antt` (all types and headers), `specs/Programs.antt` (types, functions and
+//! modules) and `specs/Modules.antt` (the statements of modules). `specs/Rightness.antt` says
 //! what is promised of a typed program, and `specs/Seen.antt` what the definitions see of the code.
 //!
 //! What is held while something may still fail stands in a `Boxed`: an early end then drops it in one step, which
@@ -15,11 +17,14 @@
 #![tactic(auto)]
 
 mod attributes;
+mod blame;
 mod checking;
 mod counted;
 mod definitions;
 mod elements;
 mod fault;
+mod headings;
+mod judged;
 mod law;
 mod makers;
 mod module_statements;

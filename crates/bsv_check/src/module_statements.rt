@@ -439,7 +439,7 @@ fn repeat(
 }
 
 /// A statement that stands directly in the body of the module.
-fn direct(
+pub(crate) fn direct(
     alloc: Global,
     site: &Site<'_>,
     state: &mut State,

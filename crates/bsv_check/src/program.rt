@@ -1,6 +1,5 @@
-ghost use Rattle.std.specs.Prelude.{◌≡◌, false, IfOk, map, option_map, replicate};
+ghost use Rattle.std.specs.Prelude.{◌≡◌, ◌++◌, false, IfOk, map, option_map, replicate};
 ghost use Rattle.std.specs.List.{list_all};
-ghost use Rattle.bsv_ast.specs.declared.modules.ModuleStmt.{out-ModuleStmt};
 ghost use Rattle.bsv_types.specs.Kinds.{kind};
 ghost use Rattle.bsv_types.specs.Methods.{methods, param_kinds};
 ghost use Rattle.bsv_typing.specs.Seen.{method_of, shapes, shown};
@@ -18,7 +17,7 @@ use crate::params::{Allowed, declare_params, params};
 use crate::site::{Header, Site, State};
 use bsv_ast::{
     Body as WrittenBody, Function as WrittenFunction, Module as WrittenModule,
-    ModuleStmt as WrittenStmt, Param as WrittenParam, Span,
+    ModuleBranch as WrittenBranch, ModuleStmt as WrittenStmt, Param as WrittenParam, Span,
 };
 use bsv_bits::Name;
 use bsv_scopes::{Scope, Scopes};
@@ -60,7 +59,11 @@ fn param_types(alloc: Global, params: &[Param]) -> Result<Items<Ty>, AllocError>
 }
 
 /// Scopes with these parameters.
-fn param_scopes(alloc: Global, span: Span, params: &[Param]) -> Result<Scopes<Variable>, BodyFail>
+pub(crate) fn param_scopes(
+    alloc: Global,
+    span: Span,
+    params: &[Param],
+) -> Result<Scopes<Variable>, BodyFail>
     ensures { GivesAt shown result (spec.param_scopes span params.now) }
 {
     let mut scopes = Scopes::new(alloc);
@@ -230,7 +233,7 @@ fn module_params(
 
 /// The heading of a module.
 #[tactic(auto, unfolding(crate::specs::Programs::module_header))]
-fn module_heading(
+pub(crate) fn module_heading(
     alloc: Global,
     program: &Program,
     written: &WrittenModule,
@@ -302,7 +305,7 @@ fn is_module(program: &Program, name: &Name, number: u32) -> bool
 
 /// A place for each method of the interface.
 #[tactic(auto, using(crate::proofs::Marks::places))]
-fn no_methods(
+pub(crate) fn no_methods(
     alloc: Global,
     context: &Context,
     interface: &Ty,
@@ -340,27 +343,90 @@ fn mark(marks: &mut [bool], found: Option<FoundMethod<'_>>)
     }
 }
 
-/// A method that the statement is has its mark.
-#[tactic(auto, unfolding(bsv_typing::specs::Places::method_named))]
-fn mark_own(context: &Context, interface: &Ty, stmt: &WrittenStmt, marks: &mut [bool])
-    ensures { marks.new ≡ modules.all_marked (methods (shapes context.now) (kind interface.now)) (modules.own_name (out-ModuleStmt stmt.now)) marks.old }
+/// The methods of a statement, also those in it, have their marks.
+#[cycle(marks)]
+#[tactic(auto, using(crate::proofs::Marks::marking), unfolding(bsv_typing::specs::Places::method_named))]
+fn mark_stmt(context: &Context, interface: &Ty, stmt: &WrittenStmt, marks: &mut [bool])
+    ensures { marks.new ≡ modules.all_marked (methods (shapes context.now) (kind interface.now)) (modules.stmt_names stmt.now) marks.old }
 {
-    if let WrittenStmt::Method(_, method) = stmt {
-        mark(
-            marks,
-            method_named(context, interface, method.name.name.bytes()),
-        );
+    match stmt {
+        WrittenStmt::Method(_, method) => {
+            mark(
+                marks,
+                method_named(context, interface, method.name.name.bytes()),
+            );
+        }
+        WrittenStmt::Block(_, stmts) => mark_methods(context, interface, stmts.as_slice(), marks),
+        WrittenStmt::If(_, branches, otherwise) => {
+            mark_choice(context, interface, branches.as_slice(), otherwise, marks);
+        }
+        WrittenStmt::For(_, _, arm) => mark_stmt(context, interface, arm.get(), marks),
+        _ => {}
     }
 }
 
-/// The methods that stand directly in the body of a module have their marks.
+/// The methods in an `if` have their marks.
+#[cycle(marks)]
+#[tactic(auto, using(crate::proofs::Marks::marking))]
+fn mark_choice(
+    context: &Context,
+    interface: &Ty,
+    branches: &[WrittenBranch],
+    otherwise: &Option<Boxed<WrittenStmt>>,
+    marks: &mut [bool],
+)
+    ensures { marks.new ≡ modules.all_marked (methods (shapes context.now) (kind interface.now)) (modules.together (map modules.branch_names branches.now) ++ modules.last_names (option_map modules.stmt_names otherwise.now)) marks.old }
+{
+    mark_branches(context, interface, branches, marks);
+    mark_last(context, interface, otherwise, marks);
+}
+
+/// The methods in an arm of an `if` have their marks.
+#[cycle(marks)]
+fn mark_branch(context: &Context, interface: &Ty, branch: &WrittenBranch, marks: &mut [bool])
+    ensures { marks.new ≡ modules.all_marked (methods (shapes context.now) (kind interface.now)) (modules.branch_names branch.now) marks.old }
+{
+    mark_stmt(context, interface, &branch.arm, marks);
+}
+
+/// The methods in the arms of an `if` have their marks.
+#[cycle(marks)]
+#[tactic(auto, using(crate::proofs::Marks::marking))]
+fn mark_branches(context: &Context, interface: &Ty, branches: &[WrittenBranch], marks: &mut [bool])
+    ensures { marks.new ≡ modules.all_marked (methods (shapes context.now) (kind interface.now)) (modules.together (map modules.branch_names branches.now)) marks.old }
+{
+    let mut rest = branches;
+    while let Some((branch, after)) = rest.split_first() {
+        mark_branch(context, interface, branch, marks);
+        rest = after;
+    }
+}
+
+/// The methods in the arm without a condition, if there is one, have their marks.
+#[cycle(marks)]
+fn mark_last(
+    context: &Context,
+    interface: &Ty,
+    otherwise: &Option<Boxed<WrittenStmt>>,
+    marks: &mut [bool],
+)
+    ensures { marks.new ≡ modules.all_marked (methods (shapes context.now) (kind interface.now)) (modules.last_names (option_map modules.stmt_names otherwise.now)) marks.old }
+{
+    match otherwise {
+        None => {}
+        Some(arm) => mark_stmt(context, interface, arm.get(), marks),
+    }
+}
+
+/// The methods of the statements of a module have their marks.
+#[cycle(marks)]
 #[tactic(auto, using(crate::proofs::Marks::marking))]
 fn mark_methods(context: &Context, interface: &Ty, stmts: &[WrittenStmt], marks: &mut [bool])
     ensures { marks.new ≡ modules.all_marked (methods (shapes context.now) (kind interface.now)) (modules.method_names stmts.now) marks.old }
 {
     let mut rest = stmts;
     while let Some((stmt, after)) = rest.split_first() {
-        mark_own(context, interface, stmt, marks);
+        mark_stmt(context, interface, stmt, marks);
         rest = after;
     }
 }
@@ -380,7 +446,7 @@ fn are_set(marks: &[bool]) -> bool
 }
 
 /// Whether the body of a module defines each method of the interface.
-fn defines_all(
+pub(crate) fn defines_all(
     alloc: Global,
     context: &Context,
     interface: &Ty,

@@ -1,4 +1,6 @@
 -- The table of each kind of primitive is that of its part, and so each keeps the laws.
+-- `kind_table` is a definition; `kind_laws` is a proof, which stands in specs/ since the `laws` of an
+-- impl may cite nothing of proofs/.
 use Rattle.bsv_prim.specs.Table.{Table}
 use Rattle.bsv_prim.specs.Laws.{Laws}
 use Rattle.bsv_prim.specs.Registers.{reg_table, regu_table}

@@ -1,5 +1,6 @@
--- How a grammar is read from left to right, with one token ahead. No definition of what an expression is rests on this
--- file; it is proved to be what Grammar says. Softly read, a part that may be left out is left out where it goes wrong.
+-- How a grammar is read from left to right, with one token ahead; it is proved to be what Grammar says. What an
+-- expression is rests on two plain words of this file alone, on_some and span_told (cited by Trees and Expressions);
+-- on nothing else of it. Softly read, a part that may be left out is left out where it goes wrong.
 use Rattle.std.specs.Prelude.{◌≡◌, ℕ, zero, suc, Bool, true, false, ◌&&◌, if◌then◌else◌, List, [], ◌∷◌, length, Option, Some, None, Result, Ok, Err}
 use Rattle.bsv_ast.specs.declared.text.Span.{Span}
 use Rattle.bsv_lex.specs.declared.terminal.Terminal.{Terminal}

@@ -1,5 +1,7 @@
 -- The rules that a queue's table keeps, each by a test of every pair of methods that is computed
 -- over the whole table, and a lemma that turns the test into the rule at each pair.
+-- Proof alone, with the words of the proof: it stands in specs/ since the `laws` of an impl may cite
+-- nothing of proofs/.
 use Rattle.std.proofs.Common.{◌≡◌, ◌<◌, ◌≤◌, Bool, true, false, refl, sym, ◌∙◌, arith}
 use Rattle.std.specs.Prelude.{◌&&◌, not, nat_eq, nat_lt, nat_le, if◌then◌else◌}
 use Rattle.std.proofs.lemmas.Bool.{ltb-true, eqb-true}

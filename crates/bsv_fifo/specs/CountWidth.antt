@@ -1,13 +1,13 @@
 -- The least width that holds a depth.
+-- Proof alone: it stands in specs/ since the `laws` of an impl may cite nothing of proofs/.
 use Rattle.std.proofs.Common.{◌≡◌, ℕ, zero, suc, ◌+◌, ◌*◌, ◌^◌, ◌<◌, ◌≤◌, Bool, true, false, refl, subst, arith}
 use Rattle.std.specs.Prelude.{nat_lt, if◌then◌else◌}
 use Rattle.std.proofs.lemmas.Bool.{ltb-true, ltb-false}
 use Rattle.std.proofs.Math.Pow.{pow_mono}
-use Rattle.std.proofs.Math.Nat.{pow-succ'}
 use Rattle.bsv_fifo.specs.Queues.{least_width, count_width}
 
 -- a number below a power has an exponent that is no less
-above : (n a b : ℕ) → 2 ^ a ≤ n → n < 2 ^ b → a < b
+pub above : (n a b : ℕ) → 2 ^ a ≤ n → n < 2 ^ b → a < b
 above n a b h k = cases (nat_lt a b) refl
   where
     cases : (t : Bool) → nat_lt a b ≡ t → a < b
@@ -30,7 +30,7 @@ holds_by (suc more) width n h =
     cases false e later = later
 
 -- no other width from the first one on that holds the number is less
-least_by : (more width n k : ℕ) → width ≤ k → n < 2 ^ k → least_width more width n ≤ k
+pub least_by : (more width n k : ℕ) → width ≤ k → n < 2 ^ k → least_width more width n ≤ k
 least_by zero width n k h l = h
 least_by (suc more) width n k h l =
     cases (nat_lt n (2 ^ width)) refl (λ longer. least_by more (width + 1) n k longer l)
@@ -57,19 +57,3 @@ depth_fits depth most = holds_by 6 1 depth (omega arith)
 
 pub few_count_width : (depth : ℕ) → depth ≤ 64 → count_width depth ≤ 7
 few_count_width depth most = least_by 6 1 depth 7 (omega arith) (omega arith)
-
-some_exponent : (k n : ℕ) → 1 ≤ n → n < 2 ^ k → 1 ≤ k
-some_exponent zero n h l = absurd (let x : n < 1 = l in omega arith)
-some_exponent (suc k) n h l = omega arith
-
-pub count_width_least : (depth : ℕ) → 1 ≤ depth → (width : ℕ) → depth < 2 ^ width → count_width depth ≤ width
-count_width_least depth some width l = least_by 6 1 depth width (some_exponent width depth some l) l
-
--- it is the number of binary digits
-pub count_width_is : (depth digits : ℕ) → 1 ≤ depth → depth ≤ 64 → depth < 2 ^ digits → 2 ^ digits ≤ 2 * depth + 1 → digits ≡ count_width depth
-count_width_is depth digits some most below full =
-    let least = count_width_least depth some digits below in
-    let fits = depth_fits depth most in
-    let twice : 2 ^ suc (count_width depth) ≡ 2 * 2 ^ count_width depth = pow-succ' 2 (count_width depth) in
-    let longer : digits < suc (count_width depth) = above (2 * depth + 1) digits (suc (count_width depth)) full (rw twice (omega arith)) in
-    omega arith

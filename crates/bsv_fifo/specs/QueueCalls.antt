@@ -1,4 +1,6 @@
 -- What a call of a queue does to another one: the two laws on calls, from tests of the table.
+-- Proof alone, with the words of the proof: it stands in specs/ since the `laws` of an impl may cite
+-- nothing of proofs/.
 use Rattle.std.proofs.Common.{◌≡◌, ℕ, Bool, true, false, List, [], ◌∷◌, ◌++◌, length, drop, refl, ap, sym, ◌∙◌, arith, length-append, inl, inr}
 use Rattle.std.specs.Prelude.{◌⊎◌, ◌&&◌, ◌||◌, not, nat_lt}
 use Rattle.std.specs.List.{AllByRecursion}

@@ -1,4 +1,6 @@
 -- What calls do to the items of a queue.
+-- Proof alone, with the words of the proof: it stands in specs/ since the `laws` of an impl may cite
+-- nothing of proofs/.
 use Rattle.std.proofs.Common.{◌≡◌, ℕ, zero, suc, ◌<◌, ◌≤◌, Bool, true, false, List, [], ◌∷◌, ◌++◌, length, drop, refl, ap, sym, arith, Option, Some, None}
 use Rattle.std.specs.Prelude.{nat_eq, nat_lt, if◌then◌else◌}
 use Rattle.std.specs.List.{AllByRecursion}

@@ -1,4 +1,6 @@
 -- What holds of an orderly list of calls on any queue.
+-- Proof alone, with the words of the proof: it stands in specs/ since the `laws` of an impl may cite
+-- nothing of proofs/.
 use Rattle.std.proofs.Common.{◌≡◌, ℕ, zero, suc, ◌<◌, ◌≤◌, Bool, true, false, List, [], ◌∷◌, ◌++◌, length, refl, ap, sym, ◌∙◌, arith, Option, Some, None, length-append}
 use Rattle.std.specs.Prelude.{MatchOption, cond, nat_eq, if◌then◌else◌}
 use Rattle.std.specs.List.{AllByRecursion}

@@ -71,10 +71,10 @@ module _ (first : List ℕ) (contents : List ℕ → List ℕ) where
       ]
 
   -- so many packages are loaded in one way
-  abbrev Same : List (List ℕ) → List (List ℕ) → List Package → List Package → Type 0
+  abbrev pub Same : List (List ℕ) → List (List ℕ) → List Package → List Package → Type 0
   Same queue other packages others = (queue ≡ other) × (packages ≡ others)
 
-  same_file : (queue other : List (List ℕ)) (n m : ℕ) (name also : List ℕ) → queue ≡ other → n ≡ m → slice_get queue n ≡ Some name → slice_get other m ≡ Some also → name ≡ also
+  pub same_file : (queue other : List (List ℕ)) (n m : ℕ) (name also : List ℕ) → queue ≡ other → n ≡ m → slice_get queue n ≡ Some name → slice_get other m ≡ Some also → name ≡ also
   same_file queue other n m name also e count at there = let one : slice_get queue n ≡ slice_get other m = cc in some_file name also (sym at ∙ one ∙ there)
 
   same_package : (name also : List ℕ) (x y : Package) → name ≡ also → Yields name (contents name) (Ok x) → Yields also (contents also) (Ok y) → x ≡ y
@@ -83,7 +83,7 @@ module _ (first : List ℕ) (contents : List ℕ → List ℕ) where
   same_next : (q r : List (List ℕ)) (ps others : List Package) (x y : Package) → Same q r ps others → x ≡ y → Same (with_imports first q x) (with_imports first r y) (ps ++ x ∷ []) (others ++ y ∷ [])
   same_next q r ps others x y same e = (ap (λ z. with_imports first q z) e ∙ ap (λ z. with_imports first z y) same.0, ap (λ z. ps ++ z ∷ []) e ∙ ap (λ (zs : List Package). zs ++ y ∷ []) same.1)
 
-  once : (queue other : List (List ℕ)) (packages others : List Package) → Loads first contents queue packages → Loads first contents other others → length packages ≡ length others → Same queue other packages others
+  pub once : (queue other : List (List ℕ)) (packages others : List Package) → Loads first contents queue packages → Loads first contents other others → length packages ≡ length others → Same queue other packages others
   once queue other packages others Loads.begin Loads.begin e = (refl, refl)
   once queue other packages others Loads.begin (Loads.next {packages = us} {x = y} before at yields le) e = absurd (omega (arith, length_next us y))
   once queue other packages others (Loads.next {packages = ps} {x = x} before at yields le) Loads.begin e = absurd (omega (arith, length_next ps x))
@@ -117,7 +117,7 @@ module _ (first : List ℕ) (contents : List ℕ → List ℕ) where
   -- ---- not both
 
   -- a file that is a package, with room for its imports
-  record Passes (name : List ℕ) (queue : List (List ℕ)) : Type 0 where
+  pub record Passes (name : List ℕ) (queue : List (List ℕ)) : Type 0 where
     pub x : Package
     pub yields : Yields name (contents name) (Ok x)
     pub within : length (with_imports first queue x) ≤ most_packages
@@ -131,6 +131,10 @@ module _ (first : List ℕ) (contents : List ℕ → List ℕ) where
         yields = subst (λ n. Yields n (contents n) (Ok s.x)) file s.yields;
         within = subst (λ q. length (with_imports first q s.x) ≤ most_packages) same.0 s.within;
       }
+
+  -- a file that loading reaches before another one was loaded
+  pub passes_before : (name also : List ℕ) (at : Reaches first contents name) (there : Reaches first contents also) → length at.packages < length there.packages → Passes name at.queue
+  passes_before name also at there less = passes_by name at (continues there.queue there.packages there.before (length at.packages) less)
 
   last_reached : (l : Loaded) (name : List ℕ) → IsLoaded first contents l → (at : Reaches first contents name) → length at.packages ≡ length l.packages → ⊥
   last_reached l name all at count =
@@ -150,7 +154,7 @@ module _ (first : List ℕ) (contents : List ℕ → List ℕ) where
             ]
       ]
 
-  too_many : (name : List ℕ) (queue : List (List ℕ)) (x : Package) → Passes name queue → Yields name (contents name) (Ok x) → most_packages < length (with_imports first queue x) → ⊥
+  pub too_many : (name : List ℕ) (queue : List (List ℕ)) (x : Package) → Passes name queue → Yields name (contents name) (Ok x) → most_packages < length (with_imports first queue x) → ⊥
   too_many name queue x p yields more =
       let is : p.x ≡ x = found_once name (contents name) p.x x p.yields yields in
       let within : length (with_imports first queue x) ≤ most_packages = subst (λ y. length (with_imports first queue y) ≤ most_packages) is p.within in

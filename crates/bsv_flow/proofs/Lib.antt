@@ -1,5 +1,6 @@
 pub mod Decided
 pub mod Folders
+pub mod OneRefusal
 pub mod Outcomes
 pub mod Parsed
 pub mod Placed

@@ -1,8 +1,8 @@
 -- A source that was read up to the limit.
-use Rattle.std.proofs.Common.{◌≡◌, ℕ, ◌≤◌, List, [], ◌++◌, length, take, drop, Option, None, Some, sym, ap, ◌∙◌, append_assoc, append-nil}
+use Rattle.std.proofs.Common.{◌≡◌, ℕ, ◌<◌, ◌≤◌, List, [], ◌++◌, length, take, drop, Option, None, Some, sym, ap, ◌∙◌, subst, append_assoc, append-nil}
 use Rattle.std.proofs.Math.Seq.{drop-nil, take-append_seam}
 use Rattle.std.proofs.lemmas.List.{take_all}
-use Rattle.bsv_io.specs.Reading.{Reading, Gives, advanced, chosen, rest, rest_of}
+use Rattle.bsv_io.specs.Reading.{Current, Reading, Gives, advanced, bytes_given, chosen, given_of, rest, rest_of}
 use Rattle.bsv_flow.specs.Sources.{Moves, read_limit}
 use Rattle.bsv_io.proofs.Readings.{piece_read, rest_advanced}
 
@@ -37,3 +37,9 @@ rest_of_start (Some other) name contents h =
 pub rest_chosen : (r s : Reading) (name given : List ℕ) (contents : List ℕ → List ℕ) → s ≡ chosen given r → given ≡ name → r.contents ≡ Some contents → rest s ≡ Some (contents name)
 rest_chosen r s name given contents h same told =
     ap rest h ∙ rest_of_start r.contents given contents told ∙ ap (λ (n : List ℕ). Some (contents n)) same
+
+-- what stands behind the limit stood there from the start
+pub still_within : (limit : ℕ) (first second third : Reading) → (limit < bytes_given second → second.current ≡ first.current) → (limit < bytes_given third → third.current ≡ second.current) → limit < bytes_given third → third.current ≡ first.current
+still_within limit first second third before this far =
+    let same = this far in
+    same ∙ before (subst (λ (at : Option Current). limit < given_of at) same far)

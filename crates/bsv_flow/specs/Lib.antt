@@ -1,4 +1,5 @@
 pub mod Loads
+pub mod OneAnswer
 pub mod Positions
 pub mod Queues
 pub mod Refusals

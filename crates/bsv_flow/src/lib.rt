@@ -6,8 +6,6 @@
 //! was loaded).
 #![tactic(auto)]
 
-#[cfg(test)]
-mod check_tests;
 mod loading;
 mod parse;
 mod position;
@@ -15,14 +13,8 @@ mod queue;
 mod refusal;
 mod source;
 #[cfg(test)]
-mod tables;
-#[cfg(test)]
 mod tests;
-#[cfg(test)]
-mod tree_tests;
 mod typing;
-#[cfg(test)]
-mod typing_tests;
 
 pub use loading::{Loaded, load, one_loading};
 pub use refusal::{CompileFault, Refusal};

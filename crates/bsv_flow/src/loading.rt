@@ -1,6 +1,9 @@
-ghost use Rattle.std.specs.Prelude.{◌≡◌, ◌≤◌, ◌⊎◌, ℕ, List, Some, Ok, Err, IfOk};
+ghost use Rattle.std.specs.Prelude.{◌≡◌, ◌<◌, ◌≤◌, ◌⊎◌, ℕ, List, Some, Ok, Err, IfOk};
 ghost use Rattle.bsv_io.specs.Faults.{MayFault};
+ghost use Rattle.bsv_io.specs.Reading.{bytes_given};
 ghost use Rattle.bsv_flow.specs.Loads.{IsLoaded, Reaches, Refuses};
+ghost use Rattle.bsv_flow.specs.OneAnswer.{IsSameRefusal};
+ghost use Rattle.bsv_flow.specs.Sources.{read_limit};
 ghost use Rattle.bsv_flow.specs.declared.loading.Loaded.{Loaded as TheLoaded};
 ghost use Rattle.bsv_flow.specs.declared.refusal.CompileFault.TheVariants.{Refused, ReadFault};
 ghost use Rattle.bsv_flow.specs.declared.refusal.Refusal.{Refusal as TheRefusal};
@@ -39,6 +42,9 @@ pub fn load<F: Files>(alloc: Global, files: &mut F, name: &str) -> Result<Loaded
         × ((F.reading files.new).blamed ≡ Some blamed) }
     ensures reached { (blamed : List ℕ) → result ≡ Err (ReadFault blamed) → (contents : List ℕ → List ℕ)
         → (F.reading files.old).contents ≡ Some contents → Reaches name.now contents blamed }
+    // No source is read on behind one byte more than it may have.
+    ensures within { read_limit < bytes_given (F.reading files.new)
+        → (F.reading files.new).current ≡ (F.reading files.old).current }
     ensures contents { (F.reading files.new).contents ≡ (F.reading files.old).contents }
     ensures count { (F.reading files.old).faults ≤ (F.reading files.new).faults }
     ensures kept { ((blamed : List ℕ) → result ≡ Err (ReadFault blamed) → ⊥)
@@ -67,7 +73,7 @@ pub fn load<F: Files>(alloc: Global, files: &mut F, name: &str) -> Result<Loaded
 }
 
 /// What the files hold decides what is loaded or refused: there is one list of what is loaded, or a
-/// first refusal, and not both.
+/// first refusal, and not both. Both are one, but that the place of a `Syntax` is free.
 pub fn one_loading()
     ensures same { (first : List ℕ) (contents : List ℕ → List ℕ) (l m : TheLoaded)
         → IsLoaded first contents l → IsLoaded first contents m → l ≡ m }
@@ -75,4 +81,6 @@ pub fn one_loading()
         → IsLoaded first contents l → Refuses first contents r → ⊥ }
     ensures some { (first : List ℕ) (contents : List ℕ → List ℕ)
         → ((l : TheLoaded) × IsLoaded first contents l) ⊎ ((r : TheRefusal) × Refuses first contents r) }
+    ensures one_refusal { (first : List ℕ) (contents : List ℕ → List ℕ) (r other : TheRefusal)
+        → Refuses first contents r → Refuses first contents other → IsSameRefusal r other }
 {}

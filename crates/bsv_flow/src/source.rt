@@ -1,5 +1,5 @@
 ghost use Rattle.std.specs.Prelude.{◌≡◌, ℕ, ◌+◌, ◌<◌, ◌≤◌, List, length, take, vec_len, Some, Err, IfOk, OnOk, IsSome};
-ghost use Rattle.bsv_io.specs.Reading.{current_name, rest};
+ghost use Rattle.bsv_io.specs.Reading.{bytes_given, current_name, rest};
 ghost use Rattle.bsv_io.specs.Faults.{MayFault};
 ghost use Rattle.bsv_flow.specs.Sources.{Moves, SameFile, read_limit};
 ghost use Rattle.bsv_flow.specs.declared.refusal.CompileFault.TheVariants.{Refused, ReadFault};
@@ -89,6 +89,10 @@ fn read_more<F: Files>(
         → Moves n source.old.items source.new.items left (rest (F.reading files.new))) }
     ensures long { IfOk result (λ n. (n ≤ length buffer.old) × (vec_len source.new ≡ vec_len source.old + n)) }
     ensures file { OnOk result (SameFile (F.reading files.old) (F.reading files.new)) }
+    ensures given { IfOk result (λ n. bytes_given (F.reading files.new)
+        ≡ bytes_given (F.reading files.old) + n) }
+    ensures within { bytes_given (F.reading files.new)
+        ≤ bytes_given (F.reading files.old) + length buffer.old }
     ensures contents { (F.reading files.new).contents ≡ (F.reading files.old).contents }
     ensures failed { result ≡ Err Unread.Failed
         → MayFault (F.reading files.old).faults (F.reading files.new).faults
@@ -112,6 +116,8 @@ fn read_current<F: Files>(
     requires current { IsSome (F.reading files.old).current }
     ensures source { IfOk result (λ source. (text : List ℕ) → rest (F.reading files.old) ≡ Some text
         → source.items ≡ take read_limit text) }
+    ensures within { bytes_given (F.reading files.new)
+        ≤ bytes_given (F.reading files.old) + read_limit }
     ensures contents { (F.reading files.new).contents ≡ (F.reading files.old).contents }
     ensures failed { result ≡ Err Unread.Failed
         → MayFault (F.reading files.old).faults (F.reading files.new).faults
@@ -135,6 +141,8 @@ fn read_current<F: Files>(
 fn read_named<F: Files>(alloc: Global, files: &mut F, name: &[u8]) -> Result<Vec<u8>, Unread>
     ensures source { IfOk result (λ source. (contents : List ℕ → List ℕ)
         → (F.reading files.old).contents ≡ Some contents → source.items ≡ take read_limit (contents name.now)) }
+    ensures within { read_limit < bytes_given (F.reading files.new)
+        → (F.reading files.new).current ≡ (F.reading files.old).current }
     ensures contents { (F.reading files.new).contents ≡ (F.reading files.old).contents }
     ensures failed { result ≡ Err Unread.Failed
         → MayFault (F.reading files.old).faults (F.reading files.new).faults
@@ -156,6 +164,8 @@ pub(crate) fn read_source<F: Files>(
 ) -> Result<Source, CompileFault>
     ensures source { IfOk result (λ source. (contents : List ℕ → List ℕ)
         → (F.reading files.old).contents ≡ Some contents → source ≡ take read_limit (contents name.now)) }
+    ensures within { read_limit < bytes_given (F.reading files.new)
+        → (F.reading files.new).current ≡ (F.reading files.old).current }
     ensures contents { (F.reading files.new).contents ≡ (F.reading files.old).contents }
     ensures failed { (blamed : List ℕ) → result ≡ Err (ReadFault blamed)
         → MayFault (F.reading files.old).faults (F.reading files.new).faults

@@ -1,5 +1,6 @@
 ghost use Rattle.std.specs.Prelude.{◌≡◌, ◌⊎◌, ℕ, List, Some, Err, Ok, IfOk, option_map};
 ghost use Rattle.bsv_check.specs.Seen.{typed_seen};
+ghost use Rattle.bsv_flow.specs.OneAnswer.{IsSameRefusal};
 ghost use Rattle.bsv_flow.specs.Typings.{typing_of, file_of, line_of, column_of, source_of, placed, told, IsTyped, Rejects};
 ghost use Rattle.bsv_flow.specs.declared.loading.Loaded.{Loaded as TheLoaded};
 ghost use Rattle.bsv_flow.specs.declared.refusal.CompileFault.TheVariants.{Refused, ReadFault};
@@ -89,7 +90,7 @@ pub fn typed(alloc: Global, loaded: &Loaded) -> Result<Typed, CompileFault>
 }
 
 /// What the files hold decides what is typed or refused: there is one typed program, or a first refusal, and not
-/// both.
+/// both. Both are one, but that the place of a `Syntax` is free.
 pub fn one_typing()
     ensures same { (first : List ℕ) (contents : List ℕ → List ℕ) (l m : TheLoaded)
         → IsTyped first contents l → IsTyped first contents m → l ≡ m }
@@ -97,4 +98,9 @@ pub fn one_typing()
         → IsTyped first contents l → Rejects first contents r → ⊥ }
     ensures some { (first : List ℕ) (contents : List ℕ → List ℕ)
         → ((l : TheLoaded) × IsTyped first contents l) ⊎ ((r : TheRefusal) × Rejects first contents r) }
+    ensures one_program { (first : List ℕ) (contents : List ℕ → List ℕ) (l m : TheLoaded)
+        (one : IsTyped first contents l) (other : IsTyped first contents m)
+        → one.made ≡ other.made }
+    ensures one_refusal { (first : List ℕ) (contents : List ℕ → List ℕ) (r other : TheRefusal)
+        → Rejects first contents r → Rejects first contents other → IsSameRefusal r other }
 {}

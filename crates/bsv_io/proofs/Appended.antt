@@ -1,9 +1,9 @@
 -- What puts of a sink add up to.
-use Rattle.std.proofs.Common.{◌≡◌, ℕ, List, [], ◌++◌, Option, None, Some, refl, sym, ap, ◌∙◌, append_assoc, append-nil}
+use Rattle.std.proofs.Common.{◌≡◌, ℕ, ◌+◌, ◌%◌, ◌^◌, List, [], ◌∷◌, ◌++◌, Option, None, Some, refl, sym, ap, ◌∙◌, append_assoc, append-nil}
 use Rattle.std.proofs.lemmas.List.{append_cancel_left}
 use Rattle.std.specs.Option.{option_map}
 use Rattle.bsv_io.specs.Prefixes.{IsPrefix}
-use Rattle.bsv_io.specs.Writing.{Writing, appended, AppendsPrefix}
+use Rattle.bsv_io.specs.Writing.{Writing, appended, count_behind, AppendsPrefix}
 
 -- told bytes, and more behind them
 abbrev grown : List ℕ → Option (List ℕ) → Option (List ℕ)
@@ -17,12 +17,34 @@ grown-nil : (told : Option (List ℕ)) → grown [] told ≡ told
 grown-nil None = refl
 grown-nil (Some before) = ap (λ (bytes : List ℕ). Some bytes) (append-nil before)
 
+count_behind-append : (a b : List ℕ) (number : ℕ) → count_behind (a ++ b) number ≡ count_behind b (count_behind a number)
+unfolding count_behind
+count_behind-append [] b number = refl
+count_behind-append (x ∷ a) b number = count_behind-append a b ((number + 1) % 2 ^ 64)
+
+-- a told number, and more bytes behind it
+abbrev raised : List ℕ → Option ℕ → Option ℕ
+raised more told = option_map (count_behind more) told
+
+raised-append : (a b : List ℕ) (told : Option ℕ) → raised (a ++ b) told ≡ raised b (raised a told)
+raised-append a b None = refl
+raised-append a b (Some number) = ap (λ (n : ℕ). Some n) (count_behind-append a b number)
+
+raised-nil : (told : Option ℕ) → raised [] told ≡ told
+unfolding count_behind
+raised-nil None = refl
+raised-nil (Some number) = refl
+
 -- bytes that are appended in two pieces
 pub appended-append : (a b : List ℕ) (w : Writing) → appended (a ++ b) w ≡ appended b (appended a w)
-appended-append a b w = ap (λ (told : Option (List ℕ)). record w { bytes = told }) (grown-append a b w.bytes)
+appended-append a b w =
+    ap (λ (told : Option (List ℕ)). record w { bytes = told; taken = raised (a ++ b) w.taken }) (grown-append a b w.bytes)
+    ∙ ap (λ (told : Option ℕ). record w { bytes = grown b (grown a w.bytes); taken = told }) (raised-append a b w.taken)
 
 pub appended-nil : (w : Writing) → appended [] w ≡ w
-appended-nil w = ap (λ (told : Option (List ℕ)). record w { bytes = told }) (grown-nil w.bytes)
+appended-nil w =
+    ap (λ (told : Option (List ℕ)). record w { bytes = told; taken = raised [] w.taken }) (grown-nil w.bytes)
+    ∙ ap (λ (told : Option ℕ). record w { taken = told }) (raised-nil w.taken)
 
 -- nothing is appended
 pub nothing_put : (text : List ℕ) (w : Writing) → AppendsPrefix text w w

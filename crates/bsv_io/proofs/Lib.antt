@@ -1,4 +1,5 @@
 pub mod Appended
+pub mod Counted
 pub mod Counts
 mod Fronts
 pub mod NoFaults

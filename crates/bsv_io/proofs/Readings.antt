@@ -2,7 +2,7 @@
 use Rattle.std.proofs.Common.{◌≡◌, ℕ, ◌+◌, List, ◌++◌, take, drop, Option, None, Some, IsSome, IfSome, refl, sym, ap, ◌∙◌, subst}
 use Rattle.std.proofs.lemmas.List.{take-append-drop, drop-drop}
 use Rattle.std.specs.Option.{option_map}
-use Rattle.bsv_io.specs.Reading.{Reading, Current, Gives, advanced, rest, rest_of, current_name}
+use Rattle.bsv_io.specs.Reading.{Reading, Current, Gives, advanced, rest, rest_of, current_name, bytes_given, given_of}
 
 rest_of_advanced : (contents : Option (List ℕ → List ℕ)) (at : Option Current) (n : ℕ) (left : List ℕ) → rest_of contents at ≡ Some left → rest_of contents (option_map (λ (c : Current). record c { place = c.place + n }) at) ≡ Some (drop n left)
 rest_of_advanced None at n left h = absurd (let no_value : ⊥ = cc in no_value)
@@ -33,6 +33,14 @@ still_current (Some at) n h = refl
 
 pub current_advanced : (r : Reading) (n : ℕ) → IsSome r.current → IsSome (advanced n r).current
 current_advanced r n h = still_current r.current n h
+
+given_of_advanced : (at : Option Current) (n : ℕ) → IsSome at → given_of (option_map (λ (c : Current). record c { place = c.place + n }) at) ≡ given_of at + n
+given_of_advanced None n h = absurd (let no_value : ⊥ = cc in no_value)
+given_of_advanced (Some at) n h = refl
+
+-- a read gives so many bytes more
+pub given_advanced : (r : Reading) (n : ℕ) → IsSome r.current → bytes_given (advanced n r) ≡ bytes_given r + n
+given_advanced r n h = given_of_advanced r.current n h
 
 -- what is told is given
 pub if_told : {A : Type 0} (o : Option A) (P : A → Type 0) (x : A) → o ≡ Some x → IfSome o P → P x

@@ -1,7 +1,7 @@
 -- Texts that are added one after the other to what waits.
 use Rattle.std.proofs.Common.{◌≡◌, ℕ, List, [], ◌++◌, sym, ap, ◌∙◌, subst, append_assoc, append-nil}
 use Rattle.bsv_io.specs.Writing.{Writing, appended, AppendsPrefix}
-use Rattle.bsv_io.proofs.Appended.{appended-append, AppendsPrefix-then, AppendsPrefix-more}
+use Rattle.bsv_io.proofs.Appended.{appended-append, appended-nil, AppendsPrefix-then, AppendsPrefix-more}
 
 module _ (waiting text more : List ℕ) (first second : Writing) where
   -- a prefix of the first text is one of both
@@ -26,3 +26,21 @@ pub prefix_flushing : (waiting text after : List ℕ) (first second third : Writ
 prefix_flushing waiting text after first second third none before said flushing =
     let all = AppendsPrefix-then (waiting ++ text) after [] first second third before said (subst (λ (t : List ℕ). AppendsPrefix t second third) (sym (append-nil after)) flushing) in
     subst (λ (t : List ℕ). AppendsPrefix t first third) (append-nil (waiting ++ text) ∙ ap (λ (t : List ℕ). t ++ text) none) all
+
+-- nothing waits, and nothing is put
+pub said_nothing : (waiting : List ℕ) (w : Writing) → waiting ≡ [] → w ≡ appended waiting w
+said_nothing waiting w none = sym (ap (λ (t : List ℕ). appended t w) none ∙ appended-nil w)
+
+-- what waited is put, and nothing waits
+pub said_flushed : (waiting after : List ℕ) (first second : Writing) → after ≡ [] → second ≡ appended waiting first → appended after second ≡ appended waiting first
+said_flushed waiting after first second none put = ap (λ (t : List ℕ). appended t second) none ∙ appended-nil second ∙ put
+
+-- a text is put by itself where nothing waits
+pub said_alone : (waiting after text : List ℕ) (first second : Writing) → waiting ≡ [] → after ≡ [] → second ≡ appended text first → appended after second ≡ appended (waiting ++ text) first
+said_alone waiting after text first second none still put =
+    said_flushed text after first second still put ∙ ap (λ (t : List ℕ). appended (t ++ text) first) (sym none)
+
+-- a text is added behind what was made room for
+pub said_behind : (waiting kept after text : List ℕ) (first second third : Writing) → appended kept second ≡ appended waiting first → appended after third ≡ appended (kept ++ text) second → appended after third ≡ appended (waiting ++ text) first
+said_behind waiting kept after text first second third said this =
+    this ∙ appended-append kept text second ∙ ap (appended text) said ∙ sym (appended-append waiting text first)

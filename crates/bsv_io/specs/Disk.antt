@@ -1,4 +1,4 @@
--- The real files of a runtime.
+-- Files that are opened by their names, as the real ones of a runtime.
 use Rattle.std.specs.Prelude.{ℕ, List, Option, None}
 use Rattle.bsv_io.specs.Reading.{Reading}
 use Rattle.bsv_io.specs.Standing.{Standing, told}

@@ -47,7 +47,7 @@ pub record MemTarget : Type 0 where
   pub faults : ℕ
 
 abbrev pub mem_writing : MemTarget → Writing
-mem_writing t = record { bytes = Some t.bytes; faults = t.faults }
+mem_writing t = record { bytes = Some t.bytes; taken = None; faults = t.faults }
 
 -- the room that is left
 abbrev pub room_left : MemTarget → ℕ
@@ -61,6 +61,6 @@ must_fail count t = is_listed t.plan || nat_lt (room_left t) count
 abbrev pub kept_count : ℕ → MemTarget → ℕ
 kept_count count t = min (if is_listed t.plan then count / 2 else count) (room_left t)
 
--- a sink that never fails tells nothing; it is seen as its number of bytes
+-- a sink that never fails tells the number of its bytes, and is seen as that
 abbrev pub sure_writing : ℕ → Writing
-sure_writing taken = record { bytes = None; faults = 0 }
+sure_writing taken = record { bytes = None; taken = Some taken; faults = 0 }

@@ -26,6 +26,14 @@ advanced n r = record r { current = option_map (λ (at : Current). record at { p
 abbrev pub current_name : Reading → Option (List ℕ)
 current_name r = option_map (λ (at : Current). at.name) r.current
 
+abbrev pub given_of : Option Current → ℕ
+given_of None = 0
+given_of (Some at) = at.place
+
+-- how many bytes of the current file were given; none where there is no such file
+abbrev pub bytes_given : Reading → ℕ
+bytes_given r = given_of r.current
+
 abbrev pub rest_of : Option (List ℕ → List ℕ) → Option Current → Option (List ℕ)
 rest_of None at = None
 rest_of (Some contents) None = None

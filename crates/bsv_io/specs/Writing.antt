@@ -1,20 +1,26 @@
 -- What a sink tells of itself.
-use Rattle.std.specs.Prelude.{◌≡◌, ℕ, List, ◌++◌, Option}
+use Rattle.std.specs.Prelude.{◌≡◌, ℕ, ◌+◌, ◌%◌, ◌^◌, List, [], ◌∷◌, ◌++◌, Option}
 use Rattle.std.specs.Option.{option_map}
 use Rattle.std.specs.List.{flat_map}
 use Rattle.std.specs.Borrow.{Bor}
 use Rattle.bsv_io.specs.Prefixes.{IsPrefix}
 
--- the bytes that were put, where they are told; the count of faults
+-- the bytes that were put, where they are told; their number, where it is told; the count of faults
 pub record Writing : Type 0 where
   pub bytes : Option (List ℕ)
+  pub taken : Option ℕ
   pub faults : ℕ
 
--- the bytes stand behind those that were put before
-abbrev pub appended : List ℕ → Writing → Writing
-appended bytes w = record w { bytes = option_map (λ (before : List ℕ). before ++ bytes) w.bytes }
+-- the number behind these bytes: each byte raises it by one, and behind 2^64 - 1 comes 0
+unfoldable pub count_behind : List ℕ → ℕ → ℕ
+count_behind [] number = number
+count_behind (byte ∷ bytes) number = count_behind bytes ((number + 1) % 2 ^ 64)
 
--- a prefix of the bytes stands behind those that were put before
+-- the bytes stand behind those that were put before, and are counted
+abbrev pub appended : List ℕ → Writing → Writing
+appended bytes w = record w { bytes = option_map (λ (before : List ℕ). before ++ bytes) w.bytes; taken = option_map (count_behind bytes) w.taken }
+
+-- a prefix of the bytes stands behind those that were put before; of their number nothing is said
 pub record AppendsPrefix (bytes : List ℕ) (old new : Writing) : Type 0 where
   pub front : List ℕ
   pub prefix : IsPrefix front bytes

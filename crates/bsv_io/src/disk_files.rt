@@ -7,24 +7,25 @@ ghost use Rattle.bsv_io.specs.Standing.{fresh, opened, refused, stuck, passed};
 
 use crate::failed::Failed;
 use crate::files::Files;
+use crate::open_files::OpenFiles;
 use crate::progress::Progress;
 use bsv_bits::Name;
 use std::io::{ErrorKind, Read};
 use std::marker::Model;
-use std::{fs, rt};
 
-/// The real files of a runtime. A name that is not UTF-8 names none of them.
+/// Files that are opened by their names, as the real ones of a runtime. A name that is not UTF-8
+/// names none of them.
 ///
-/// Contracts see where the source stands, and what an open file tells of its rest: of a real file
+/// Contracts see where the source stands, and what the open file tells of its rest: of a real file
 /// that is nothing.
 #[derive(Drop)]
-pub struct DiskFiles<'a, R: rt::Files> {
+pub struct DiskFiles<'a, R: OpenFiles> {
     rt: &'a R,
     file: Option<R::File>,
     progress: Progress,
 }
 
-impl<'a, R: rt::Files> Model for DiskFiles<'a, R> {
+impl<'a, R: OpenFiles> Model for DiskFiles<'a, R> {
     ghost use Rattle.std.specs.Prelude.{IsSome, option_and_then};
     ghost use Rattle.bsv_io.specs.Disk.{DiskSource};
 
@@ -36,14 +37,6 @@ impl<'a, R: rt::Files> Model for DiskFiles<'a, R> {
     } };
 
     ghost invariant = { λ files. IsSome files.progress.current → IsSome files.file };
-}
-
-/// The file of this name, where it can be opened.
-fn open<R: rt::Files>(rt: &R, name: &[u8]) -> Option<R::File>
-    ensures { OnSome result (IsUtf8 name.now) }
-{
-    let path = str::from_utf8(name).ok()?;
-    fs::open(rt, path).ok()
 }
 
 /// Reads the next bytes to the front of the buffer, again where a signal came between.
@@ -66,7 +59,7 @@ fn read_some<F: Read>(file: &mut F, buf: &mut [u8]) -> Option<usize>
     None
 }
 
-impl<'a, R: rt::Files> DiskFiles<'a, R> {
+impl<'a, R: OpenFiles> DiskFiles<'a, R> {
     pub fn new(rt: &'a R) -> DiskFiles<'a, R>
         ensures { result ≡ record { standing = fresh; left = None } }
     {
@@ -78,7 +71,7 @@ impl<'a, R: rt::Files> DiskFiles<'a, R> {
     }
 }
 
-impl<R: rt::Files> Files for DiskFiles<'_, R> {
+impl<R: OpenFiles> Files for DiskFiles<'_, R> {
     ghost reading = { disk_reading };
 
     fn choose(&mut self, name: Name) -> Result<(), Failed>
@@ -91,12 +84,13 @@ impl<R: rt::Files> Files for DiskFiles<'_, R> {
         ensures count { (disk_reading self.old).faults ≤ (disk_reading self.new).faults }
         ensures counted { OnErr result (MayFault (disk_reading self.old).faults (disk_reading self.new).faults) }
 
-        // Only a text names a file; each failure counts once.
+        // What is left is what the opened file of this name tells; each failure counts once.
         ensures text { OnOk result (IsUtf8 name) }
+        ensures left { OnOk result (R.opens name self.new.left) }
         ensures opened { OnOk result (self.new.standing ≡ opened name self.old.standing) }
         ensures refused { OnErr result (self.new.standing ≡ refused name self.old.standing) }
     {
-        self.file = open(self.rt, name.bytes());
+        self.file = self.rt.open(name.bytes());
         if self.file.is_none() {
             self.progress.refuse(name);
             return Err(Failed);

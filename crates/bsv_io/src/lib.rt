@@ -5,7 +5,7 @@
 //! call). For tests and for texts that the program makes itself: `calls` (calls that fail by their
 //! numbers), `progress` (where a source stands), `contents` (files in memory, and how a piece of
 //! one is given), `mem_files`, `sure_files`, `mem_sink`, `sure_sink`. The trusted edge, which
-//! passes calls on to the runtime: `disk_files`, `std_sink`.
+//! passes calls on to the runtime: `open_files`, `disk_files`, `std_sink`.
 #![tactic(auto)]
 
 mod calls;
@@ -15,6 +15,7 @@ mod failed;
 mod files;
 mod mem_files;
 mod mem_sink;
+mod open_files;
 mod progress;
 mod put_buffer;
 mod sink;
@@ -29,6 +30,7 @@ pub use failed::Failed;
 pub use files::Files;
 pub use mem_files::MemFiles;
 pub use mem_sink::MemSink;
+pub use open_files::OpenFiles;
 pub use put_buffer::{PutBuffer, put_all};
 pub use sink::Sink;
 pub use std_sink::StdSink;

@@ -9,6 +9,9 @@ use std::marker::Model;
 
 /// Bytes that wait to be put to a sink, up to 4,096, so that a text which is made piece by piece
 /// goes to the sink in one call of `put` where it fits. It takes no memory.
+///
+/// Behind a call that failed nothing waits: no byte is put twice, and those that were not put are
+/// given up.
 #[derive(Drop)]
 pub struct PutBuffer {
     waiting: ArrayVec<u8, 4096>,
@@ -37,6 +40,7 @@ impl PutBuffer {
     pub fn add<S: Sink>(&mut self, sink: &mut S, bytes: &[u8]) -> Result<(), Failed>
         ensures ok { OnOk result (appended self.new (S.writing sink.new)
             ≡ appended (self.old ++ bytes.now) (S.writing sink.old)) }
+        ensures err { OnErr result (self.new ≡ []) }
         ensures prefix { AppendsPrefix (self.old ++ bytes.now) (S.writing sink.old) (S.writing sink.new) }
         ensures count { (S.writing sink.old).faults ≤ (S.writing sink.new).faults }
         ensures counted { OnErr result (MayFault (S.writing sink.old).faults (S.writing sink.new).faults) }
@@ -49,6 +53,7 @@ impl PutBuffer {
     pub fn add_all<S: Sink>(&mut self, sink: &mut S, pieces: &[&[u8]]) -> Result<(), Failed>
         ensures ok { OnOk result (appended self.new (S.writing sink.new)
             ≡ appended (self.old ++ joined pieces.now) (S.writing sink.old)) }
+        ensures err { OnErr result (self.new ≡ []) }
         ensures prefix { AppendsPrefix (self.old ++ joined pieces.now) (S.writing sink.old) (S.writing sink.new) }
         ensures count { (S.writing sink.old).faults ≤ (S.writing sink.new).faults }
         ensures counted { OnErr result (MayFault (S.writing sink.old).faults (S.writing sink.new).faults) }
@@ -63,6 +68,7 @@ impl PutBuffer {
     fn make_room<S: Sink>(&mut self, sink: &mut S, len: usize) -> Result<(), Failed>
         ensures room { OnOk result (length self.new + len ≤ 4096 ⊎ self.new ≡ []) }
         ensures ok { OnOk result (appended self.new (S.writing sink.new) ≡ appended self.old (S.writing sink.old)) }
+        ensures err { OnErr result (self.new ≡ []) }
         ensures prefix { AppendsPrefix self.old (S.writing sink.old) (S.writing sink.new) }
         ensures count { (S.writing sink.old).faults ≤ (S.writing sink.new).faults }
         ensures counted { OnErr result (MayFault (S.writing sink.old).faults (S.writing sink.new).faults) }
@@ -78,29 +84,31 @@ impl PutBuffer {
         requires { length self.old + length bytes.now ≤ 4096 ⊎ self.old ≡ [] }
         ensures ok { OnOk result (appended self.new (S.writing sink.new)
             ≡ appended (self.old ++ bytes.now) (S.writing sink.old)) }
+        ensures err { OnErr result (self.new ≡ []) }
         ensures prefix { AppendsPrefix (self.old ++ bytes.now) (S.writing sink.old) (S.writing sink.new) }
         ensures count { (S.writing sink.old).faults ≤ (S.writing sink.new).faults }
         ensures counted { OnErr result (MayFault (S.writing sink.old).faults (S.writing sink.new).faults) }
     {
-        match self.waiting.try_extend_from_slice(bytes) {
-            Ok(()) => Ok(()),
-            Err(_) => sink.put(bytes),
+        if self.waiting.try_extend_from_slice(bytes).is_ok() {
+            return Ok(());
         }
+        sink.put(bytes)
     }
 
     /// Puts what waits. Nothing is put where nothing waits.
     pub fn flush<S: Sink>(&mut self, sink: &mut S) -> Result<(), Failed>
-        ensures empty { OnOk result (self.new ≡ []) }
+        ensures empty { self.new ≡ [] }
         ensures ok { OnOk result (S.writing sink.new ≡ appended self.old (S.writing sink.old)) }
         ensures prefix { AppendsPrefix self.old (S.writing sink.old) (S.writing sink.new) }
         ensures count { (S.writing sink.old).faults ≤ (S.writing sink.new).faults }
         ensures counted { OnErr result (MayFault (S.writing sink.old).faults (S.writing sink.new).faults) }
     {
-        if !self.waiting.is_empty() {
-            sink.put(self.waiting.as_slice())?;
-            self.waiting.clear();
+        if self.waiting.is_empty() {
+            return Ok(());
         }
-        Ok(())
+        let put = sink.put(self.waiting.as_slice());
+        self.waiting.clear();
+        put
     }
 }
 

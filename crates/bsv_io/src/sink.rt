@@ -7,7 +7,7 @@ use crate::failed::Failed;
 /// Where bytes are put, one piece behind the other.
 ///
 /// A sink counts its faults, and the count never falls. It tells the bytes that were put to it, or
-/// tells nothing of them.
+/// their number, or tells nothing of them.
 pub trait Sink {
     /// What the sink tells of itself.
     ghost writing: { Self → Writing };

@@ -8,4 +8,6 @@ pub mod KnownSeen
 pub mod Twice
 pub mod Unknown
 pub mod Faults
+pub mod Untyped
+pub mod UntypedSeen
 pub mod Attributes

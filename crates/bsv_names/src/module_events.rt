@@ -108,7 +108,7 @@ fn method_events(
 
 /// Adds the names of a statement of a module.
 #[cycle(module_events)]
-fn module_stmt_events(
+pub(crate) fn module_stmt_events(
     alloc: Global,
     stmt: &ModuleStmt,
     found: &mut Items<Event>,

@@ -47,12 +47,6 @@ abbrev pub IsReadyInLooks : Table → Part → List Call → List Call → Type 
 IsReadyInLooks t p before [] = Unit {0}
 IsReadyInLooks t p before (c ∷ cs) = IsReady t (look t c.method p before) c × IsReadyInLooks t p (before ++ c ∷ []) cs
 
--- calls that fire side by side: each fits and is ready in its look, and each pair is allowed
-pub record IsParallel (t : Table) (p : Part) (cs : List Call) : Type 0 where
-  pub fit : AllByRecursion (CallFits t) cs
-  pub order : IsInOrder t cs
-  pub looks : IsReadyInLooks t p [] cs
-
 -- the arguments of the last call of a method, or else those given
 abbrev pub latest : ℕ → Option (List Bits) → List Call → Option (List Bits)
 latest m before [] = before

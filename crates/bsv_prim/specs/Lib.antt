@@ -1,7 +1,8 @@
 pub mod CallLists
 pub mod Calls
+pub mod Elements
 pub mod Laws
-pub mod Orderly
+pub mod Parallel
 pub mod QueueState
 pub mod RegisterLaws
 pub mod Registers

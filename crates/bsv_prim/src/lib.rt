@@ -4,9 +4,9 @@
 //! Modules in reading order: `queue` (words in a row, with their room), `part` (the state of a
 //! primitive), `piece` (an expression over registers and calls), `primitive` (what every kind
 //! answers, and its laws), `cells` (what the kinds share), `reg` and `regu` (registers), `wire`,
-//! `dwire`, `rwire` and `pulse` (wires). The tables stand in `specs/Registers.antt` and
-//! `specs/WireTables.antt`, the laws in `specs/Laws.antt`, and what follows from them alone in
-//! `specs/Orderly.antt`.
+//! `dwire`, `rwire` and `pulse` (wires), `serial` (what the laws give of every kind). The tables stand
+//! in `specs/Registers.antt` and `specs/WireTables.antt`, the laws in `specs/Laws.antt`, and what
+//! follows from them alone in `specs/Parallel.antt` and `specs/Elements.antt`.
 #![tactic(auto)]
 
 mod cells;
@@ -19,6 +19,7 @@ mod queue;
 mod reg;
 mod regu;
 mod rwire;
+mod serial;
 #[cfg(test)]
 mod tests;
 mod wire;
@@ -32,4 +33,5 @@ pub use queue::Queue;
 pub use reg::RegKind;
 pub use regu::RegUKind;
 pub use rwire::RWireKind;
+pub use serial::{elements_are_serial, parallel_is_serial};
 pub use wire::WireKind;

@@ -103,14 +103,18 @@ fourth_of [] = []
 fourth_of (x ∷ rest) = third_of rest
 
 -- the same words have the same parts
-record SameParts (file top trace file' top' trace' : List ℕ) : Type 0 where
-  file_is : file' ≡ file
-  top_is : top' ≡ top
-  trace_is : trace' ≡ trace
+pub record SameParts (file top trace file' top' trace' : List ℕ) : Type 0 where
+  pub file_is : file' ≡ file
+  pub top_is : top' ≡ top
+  pub trace_is : trace' ≡ trace
 
-same_parts : (file top trace file' top' trace' : List ℕ) → sim_words file' top' trace' ≡ sim_words file top trace → SameParts file top trace file' top' trace'
+pub same_parts : (file top trace file' top' trace' : List ℕ) → sim_words file' top' trace' ≡ sim_words file top trace → SameParts file top trace file' top' trace'
 unfolding second_of third_of fourth_of
 same_parts file top trace file' top' trace' h = record { file_is = ap second_of h; top_is = ap third_of h; trace_is = ap fourth_of h }
+
+-- words of a simulation name one trace
+pub same_trace : (words : List (List ℕ)) (file top trace file' top' trace' : List ℕ) → words ≡ sim_words file top trace → words ≡ sim_words file' top' trace' → trace ≡ trace'
+same_trace words file top trace file' top' trace' first second = (same_parts file' top' trace' file top trace (sym first ∙ second)).trace_is
 
 -- what decides a run over words with a form
 pub data Decided (words : List (List ℕ)) (contents : List ℕ → List ℕ) (file top trace : List ℕ) : Status → Type 0 where

@@ -6,6 +6,8 @@ pub mod Fitting
 pub mod Following
 pub mod Fronts
 pub mod Items
+pub mod OneAnswer
+pub mod OneRun
 pub mod PlainMachines
 pub mod Plains
 pub mod Reading
@@ -15,3 +17,4 @@ pub mod StateLines
 pub mod Stopped
 pub mod Tools
 pub mod Words
+pub mod Within

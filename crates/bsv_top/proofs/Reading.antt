@@ -3,12 +3,12 @@ use Rattle.std.proofs.Common.{◌≡◌, ℕ, ◌+◌, ◌<◌, ◌≤◌, Bool,
 use Rattle.std.proofs.Math.Seq.{drop-cons}
 use Rattle.std.proofs.lemmas.List.{length-drop}
 use Rattle.bsv_top.specs.declared.trace.Lines.{Lines}
-use Rattle.bsv_top.specs.Scanning.{stepped, ended_line, IsReached, ReadsTo, EndsBad, clocks_by, clocks_ahead, lines_ahead}
-use Rattle.bsv_top.proofs.Scanned.{Step, feed, return, step_is, stuck_is, reached_step, clocks_step, lines_step, clocks_stuck, lines_stuck}
+use Rattle.bsv_top.specs.Scanning.{stepped, ended_line, IsReached, ReadsTo, EndsBad, bytes_ahead, clocks_by, clocks_ahead, lines_ahead}
+use Rattle.bsv_top.proofs.Scanned.{Step, feed, return, step_is, stuck_is, reached_step, bytes_step, clocks_step, lines_step, clocks_stuck, lines_stuck}
 
 -- nothing is read yet
 pub ReadsTo-none : (piece : List ℕ) (l : Lines) → ReadsTo piece piece l l
-ReadsTo-none piece l = record { clocks = λ left. refl; lines = λ left. refl; at = refl }
+ReadsTo-none piece l = record { clocks = λ left. refl; bytes = λ left. refl; lines = λ left. refl; at = refl }
 
 next_byte : (piece : List ℕ) (i : ℕ) → i < length piece → drop i piece ≡ get_or piece i 0 ∷ drop (i + 1) piece
 next_byte piece i below = drop-cons piece i 0 below ∙ ap (λ (n : ℕ). get_or piece i 0 ∷ drop n piece) (sym (add-one i))
@@ -33,6 +33,9 @@ module _ (piece : List ℕ) (i : ℕ) (old l : Lines) (below : i < length piece)
   lines_here : (left : List ℕ) → lines_ahead old (piece ++ left) ≡ lines_ahead l (get_or piece i 0 ∷ (drop (i + 1) piece ++ left))
   lines_here left = so_far.lines left ∙ ap (λ (t : List ℕ). lines_ahead l (t ++ left)) (next_byte piece i below)
 
+  bytes_here : (left : List ℕ) → bytes_ahead old (piece ++ left) ≡ bytes_ahead l (get_or piece i 0 ∷ (drop (i + 1) piece ++ left))
+  bytes_here left = so_far.bytes left ∙ ap (λ (t : List ℕ). bytes_ahead l (t ++ left)) (next_byte piece i below)
+
   -- one byte more is taken
   pub reads_more : (a : Lines) → stepped l (get_or piece i 0) ≡ Some a → IsReached a × ReadsTo piece (drop (i + 1) piece) old a
   reads_more a h =
@@ -40,6 +43,7 @@ module _ (piece : List ℕ) (i : ℕ) (old l : Lines) (below : i < length piece)
         reached_step l a (get_or piece i 0) reached step,
         record {
           clocks = λ left. clocks_here left ∙ clocks_step l a (get_or piece i 0) (drop (i + 1) piece ++ left) reached step;
+          bytes = λ left. bytes_here left ∙ bytes_step l a (get_or piece i 0) (drop (i + 1) piece ++ left) reached step;
           lines = λ left. lines_here left ∙ lines_step l a (get_or piece i 0) (drop (i + 1) piece ++ left) step;
           at = omega (arith, at_more l a (get_or piece i 0) step, so_far.at, length-drop i piece, length-drop (i + 1) piece);
         },

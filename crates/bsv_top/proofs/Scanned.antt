@@ -2,8 +2,8 @@
 use Rattle.std.proofs.Common.{◌≡◌, ◌≢◌, ℕ, ◌+◌, ◌-◌, ◌<◌, ◌≤◌, Bool, true, false, not, cond, if◌then◌else◌, ◌&&◌, ◌==◌, nat_le, List, [], ◌∷◌, length, None, Some, refl, sym, ap, ◌∙◌, subst, arith}
 use Rattle.std.proofs.lemmas.Bool.Decides.{nat_tests}
 use Rattle.bsv_top.specs.declared.trace.Lines.{Lines}
-use Rattle.bsv_top.specs.Traces.{onto, lines_of, without_last, line_text, is_empty, trace_limit, is_clock, clocks_from, clocks_of}
-use Rattle.bsv_top.specs.Scanning.{stepped, ended_line, IsReached, clocks_by, clocks_ahead, lines_by, lines_ahead, lines_in_all}
+use Rattle.bsv_top.specs.Traces.{onto, lines_of, without_last, line_text, is_empty, trace_limit, is_clock, bytes_from, bytes_to_bad_line, clocks_from, clocks_of}
+use Rattle.bsv_top.specs.Scanning.{stepped, ended_line, IsReached, bytes_by, bytes_ahead, clocks_by, clocks_ahead, lines_by, lines_ahead, lines_in_all}
 
 both_true : (a b : Bool) → a && b ≡ true → (a ≡ true) × (b ≡ true)
 both_true true b h = (refl, h)
@@ -79,6 +79,26 @@ clocks_step l _ byte left h (return is none below) =
     ap (λ (b : ℕ). clocks_by l.after_return l.done l.at (b ∷ left)) is
     ∙ ap (λ (r : Bool). clocks_by r l.done l.at (13 ∷ left)) none
     ∙ ap (λ (at : ℕ). l.done + clocks_from at (lines_of (13 ∷ left))) (sym back)
+
+feed_bytes : (returned : Bool) (at : ℕ) (left : List ℕ) → (returned ≡ true → 1 ≤ at) → at < trace_limit → bytes_by returned at (10 ∷ left) ≡ bytes_by false (at + 1) left
+feed_bytes false at left some below =
+    let within : nat_le (at + 1) trace_limit ≡ true = grind (arith, nat_tests) in
+    rw within (omega arith)
+feed_bytes true at left some below =
+    let one : 1 ≤ at = some refl in
+    let end : at - 1 + 2 ≡ at + 1 = omega arith in
+    let within : nat_le (at + 1) trace_limit ≡ true = grind (arith, nat_tests) in
+    rw (end, within) (omega arith)
+
+pub bytes_step : (l a : Lines) (byte : ℕ) (left : List ℕ) → IsReached l → Step l byte a → bytes_ahead l (byte ∷ left) ≡ bytes_ahead a left
+unfolding bytes_ahead
+bytes_step l _ byte left h (feed is below) =
+    ap (λ (b : ℕ). bytes_by l.after_return l.at (b ∷ left)) is ∙ feed_bytes l.after_return l.at left h.line below
+bytes_step l _ byte left h (return is none below) =
+    let back : l.at + 1 - 1 ≡ l.at = omega arith in
+    ap (λ (b : ℕ). bytes_by l.after_return l.at (b ∷ left)) is
+    ∙ ap (λ (r : Bool). bytes_by r l.at (13 ∷ left)) none
+    ∙ ap (λ (at : ℕ). at + bytes_from at (lines_of (13 ∷ left))) (sym back)
 
 feed_lines : (returned : Bool) (done : ℕ) (left : List ℕ) → lines_by returned done (10 ∷ left) ≡ lines_by false (done + 1) left
 feed_lines false done left = omega arith
@@ -211,3 +231,23 @@ clocks_start trace = omega arith
 pub lines_start : (trace : List ℕ) → lines_ahead (record { done = 0; at = 0; after_return = false }) trace ≡ length (lines_of trace)
 unfolding lines_ahead
 lines_start trace = omega arith
+
+pub bytes_start : (trace : List ℕ) → bytes_ahead (record { done = 0; at = 0; after_return = false }) trace ≡ bytes_to_bad_line trace
+unfolding bytes_ahead bytes_to_bad_line
+bytes_start trace = omega arith
+
+-- the first line of a text counts whole
+some_bytes : (start byte : ℕ) (lines : List (List ℕ)) → Begins byte lines → 1 ≤ bytes_from start lines
+some_bytes start byte lines b = rw b.lines_are (omega arith)
+
+passed_by : (returned : Bool) (at : ℕ) (left : List ℕ) → (returned ≡ true → 1 ≤ at) → at ≤ bytes_by returned at left
+passed_by false at left some = omega arith
+passed_by true at left some =
+    let one : 1 ≤ at = some refl in
+    let more = some_bytes (at - 1) 13 (lines_of (13 ∷ left)) (begins 13 left) in
+    omega (arith, more)
+
+-- the bytes so far are among those up to the first bad line
+pub bytes_at_least : (l : Lines) (left : List ℕ) → IsReached l → l.at ≤ bytes_ahead l left
+unfolding bytes_ahead
+bytes_at_least l left h = passed_by l.after_return l.at left h.line

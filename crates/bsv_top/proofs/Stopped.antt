@@ -29,6 +29,26 @@ use Rattle.bsv_top.proofs.Decided.{Decided, bad_answer, status_of_form}
 pub decided_tells : (s : Status) → IsDecided s → s ≡ status.WriteFault → ⊥
 decided_tells s h e = subst IsDecided e h
 
+-- a stop is never done
+pub never_done : (s : Stop) → status_of s ≡ status.Done → ⊥
+never_done (stop.Refused refusal) e = cc
+never_done stop.NotYet e = cc
+never_done (stop.SourceUnread name) e = cc
+never_done stop.TraceUnread e = cc
+never_done stop.Unwritable e = cc
+never_done stop.OutOfMemory e = cc
+never_done (stop.BadLine number) e = cc
+
+-- a bad line alone is a fault of the trace
+pub only_bad : (s : Stop) → status_of s ≡ status.TraceFault → (number : ℕ) × (s ≡ stop.BadLine number)
+only_bad (stop.Refused refusal) e = absurd cc
+only_bad stop.NotYet e = absurd cc
+only_bad (stop.SourceUnread name) e = absurd cc
+only_bad stop.TraceUnread e = absurd cc
+only_bad stop.Unwritable e = absurd cc
+only_bad stop.OutOfMemory e = absurd cc
+only_bad (stop.BadLine number) e = (number, refl)
+
 module _ (words : List (List ℕ)) (contents : List ℕ → List ℕ) (file top trace : List ℕ) (out out' : Writing) where
   -- what is known where a run over these words stopped
   pub Known : Stop → Type 0

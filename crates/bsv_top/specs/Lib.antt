@@ -1,9 +1,12 @@
 pub mod Answers
 pub mod Clocks
+pub mod Counts
 pub mod Machines
 pub mod Nodes
+pub mod OneAnswer
 pub mod Outcomes
 pub mod Parts
+pub mod Places
 pub mod Plain
 pub mod PlainPackages
 pub mod Reports

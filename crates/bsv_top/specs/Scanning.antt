@@ -1,7 +1,7 @@
 -- A trace read byte by byte, and what is known of its lines from any place on.
 use Rattle.std.specs.Prelude.{◌≡◌, ℕ, ◌+◌, ◌-◌, ◌≤◌, Bool, true, false, not, ◌&&◌, ◌==◌, nat_le, List, ◌∷◌, ◌++◌, ◌<◌, length, Option, None, Some, if◌then◌else◌}
 use Rattle.bsv_top.specs.declared.trace.Lines.{Lines}
-use Rattle.bsv_top.specs.Traces.{lines_of, clocks_from, trace_limit}
+use Rattle.bsv_top.specs.Traces.{lines_of, bytes_from, clocks_from, trace_limit}
 
 -- the next byte ends the line
 abbrev pub ended_line : Lines → Lines
@@ -37,10 +37,19 @@ lines_by true done left = done + length (lines_of (13 ∷ left))
 unfoldable pub lines_ahead : Lines → List ℕ → ℕ
 lines_ahead l left = lines_by l.after_return l.done left
 
+-- and how many bytes it has up to the end of its first bad line
+abbrev pub bytes_by : Bool → ℕ → List ℕ → ℕ
+bytes_by false at left = at + bytes_from at (lines_of left)
+bytes_by true at left = (at - 1) + bytes_from (at - 1) (lines_of (13 ∷ left))
+
+unfoldable pub bytes_ahead : Lines → List ℕ → ℕ
+bytes_ahead l left = bytes_by l.after_return l.at left
+
 -- a piece of the trace was read up to a rest of it: whatever comes behind the piece, the trace has as many
--- clocks and lines from the one place on as from the other
+-- clocks, lines and bytes up to its first bad line from the one place on as from the other
 pub record ReadsTo (piece rest : List ℕ) (old new : Lines) : Type 0 where
   pub clocks : (left : List ℕ) → clocks_ahead old (piece ++ left) ≡ clocks_ahead new (rest ++ left)
+  pub bytes : (left : List ℕ) → bytes_ahead old (piece ++ left) ≡ bytes_ahead new (rest ++ left)
   pub lines : (left : List ℕ) → lines_ahead old (piece ++ left) ≡ lines_ahead new (rest ++ left)
   pub at : new.at + length rest ≡ old.at + length piece
 

@@ -43,6 +43,15 @@ clocks_from start (line ∷ lines) = if is_clock (start + length line) line then
 unfoldable pub clocks_of : List ℕ → ℕ
 clocks_of trace = clocks_from 0 (lines_of trace)
 
+-- how many bytes there are up to the end of the first line that may not be run, where so many bytes stand before them
+abbrev pub bytes_from : ℕ → List (List ℕ) → ℕ
+bytes_from start [] = 0
+bytes_from start (line ∷ lines) = length line + (if is_clock (start + length line) line then bytes_from (start + length line) lines else 0)
+
+-- how many bytes a trace has up to the end of its first bad line, or in all where no line is bad
+unfoldable pub bytes_to_bad_line : List ℕ → ℕ
+bytes_to_bad_line trace = bytes_from 0 (lines_of trace)
+
 -- each line of the trace is a clock
 abbrev pub IsClean : List ℕ → Type 0
 IsClean trace = clocks_of trace ≡ length (lines_of trace)

@@ -1,18 +1,20 @@
 ghost use Rattle.std.specs.Prelude.{◌≡◌, ℕ, ◌+◌, ◌<◌, ◌≤◌, List, length, Some, Err, IfOk, OnOk, IsSome};
 ghost use Rattle.bsv_io.specs.Faults.{MayFault};
-ghost use Rattle.bsv_io.specs.Reading.{current_name, rest};
+ghost use Rattle.bsv_io.specs.Reading.{bytes_given, current_name, rest};
 ghost use Rattle.bsv_io.specs.Writing.{AppendsPrefix};
 ghost use Rattle.bsv_flow.specs.Loads.{Reaches};
+ghost use Rattle.bsv_flow.specs.Sources.{read_limit};
 ghost use Rattle.bsv_flow.specs.Typings.{IsTyped, Rejects};
 ghost use Rattle.bsv_flow.specs.declared.loading.Loaded.{Loaded as TheLoaded};
 ghost use Rattle.bsv_flow.specs.declared.refusal.CompileFault.TheVariants as fault;
 ghost use Rattle.bsv_flow.specs.declared.refusal.Refusal.{Refusal as TheRefusal};
 ghost use Rattle.bsv_top.specs.Machines.{IsMachine};
+ghost use Rattle.bsv_top.specs.Places.{IsTraceWithin, ReadsWithin};
 ghost use Rattle.bsv_top.specs.PlainPackages.{PlainLoaded, IsPlain};
 ghost use Rattle.bsv_top.specs.Rules.{opening};
 ghost use Rattle.bsv_top.specs.Running.{HasReport, report_so_far};
 ghost use Rattle.bsv_top.specs.Stops.{IsOwn, IsQuiet, stop_of};
-ghost use Rattle.bsv_top.specs.Traces.{clocks_of, IsClean, HasBadLine};
+ghost use Rattle.bsv_top.specs.Traces.{bytes_to_bad_line, clocks_of, IsClean, HasBadLine};
 ghost use Rattle.bsv_top.specs.declared.answer.Stop.TheVariants as stop;
 ghost use Rattle.bsv_top.specs.declared.machine.Machine.{Machine as TheMachine};
 
@@ -112,6 +114,10 @@ fn report_clocks<F: Files, O: Sink>(
     ensures no_memory { result ≡ Err Stop.OutOfMemory → ⊥ }
     ensures prefix { (trace : List ℕ) → rest (F.reading files.old) ≡ Some trace
         → AppendsPrefix (report_so_far machine.now (clocks_of trace)) (O.writing out.old) (O.writing out.new) }
+    ensures file { current_name (F.reading files.new) ≡ current_name (F.reading files.old) }
+    ensures within { (trace : List ℕ) → rest (F.reading files.old) ≡ Some trace
+        → bytes_given (F.reading files.new)
+        ≤ bytes_given (F.reading files.old) + bytes_to_bad_line trace + length buffer.old }
     ensures files_count { (F.reading files.old).faults ≤ (F.reading files.new).faults }
     ensures files_kept { (result ≡ Err Stop.TraceUnread → ⊥)
         → (F.reading files.new).faults ≡ (F.reading files.old).faults }
@@ -157,6 +163,13 @@ fn simulate<F: Files, O: Sink>(
     ensures prefix { (contents : List ℕ → List ℕ) → (F.reading files.old).contents ≡ Some contents
         → AppendsPrefix (report_so_far machine.now (clocks_of (contents trace.now)))
         (O.writing out.old) (O.writing out.new) }
+    ensures within { (contents : List ℕ → List ℕ) → (F.reading files.old).contents ≡ Some contents
+        → ReadsWithin trace.now contents (F.reading files.old) (F.reading files.new) }
+    ensures done_within { OnOk result ((contents : List ℕ → List ℕ) → (F.reading files.old).contents ≡ Some contents
+        → IsTraceWithin trace.now contents (F.reading files.new)) }
+    ensures bad_within { (number : ℕ) → result ≡ Err (Stop.BadLine number) → (contents : List ℕ → List ℕ)
+        → (F.reading files.old).contents ≡ Some contents
+        → IsTraceWithin trace.now contents (F.reading files.new) }
     ensures files_count { (F.reading files.old).faults ≤ (F.reading files.new).faults }
     ensures files_kept { (result ≡ Err Stop.TraceUnread → ⊥)
         → (F.reading files.new).faults ≡ (F.reading files.old).faults }
@@ -185,6 +198,8 @@ fn load_typed<F: Files>(alloc: Global, files: &mut F, name: &str) -> Result<Load
         × ((F.reading files.new).blamed ≡ Some blamed) }
     ensures reached { (blamed : List ℕ) → result ≡ Err (fault.ReadFault blamed) → (contents : List ℕ → List ℕ)
         → (F.reading files.old).contents ≡ Some contents → Reaches name.now contents blamed }
+    ensures within { read_limit < bytes_given (F.reading files.new)
+        → (F.reading files.new).current ≡ (F.reading files.old).current }
     ensures contents { (F.reading files.new).contents ≡ (F.reading files.old).contents }
     ensures count { (F.reading files.old).faults ≤ (F.reading files.new).faults }
     ensures kept { ((blamed : List ℕ) → result ≡ Err (fault.ReadFault blamed) → ⊥)
@@ -237,6 +252,13 @@ pub(crate) fn answer<F: Files, O: Sink>(
     ensures none { (contents : List ℕ → List ℕ) → (F.reading files.old).contents ≡ Some contents
         → ((m : TheMachine) → IsPlain form.entry.file.now form.entry.top.now contents m → ⊥)
         → O.writing out.new ≡ O.writing out.old }
+    ensures within { (contents : List ℕ → List ℕ) → (F.reading files.old).contents ≡ Some contents
+        → ReadsWithin form.entry.trace.now contents (F.reading files.old) (F.reading files.new) }
+    ensures done_within { OnOk result ((contents : List ℕ → List ℕ) → (F.reading files.old).contents ≡ Some contents
+        → IsTraceWithin form.entry.trace.now contents (F.reading files.new)) }
+    ensures bad_within { (number : ℕ) → result ≡ Err (Stop.BadLine number) → (contents : List ℕ → List ℕ)
+        → (F.reading files.old).contents ≡ Some contents
+        → IsTraceWithin form.entry.trace.now contents (F.reading files.new) }
     ensures files_count { (F.reading files.old).faults ≤ (F.reading files.new).faults }
     ensures files_kept { ((name : List ℕ) → result ≡ Err (Stop.SourceUnread name) → ⊥)
         → (result ≡ Err Stop.TraceUnread → ⊥)

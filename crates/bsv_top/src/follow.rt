@@ -1,12 +1,13 @@
 ghost use Rattle.std.specs.Prelude.{◌≡◌, ℕ, ◌<◌, ◌≤◌, ◌+◌, List, length, Some, Err, IsSome, OnOk};
 ghost use Rattle.bsv_io.specs.Faults.{MayFault};
-ghost use Rattle.bsv_io.specs.Reading.{current_name, rest};
+ghost use Rattle.bsv_io.specs.Reading.{bytes_given, current_name, rest};
 ghost use Rattle.bsv_io.specs.Writing.{Writing};
+ghost use Rattle.bsv_flow.specs.Sources.{SameFile};
 ghost use Rattle.bsv_top.specs.Machines.{IsMachine};
 ghost use Rattle.bsv_top.specs.Rules.{opening};
 ghost use Rattle.bsv_top.specs.Running.{HasReport, HasReportPrefix};
 ghost use Rattle.bsv_top.specs.Scanning.{IsReached, IsStart};
-ghost use Rattle.bsv_top.specs.Traces.{clocks_of, IsClean, HasBadLine};
+ghost use Rattle.bsv_top.specs.Traces.{bytes_to_bad_line, clocks_of, IsClean, HasBadLine};
 
 use crate::machine::Machine;
 use crate::simulate::{Halt, run_bytes, run_last};
@@ -68,6 +69,12 @@ pub(crate) fn run_trace<F: Files, O: Sink>(
     ensures unwritable_report { result ≡ Err Halt.Unwritable → (start : Writing)
         → HasReport machine.now start 0 (O.writing out.old)
         → HasReportPrefix machine.now start (lines.new.done + 1) (O.writing out.new) }
+
+    // The same file is read on, at most one piece behind its first bad line.
+    ensures file { SameFile (F.reading files.old) (F.reading files.new) }
+    ensures within { (trace : List ℕ) → rest (F.reading files.old) ≡ Some trace
+        → bytes_given (F.reading files.new)
+        ≤ bytes_given (F.reading files.old) + bytes_to_bad_line trace + length buffer.old }
 
     ensures contents { (F.reading files.new).contents ≡ (F.reading files.old).contents }
     ensures files_count { (F.reading files.old).faults ≤ (F.reading files.new).faults }

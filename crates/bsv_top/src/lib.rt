@@ -5,7 +5,7 @@
 //! `trace` (which lines of a trace are clocks), `clock` (one clock of a machine), `report` (how a
 //! clock prints), `simulate` (a piece of a trace to clocks and their lines), `follow` (a file to the
 //! pieces of a trace), `answer` (a command line to the report, or why the run stops), `faults` (the
-//! fault texts), `program` (the call itself).
+//! fault texts), `program` (the call itself), `law` (that a run of a machine is one).
 #![tactic(auto)]
 
 mod answer;
@@ -13,6 +13,7 @@ mod clock;
 mod faults;
 mod follow;
 mod form;
+mod law;
 mod machine;
 mod node;
 mod plain;
@@ -24,6 +25,7 @@ mod status;
 mod tests;
 mod trace;
 
+pub use law::one_run;
 pub use machine::{Condition, Machine, Register, Rule, Side, Write};
 pub use plain::one_machine;
 pub use program::{one_answer, run, run_surely};

@@ -2,9 +2,12 @@ ghost use Rattle.std.specs.Prelude.{◌≡◌, ℕ, ◌<◌, ◌≤◌, ◌⊎�
 ghost use Rattle.bsv_io.specs.Faults.{MayFault};
 ghost use Rattle.bsv_io.specs.InMemory.{contents_of};
 ghost use Rattle.bsv_io.specs.Sure.{NoFault};
-ghost use Rattle.bsv_io.specs.Writing.{appended};
+ghost use Rattle.bsv_io.specs.Writing.{appended, count_behind};
 ghost use Rattle.bsv_top.specs.Answers.{Answer, HasAnswer, HasNoForm, sim_words, no_memory_line};
+ghost use Rattle.bsv_top.specs.OneAnswer.{IsSameText};
+ghost use Rattle.bsv_top.specs.Counts.{CountsAnswer};
 ghost use Rattle.bsv_top.specs.Outcomes.{Answered, IsDecided, IsFault, OutputBegun, TextBegun, Unreadable};
+ghost use Rattle.bsv_top.specs.Places.{IsTraceWithin, ReadsWithin};
 ghost use Rattle.bsv_top.specs.PlainPackages.{IsPlain};
 ghost use Rattle.bsv_top.specs.Traces.{IsClean};
 ghost use Rattle.bsv_top.specs.declared.machine.Machine.{Machine as TheMachine};
@@ -53,6 +56,20 @@ pub fn run<R: Threads + Sync, F: Files, O: Sink, E: Sink>(
     ensures no_memory { result ≡ Status.OutOfMemory → (O.writing out.new ≡ O.writing out.old)
         × (E.writing err.new ≡ appended no_memory_line (E.writing err.old)) }
 
+    // No source is read on behind one byte more than it may have; where the trace was run, it was read
+    // at most one piece behind its first bad line.
+    ensures within { (contents : List ℕ → List ℕ) → (F.reading files.old).contents ≡ Some contents
+        → (file top trace : List ℕ) → map string_bytes words.now ≡ sim_words file top trace
+        → ReadsWithin trace contents (F.reading files.old) (F.reading files.new) }
+    ensures done_within { result ≡ Status.Done → (contents : List ℕ → List ℕ)
+        → (F.reading files.old).contents ≡ Some contents
+        → (file top trace : List ℕ) → map string_bytes words.now ≡ sim_words file top trace
+        → IsTraceWithin trace contents (F.reading files.new) }
+    ensures bad_within { result ≡ Status.TraceFault → (contents : List ℕ → List ℕ)
+        → (F.reading files.old).contents ≡ Some contents
+        → (file top trace : List ℕ) → map string_bytes words.now ≡ sim_words file top trace
+        → IsTraceWithin trace contents (F.reading files.new) }
+
     // The causes of faults.
     ensures read_fault { result ≡ Status.ReadFault → Unreadable (map string_bytes words.now)
         (F.reading files.old) (F.reading files.new) (O.writing out.old) (O.writing out.new)
@@ -86,8 +103,8 @@ pub fn run<R: Threads + Sync, F: Files, O: Sink, E: Sink>(
     }
 }
 
-/// Does the same over files and sinks that never fail: the status is that of the answer, or memory
-/// is wanting.
+/// Does the same over files and sinks that never fail: the status is that of the answer, and the
+/// sinks take as many bytes as the answer has; or memory is wanting, and only that is told.
 pub fn run_surely<R: Threads + Sync>(
     rt: &R,
     alloc: Global,
@@ -99,17 +116,30 @@ pub fn run_surely<R: Threads + Sync>(
     ensures complete { (status : TheStatus) (output text : List ℕ)
         → Answer (map string_bytes words.now) (contents_of files.old.files) status output text
         → result ≡ status ⊎ result ≡ Status.OutOfMemory }
+    ensures answer { IsDecided result → CountsAnswer (map string_bytes words.now)
+        (contents_of files.old.files) result out.old out.new err.old err.new }
+    ensures no_memory { result ≡ Status.OutOfMemory
+        → (out.new ≡ out.old) × (err.new ≡ count_behind no_memory_line err.old) }
 {
     run(rt, alloc, words, files, out, err)
 }
 
-/// All words and contents have an answer, and its status is the only one. Words with a form, a
-/// plain file and a trace without a bad line have an answer of status 0.
+/// All words and contents have an answer, and it is one: one status, one output, and one fault text
+/// but for the place of a `Syntax`. Words with a form, a plain file and a trace without a bad line
+/// have an answer of status 0.
 pub fn one_answer()
     ensures some { (words : List (List ℕ)) (contents : List ℕ → List ℕ) → HasAnswer words contents }
     ensures one_status { (words : List (List ℕ)) (contents : List ℕ → List ℕ)
         (status other : TheStatus) (output text more said : List ℕ)
         → Answer words contents status output text → Answer words contents other more said → status ≡ other }
+    ensures one_output { (words : List (List ℕ)) (contents : List ℕ → List ℕ)
+        (status other : TheStatus) (output text more said : List ℕ)
+        → Answer words contents status output text → Answer words contents other more said
+        → output ≡ more }
+    ensures one_text { (words : List (List ℕ)) (contents : List ℕ → List ℕ)
+        (status other : TheStatus) (output text more said : List ℕ)
+        → Answer words contents status output text → Answer words contents other more said
+        → IsSameText text said }
     ensures done { (contents : List ℕ → List ℕ) (file top trace : List ℕ) (m : TheMachine)
         → IsPlain file top contents m → IsClean (contents trace)
         → (output : List ℕ) × Answer (sim_words file top trace) contents Status.Done output [] }

@@ -1,6 +1,7 @@
 pub mod Carried
 pub mod Counted
 pub mod Exact
+pub mod FirstPlaces
 pub mod Gathering
 pub mod Least
 pub mod Pieces

@@ -4,6 +4,7 @@ pub mod Expressions
 pub mod Kinds
 pub mod Methods
 pub mod Modules
+pub mod Named
 pub mod Names
 pub mod Operators
 pub mod Packing

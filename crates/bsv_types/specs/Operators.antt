@@ -56,7 +56,6 @@ between s op.Xor j k = when (same_kind j k && has_family j) j
 between s op.Or j k = when (same_kind j k && has_family j) j
 between s op.Both j k = when (same_kind j bool && same_kind k bool) bool
 between s op.Either j k = when (same_kind j bool && same_kind k bool) bool
-between s op.Index j k = when (is_bit j && same_kind k integer) (bit 1)
 between s op.FromMaybe j k = when (same_kind k (maybe j)) j
 between s _ j k = None
 
@@ -65,11 +64,6 @@ abbrev pub chained : Shapes → Kind → List Op → List Kind → Option Kind
 chained s k [] [] = Some k
 chained s k (o ∷ os) (j ∷ js) = between s o k j >>= λ r. chained s r os js
 chained s k _ _ = None
-
--- the bits from l to h of a Bit
-abbrev pub is_slice : ℕ → ℕ → Kind → Kind → Bool
-is_slice h l (bit n) (bit m) = nat_le l h && nat_lt h n && m == h - l + 1
-is_slice h l _ _ = false
 
 -- the Bit of a type's width
 abbrev pub is_packed : Shapes → Kind → Kind → Bool
@@ -80,19 +74,41 @@ abbrev pub field_kind : Shapes → Kind → ℕ → Option Kind
 field_kind s (struct k) f = slice_get s.structs k >>= λ t. slice_get t.fields f >>= λ d. Some (kind d.ty)
 field_kind s _ f = None
 
+-- a bit of a Bit
+abbrev pub bit_kind : Kind → Kind → Option Kind
+bit_kind k j = when (is_bit k && same_kind j integer) (bit 1)
+
+-- the bits from l to h of a Bit
+abbrev pub slice_kind : ℕ → ℕ → Kind → Option Kind
+slice_kind h l (bit n) = when (nat_le l h && nat_lt h n) (bit (h - l + 1))
+slice_kind h l _ = None
+
+-- an operator that stands behind its operand: `[i]`, `[h:l]` or `.f`
+abbrev pub is_suffix : Op → Bool
+is_suffix op.Index = true
+is_suffix (op.Slice h l) = true
+is_suffix (op.Field f) = true
+is_suffix _ = false
+
+-- what suffixes give, from the left; each index takes one operand more
+abbrev pub suffixed : Shapes → Kind → List Op → List Kind → Option Kind
+suffixed s k [] [] = Some k
+suffixed s k (op.Index ∷ os) (j ∷ js) = bit_kind k j >>= λ r. suffixed s r os js
+suffixed s k (op.Slice h l ∷ os) js = slice_kind h l k >>= λ r. suffixed s r os js
+suffixed s k (op.Field f ∷ os) js = field_kind s k f >>= λ r. suffixed s r os js
+suffixed s k _ _ = None
+
 -- the operator gives `t` from one operand
 abbrev pub from_one : Shapes → Op → Kind → Kind → Bool
 from_one s op.Negate k t = same_kind k t && is_number t
 from_one s op.Complement k t = same_kind k t && has_family t
 from_one s op.Not k t = same_kind k bool && same_kind t bool
-from_one s (op.Slice h l) k t = is_slice h l k t
 from_one s op.Truncate k t = family_widths (λ m n. nat_le n m) k t
 from_one s op.ZeroExtend k t = family_widths (λ m n. nat_le m n) k t
 from_one s op.SignExtend k t = family_widths (λ m n. nat_le m n) k t
 from_one s op.Pack k t = has_bits s k && is_packed s k t
 from_one s op.Unpack k t = has_bits s t && is_packed s t k
 from_one s op.FromInteger k t = same_kind k integer && has_family t
-from_one s (op.Field f) k t = is_kind (field_kind s k f) t
 from_one s op.Valid k t = same_kind (maybe k) t
 from_one s op.IsValid k t = is_maybe k && same_kind t bool
 from_one s op.ValidValue k t = same_kind k (maybe t)
@@ -133,6 +149,9 @@ gives s [] ks t = false
 gives s (op.Concat ∷ []) (k ∷ ks) t = concats s (k ∷ ks) t
 gives s (op.Invalid ∷ []) [] t = is_maybe t
 gives s (op.Set f ∷ os) ks t = constructs s t (op.Set f ∷ os) ks
+gives s (op.Index ∷ os) (k ∷ ks) t = is_kind (suffixed s k (op.Index ∷ os) ks) t
+gives s (op.Slice h l ∷ os) (k ∷ ks) t = is_kind (suffixed s k (op.Slice h l ∷ os) ks) t
+gives s (op.Field f ∷ os) (k ∷ ks) t = is_kind (suffixed s k (op.Field f ∷ os) ks) t
 gives s (o ∷ []) (k ∷ []) t = from_one s o k t
 gives s os (k ∷ ks) t = is_kind (chained s k os ks) t
 gives s _ _ t = false

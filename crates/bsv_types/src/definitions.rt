@@ -3,6 +3,7 @@ ghost use Rattle.bsv_types.specs.Shapes.{widths_by};
 ghost use Rattle.bsv_types.specs.Widths.{IsLeast, field_kinds};
 
 use crate::expressions::Expr;
+use crate::methods::Methods;
 use crate::statements::Stmt;
 use crate::types::Ty;
 use crate::widths::{counted_widths, least_width};
@@ -64,7 +65,7 @@ pub struct MethodHeader {
 #[derive(Drop)]
 pub struct Interface {
     pub name: Name,
-    pub methods: Items<MethodHeader>,
+    pub methods: Methods,
 }
 
 /// What a function or a method carries out.

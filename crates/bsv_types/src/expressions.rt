@@ -14,8 +14,10 @@ pub enum Expr {
     /// A variable, by its level.
     Variable(Ty, u32),
     /// Operators and their operands from left to right. One operator takes all operands. The operators
-    /// of one level, one fewer than operands, take them two by two from the left. In the construction
-    /// of a struct there is one `Op::Set` for each operand.
+    /// of one level, one fewer than operands, take them two by two from the left. The suffixes of one
+    /// expression (`Op::Index`, `Op::Slice`, `Op::Field`) stand in the order of the text; behind that
+    /// expression stands the place of each `Op::Index`. In the construction of a struct there is one
+    /// `Op::Set` for each operand.
     Apply(Ty, Items<Op>, Items<Expr>),
     /// A call of a function, by its place.
     Call(Ty, u32, Items<Expr>),

@@ -3,7 +3,8 @@
 //! Modules in reading order: `types` (what a type is), `operators` (the labels of operators),
 //! `expressions`, `statements` (of rules, methods and functions), `attributes`, `attribute_text` (the
 //! words and marks of an attribute's text), `asked` (what an attribute asks for), `makers` (what makes an
-//! instance), `modules`, `definitions` (enums, structs, interfaces and functions), `widths` (of types),
+//! instance), `modules`, `definitions` (enums, structs, interfaces and functions), `methods` (of an interface,
+//! by their names), `widths` (of types),
 //! `packing` (laws of widths), `typed` (a whole program, its invariant, widths and packing).
 //!
 //! Contracts see a tree by value: a `Boxed<T>` as a `T`, an `Items<T>` as the list of its items, a
@@ -20,6 +21,7 @@ mod attributes;
 mod definitions;
 mod expressions;
 mod makers;
+mod methods;
 mod modules;
 mod operators;
 mod packing;
@@ -37,6 +39,7 @@ pub use definitions::{
 };
 pub use expressions::{Expr, Place};
 pub use makers::{Argument, GivenMaker, Make, Maker};
+pub use methods::Methods;
 pub use modules::{Method, Module, ModuleBranch, ModuleStmt, Rule};
 pub use operators::Op;
 pub use packing::{fields_are_read_back, packed_fits, tag_is_on_top};

@@ -2,8 +2,8 @@ ghost use Rattle.std.specs.Prelude.{◌≡◌, [], ◌∷◌, IfOk};
 ghost use Rattle.bsv_types.specs.Samples.{two_bits};
 
 use crate::{
-    Boxed, Enum, Expr, Field, Function, Interface, Items, Module, PartTy, Struct, Ty, Typed,
-    counted_width, least_width,
+    Boxed, Enum, Expr, Field, Function, Interface, Items, MethodHeader, MethodResult, Methods,
+    Module, PartTy, Struct, Ty, Typed, counted_width, least_width,
 };
 use bsv_bits::Name;
 use std::alloc::Global;
@@ -39,7 +39,7 @@ fn program(alloc: Global) -> Result<Typed, Fail>
     let mut interfaces = Items::new(alloc);
     interfaces.push(Interface {
         name: Name::new(alloc, b"Empty")?,
-        methods: Items::new(alloc),
+        methods: Methods::new(alloc, Items::new(alloc))?,
     })?;
     let functions: Items<Function> = Items::new(alloc);
     let modules: Items<Module> = Items::new(alloc);
@@ -192,5 +192,29 @@ fn a_maybe_has_a_tag(rt: HostRuntime) -> Result<(), Fail> {
     }
     let literal = Expr::Literal(Ty::Bit(7), 5);
     assert!(rt; literal.ty().same(&Ty::Bit(7)));
+    Ok(())
+}
+
+/// `method Bool NAME;`
+fn value_method(alloc: Global, name: &[u8]) -> Result<MethodHeader, Fail> {
+    Ok(MethodHeader {
+        name: Name::new(alloc, name)?,
+        params: Items::new(alloc),
+        result: MethodResult::Value(Ty::Bool),
+    })
+}
+
+#[test]
+fn a_name_finds_its_first_method(rt: HostRuntime) -> Result<(), Fail> {
+    let mut headers = Items::new(rt.alloc());
+    for name in [b"put".as_slice(), b"get", b"put"] {
+        headers.push(value_method(rt.alloc(), name)?)?;
+    }
+    let methods = Methods::new(rt.alloc(), headers)?;
+    assert_eq!(rt; methods.len(), 3);
+    assert_eq!(rt; methods.as_slice().len(), 3);
+    assert_eq!(rt; methods.place(b"put"), Some(0));
+    assert_eq!(rt; methods.place(b"get"), Some(1));
+    assert_eq!(rt; methods.place(b"ge"), None);
     Ok(())
 }

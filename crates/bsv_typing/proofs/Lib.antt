@@ -22,5 +22,7 @@ pub mod RightScopes
 pub mod RightStatements
 pub mod RightStructs
 pub mod RightSuffixes
+pub mod Suffixes
 pub mod Typings
 pub mod Values
+pub mod Placed

@@ -18,7 +18,7 @@ use Rattle.bsv_typing.specs.Forms.{if_kind, if_true, number_case, sized_case, tr
 use Rattle.bsv_typing.specs.Laws.{Typed}
 use Rattle.bsv_typing.proofs.Bound.{some_is, taken, tested, both_true, HasKind}
 use Rattle.bsv_typing.proofs.Typings.{Each, value_typed, literal_typed, apply_typed, choice_typed}
-use Rattle.bsv_typing.proofs.RightOperands.{strictly, alike, Formed, FormedAs, Good, EachGood, wanted_formed, AllOf, each_more, each_of, each_behind, all_as_right, agree_right, result_right}
+use Rattle.bsv_typing.proofs.RightOperands.{strictly, alike, Formed, FormedAs, Good, EachGood, wanted_formed, AllOf, each_more, each_of, each_joined, all_as_right, agree_right, result_right}
 
 if_kind_is : (test : Kind → Bool) (a : Agreed) (f : Kind → List Expr → Option Made) (m : Made) → if_kind test a f ≡ Some m →
     (r : Kind × List Expr) × (a ≡ Some r) × (test r.0 ≡ true) × (f r.0 r.1 ≡ Some m)
@@ -189,7 +189,7 @@ module _ (w : World) (frame : Frame) where
       let a = agree_right w frame (x ∷ y ∷ []) r (good.0, (good.1.0, tt)) t.1 in
       let rest = all_as_right w frame bool zs b.0 good.1.1 b.1 in
       wanted_formed w frame want (applied bool os (r.1 ++ b.0)) m b.2
-      (applied_formed bool os (r.1 ++ b.0) (alike r.0 r.1 ++ alike bool b.0) (each_behind w frame r.0 r.1 b.0 (alike bool b.0) a.0 (each_of w frame bool b.0 rest.0))
+      (applied_formed bool os (r.1 ++ b.0) (alike r.0 r.1 ++ alike bool b.0) (each_joined w frame r.1 b.0 (alike r.0 r.1) (alike bool b.0) (each_of w frame r.0 r.1 a.0) (each_of w frame bool b.0 rest.0))
       (give r.0 r.1 b.0 (value_of_two r.0 r.1 a.0 a.1) a.1 rest.1))
 
   -- ---- choices, and parts side by side

@@ -1,11 +1,11 @@
 -- Operands that are in order, and those that agree.
-use Rattle.std.proofs.Common.{◌≡◌, ◌∙◌, ℕ, zero, suc, ◌+◌, Bool, true, false, cond, List, [], ◌∷◌, ◌++◌, take, drop, length, Option, Some, None, refl, ap, ap₂, subst, arith}
+use Rattle.std.proofs.Common.{◌≡◌, ◌∙◌, ℕ, zero, suc, ◌+◌, Bool, true, false, cond, List, [], ◌∷◌, ◌++◌, map, take, drop, length, Option, Some, None, refl, ap, ap₂, subst, arith}
 use Rattle.std.proofs.lemmas.List.{length-append}
 use Rattle.bsv_types.specs.declared.expressions.Expr.{Expr}
 use Rattle.bsv_types.specs.Kinds.{Kind, integer}
 use Rattle.bsv_types.specs.Shapes.{is_value}
 use Rattle.bsv_types.specs.Operators.{◌>>=◌}
-use Rattle.bsv_types.specs.Expressions.{World, Frame, typing}
+use Rattle.bsv_types.specs.Expressions.{World, Frame, typing, all_typed}
 use Rattle.bsv_typing.specs.Operands.{Made, Check, Operand, wanted, all_as, are_literals, are_open, open_front, agreed, beside, around, by_first, agree_with_result, agree}
 use Rattle.bsv_typing.specs.Env.{Limits, has_bits, is_typed_value, in_order}
 use Rattle.bsv_typing.specs.Typing.{ordered}
@@ -74,9 +74,12 @@ module _ (w : World) (frame : Frame) where
   each_of k [] h = refl
   each_of k (x ∷ xs) h = each_more x xs k (alike k xs) h.0 (each_of k xs h.1)
 
-  pub each_behind : (k : Kind) (xs ys : List Expr) (ks : List Kind) → AllOf k xs → Each w frame ys ks → Each w frame (xs ++ ys) (alike k xs ++ ks)
-  each_behind k [] ys ks h g = g
-  each_behind k (x ∷ xs) ys ks h g = each_more x (xs ++ ys) k (alike k xs ++ ks) h.0 (each_behind k xs ys ks h.1 g)
+  pub each_joined : (xs ys : List Expr) (ks js : List Kind) → Each w frame xs ks → Each w frame ys js → Each w frame (xs ++ ys) (ks ++ js)
+  each_joined [] ys ks js h g = subst (λ is. Each w frame ys (is ++ js)) (some_is [] ks h) g
+  each_joined (x ∷ xs) ys ks js h g =
+      let t = taken (typing w x frame) _ ks h in
+      let r = taken (all_typed (map (typing w) xs) frame) _ ks t.2 in
+      subst (λ is. Each w frame (x ∷ xs ++ ys) (is ++ js)) (some_is (t.0 ∷ r.0) ks r.2) (each_more x (xs ++ ys) t.0 (r.0 ++ js) t.1 (each_joined xs ys r.0 js r.1 g))
 
   of_append : (k : Kind) (xs ys : List Expr) → AllOf k xs → AllOf k ys → AllOf k (xs ++ ys)
   of_append k [] ys h g = g

@@ -1,12 +1,12 @@
 -- What names and suffixes give is in order.
-use Rattle.std.proofs.Common.{◌≡◌, ◌∙◌, ℕ, ◌+◌, ◌-◌, ◌<◌, ◌≤◌, suc, min, Bool, true, false, cond, ◌||◌, List, [], ◌∷◌, Option, Some, None, refl, sym, ap, subst, arith}
+use Rattle.std.proofs.Common.{◌≡◌, ◌∙◌, ℕ, ◌+◌, ◌-◌, ◌<◌, ◌≤◌, suc, min, Bool, true, false, cond, ◌||◌, ◌&&◌, List, [], ◌∷◌, Option, Some, None, refl, sym, ap, subst, arith}
 use Rattle.std.specs.Prelude.{nat_lt, nat_le, slice_get, codes}
 use Rattle.std.specs.Str.{bytes_eq}
-use Rattle.std.proofs.lemmas.Bool.{eq-eqb, ltb-true, leb-true}
+use Rattle.std.proofs.lemmas.Bool.{ltb-true, leb-true}
 use Rattle.bsv_types.specs.declared.types.PartTy.TheVariants as part_type
 use Rattle.bsv_types.specs.Kinds.{Kind, bit, bool, integer, interface, part, bare, is_interface}
 use Rattle.bsv_types.specs.Shapes.{Shapes, is_value, is_instance, has_bits, counted}
-use Rattle.bsv_types.specs.Operators.{is_slice}
+use Rattle.bsv_types.specs.Operators.{slice_kind}
 use Rattle.bsv_types.specs.Methods.{Signature, Effect, value, action, action_value, methods}
 use Rattle.bsv_types.specs.Expressions.{one, World, Frame, place_typing, many_at, is_value_call, gives_value, method_at}
 use Rattle.bsv_types.proofs.Same.{both, same_self}
@@ -17,7 +17,7 @@ use Rattle.bsv_typing.specs.Places.{Instance, Front, whole, instance, array, pla
 use Rattle.bsv_typing.specs.Typing.{ordered_front}
 use Rattle.bsv_typing.specs.Laws.{Typed, slot_right}
 use Rattle.bsv_typing.proofs.Bound.{some_is, taken, tested_step, both_true}
-use Rattle.bsv_typing.proofs.Typings.{method_typed}
+use Rattle.bsv_typing.proofs.Typings.{when_true, method_typed}
 use Rattle.bsv_typing.proofs.RightOperands.{strictly, Formed, EachGood, ordered_typed}
 use Rattle.bsv_typing.proofs.RightGiven.{arguments_right, same_kinds_self}
 
@@ -89,7 +89,7 @@ value_slot s k face right = or_false _ right
 
 -- ---- the bits of a slice
 
-pub slice_right : (w : World) (n h l : ℕ) → is_value w.shapes (bit n) ≡ true → slice_fits (strictly w) h l n ≡ true → is_slice (counted h) (counted l) (bit n) (bit (slice_width h l)) ≡ true
+pub slice_right : (w : World) (n h l : ℕ) → is_value w.shapes (bit n) ≡ true → slice_fits (strictly w) h l n ≡ true → slice_kind (counted h) (counted l) (bit n) ≡ Some (bit (slice_width h l))
 slice_right w n h l range fits =
     let few : n ≤ 128 = leb-true n 128 (both (nat_le 1 n) (nat_le n 128) range).1 in
     let order = (both (nat_le l h) (nat_lt h n) fits).0 in
@@ -98,9 +98,9 @@ slice_right w n h l range fits =
     let same_h : counted h ≡ h = omega arith in
     let same_l : counted l ≡ l = omega arith in
     let wide : min (h - l + 1) 4294967295 ≡ h - l + 1 = omega arith in
-    let width = ap (λ b. cond b (min (h - l + 1) 4294967295) (4294967294 - min (l - h - 1) 2147483647)) order ∙ wide in
-    subst (λ i. is_slice i (counted l) (bit n) (bit (slice_width h l)) ≡ true) (sym same_h)
-    (subst (λ i. is_slice h i (bit n) (bit (slice_width h l)) ≡ true) (sym same_l) (both_true _ _ fits (eq-eqb (slice_width h l) (h - l + 1) width)))
+    let width = ap (λ b. cond b (min (h - l + 1) 4294967295) 0) order ∙ wide in
+    subst (λ i. slice_kind i (counted l) (bit n) ≡ Some (bit (slice_width h l))) (sym same_h)
+    (subst (λ i. slice_kind h i (bit n) ≡ Some (bit (slice_width h l))) (sym same_l) (when_true (nat_le l h && nat_lt h n) (bit (h - l + 1)) fits ∙ ap (λ v. Some (bit v)) (sym width)))
 
 module _ (w : World) (frame : Frame) where
   -- an instance that is there

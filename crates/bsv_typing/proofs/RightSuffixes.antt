@@ -1,27 +1,26 @@
 -- Names, and suffixes behind what is in order, give what is in order.
-use Rattle.std.proofs.Common.{◌≡◌, ◌∙◌, ℕ, Bool, true, false, cond, List, [], ◌∷◌, Option, Some, None, refl, ap, subst}
+use Rattle.std.proofs.Common.{◌≡◌, ◌∙◌, ℕ, Bool, true, false, cond, List, [], ◌∷◌, Option, Some, None, refl, sym, ap, subst}
 use Rattle.std.specs.Prelude.{slice_get}
 use Rattle.bsv_types.specs.declared.operators.Op.TheVariants as op
 use Rattle.bsv_types.specs.declared.expressions.Expr.{Expr, Variable}
 use Rattle.bsv_types.specs.declared.expressions.Place.{fold-roll-Place}
 use Rattle.bsv_types.specs.Kinds.{Kind, bit, integer, is_interface, type_of}
 use Rattle.bsv_types.specs.Shapes.{counted}
-use Rattle.bsv_types.specs.Operators.{◌>>=◌, is_kind}
+use Rattle.bsv_types.specs.Operators.{◌>>=◌, is_kind, suffixed}
 use Rattle.bsv_types.specs.Methods.{Signature, methods}
 use Rattle.bsv_types.specs.Expressions.{Slot, one, many, World, Frame, Typing, typing, place_typing, expr_step, place_step, place_at, one_at, many_at}
 use Rattle.bsv_types.proofs.Same.{same_self}
 use Rattle.bsv_typing.specs.Operands.{Made, Operand}
-use Rattle.bsv_typing.specs.Env.{applied}
 use Rattle.bsv_typing.specs.Forms.{field_named, function_case}
-use Rattle.bsv_typing.specs.Places.{Instance, Front, whole, instance, array, place_of, method_named, call_of, read, value_at, variable_front, name_front, field_of, member_behind, method_behind, bit_of, index_behind, slice_width, slice_fits, bits_of, slice_behind}
+use Rattle.bsv_typing.specs.Places.{Instance, Front, whole, instance, array, place_of, method_named, call_of, read, value_at, variable_front, name_front, with_suffix, field_of, member_behind, method_behind, bit_of, index_behind, slice_width, slice_fits, bits_of, slice_behind}
 use Rattle.bsv_typing.specs.Typing.{Suffixed, all_behind, front_case}
 use Rattle.bsv_typing.specs.Laws.{Typed, slot_right}
 use Rattle.bsv_typing.proofs.Bound.{some_is, taken, tested_step}
 use Rattle.bsv_typing.proofs.Typings.{value_typed, variable_typed}
 use Rattle.bsv_typing.proofs.RightOperands.{strictly, FormedAs, Good, EachGood, wanted_formed, each_more}
-use Rattle.bsv_typing.proofs.RightForms.{applied_formed}
 use Rattle.bsv_typing.proofs.RightStructs.{field_is}
 use Rattle.bsv_typing.proofs.RightGiven.{FunctionRight, function_typed}
+use Rattle.bsv_typing.proofs.Suffixes.{suffix_formed}
 use Rattle.bsv_typing.proofs.RightPlaces.{method_is, instance_slot, value_slot, slice_right, GoodInstance, GoodFront, FormedFront, call_formed, read_typed, value_at_typed}
 
 module _ (w : World) (frame : Frame) where
@@ -68,10 +67,8 @@ module _ (w : World) (frame : Frame) where
   unfolding field_of
   field_formed name m f typed e =
       let q = taken (field_named (strictly w) m.kind name) _ f e in
-      let k = q.0.1 in
-      let right = ap (λ o. is_kind o k) (field_is w m.kind name q.0 q.1) ∙ same_self k in
-      subst (FormedFront w frame) (some_is (whole (applied k (op.Field q.0.0 ∷ []) (m.expr ∷ []))) f q.2)
-      (applied_formed w frame k (op.Field q.0.0 ∷ []) (m.expr ∷ []) (m.kind ∷ []) (each_more w frame m.expr [] m.kind [] typed refl) right)
+      subst (FormedFront w frame) (some_is (whole (with_suffix q.0.1 (op.Field q.0.0) [] m.expr)) f q.2)
+      (suffix_formed w frame q.0.1 (op.Field q.0.0) [] [] m refl typed refl (ap (λ o. o >>= λ r. Some r) (field_is w m.kind name q.0 q.1)))
 
   called_formed : (i : Instance) (q : ℕ × Signature) (xs : List Operand) (f : Front) → GoodInstance w frame i → slice_get (methods w.shapes i.kind) q.0 ≡ Some q.1 → EachGood w frame xs → (call_of i q xs >>= λ x. Some (whole x)) ≡ Some f → FormedFront w frame f
   called_formed i q xs f here is good e =
@@ -101,11 +98,11 @@ module _ (w : World) (frame : Frame) where
   bit_formed x m g good typed e = by m.kind refl where
     by : (k : Kind) → m.kind ≡ k → FormedFront w frame g
     by (bit n) is =
-        let t = taken (x.check (Some integer)) (λ i. Some (whole (applied (bit 1) (op.Index ∷ []) (m.expr ∷ i.expr ∷ [])))) g (rw is at e) in
+        let t = taken (x.check (Some integer)) (λ i. Some (whole (with_suffix (bit 1) op.Index (i.expr ∷ []) m.expr))) g (rw is at e) in
         let h = good (Some integer) t.0 t.1 in
-        subst (FormedFront w frame) (some_is (whole (applied (bit 1) (op.Index ∷ []) (m.expr ∷ t.0.expr ∷ []))) g t.2)
-        (applied_formed w frame (bit 1) (op.Index ∷ []) (m.expr ∷ t.0.expr ∷ []) (bit n ∷ integer ∷ [])
-        (each_more w frame m.expr (t.0.expr ∷ []) (bit n) (integer ∷ []) (typed ∙ ap Some is) (each_more w frame t.0.expr [] integer [] (h.0 ∙ ap Some h.1) refl)) refl)
+        subst (FormedFront w frame) (some_is (whole (with_suffix (bit 1) op.Index (t.0.expr ∷ []) m.expr)) g t.2)
+        (suffix_formed w frame (bit 1) op.Index (t.0.expr ∷ []) (integer ∷ []) m refl typed (each_more w frame t.0.expr [] integer [] (h.0 ∙ ap Some h.1) refl)
+        (subst (λ k. suffixed w.shapes k (op.Index ∷ []) (integer ∷ []) ≡ Some (bit 1)) (sym is) refl))
     by _ is = let none = rw is at e in absurd cc
 
   -- an index behind what has a value
@@ -129,12 +126,12 @@ module _ (w : World) (frame : Frame) where
   bits_formed h l m g typed e = by m.kind refl where
     by : (k : Kind) → m.kind ≡ k → FormedFront w frame g
     by (bit n) is =
-        let part = applied (bit (slice_width h l)) (op.Slice (counted h) (counted l) ∷ []) (m.expr ∷ []) in
+        let part = with_suffix (bit (slice_width h l)) (op.Slice (counted h) (counted l)) [] m.expr in
         let t = tested_step (slice_fits (strictly w) h l n) (Some (whole part)) g (rw is at e) in
-        let typed_bits = typed ∙ ap Some is in
+        let bits = slice_right w n h l (value_typed w frame m.expr (bit n) (typed ∙ ap Some is)) t.0 in
         subst (FormedFront w frame) (some_is (whole part) g t.1)
-        (applied_formed w frame (bit (slice_width h l)) (op.Slice (counted h) (counted l) ∷ []) (m.expr ∷ []) (bit n ∷ [])
-        (each_more w frame m.expr [] (bit n) [] typed_bits refl) (slice_right w n h l (value_typed w frame m.expr (bit n) typed_bits) t.0))
+        (suffix_formed w frame (bit (slice_width h l)) (op.Slice (counted h) (counted l)) [] [] m refl typed refl
+        (subst (λ k. suffixed w.shapes k (op.Slice (counted h) (counted l) ∷ []) [] ≡ Some (bit (slice_width h l))) (sym is) (ap (λ o. o >>= λ r. Some r) bits)))
     by _ is = let none = rw is at e in absurd cc
 
   pub slice_formed : (high low : Option ℕ) (f g : Front) → GoodFront w frame f → slice_behind (strictly w) high low f ≡ Some g → FormedFront w frame g

@@ -48,6 +48,11 @@ module _ (w : World) (frame : Frame) where
       let h = when_is (is_value w.shapes (carried y) && expr_right w y frame (carried y)) (carried y) k e in
       subst (λ j. is_value w.shapes j ≡ true) h.1 (both (is_value w.shapes (carried y)) (expr_right w y frame (carried y)) h.0).0
 
+  stepped_right : (y : Expr-F Typing Typing) (k : Kind) → expr_step w y frame ≡ Some k → expr_right w y frame k ≡ true
+  stepped_right y k e =
+      let h = when_is (is_value w.shapes (carried y) && expr_right w y frame (carried y)) (carried y) k e in
+      subst (λ j. expr_right w y frame j ≡ true) h.1 (both (is_value w.shapes (carried y)) (expr_right w y frame (carried y)) h.0).1
+
   -- a typed expression has a type of values
   pub value_typed : (e : Expr) (k : Kind) → typing w e frame ≡ Some k → is_value w.shapes k ≡ true
   value_typed e k h =
@@ -72,6 +77,11 @@ module _ (w : World) (frame : Frame) where
   apply_typed k os xs ks value each right =
       ap (λ x. typing w x frame) (sym (rolls-Apply (type_of k) os xs)) ∙ ap (λ f. f frame) (fold-roll-Expr Typing Typing (expr_step w) (place_step w) (Expr-F.Apply (type_of k) os xs)) ∙
       stepped (Expr-F.Apply (type_of k) os (map (typing w) xs)) k (kind_back k) value (subst (λ o. is_typed o (λ js. gives w.shapes os js k) ≡ true) (sym each) right)
+
+  pub apply_right : (e : Expr) (t : Ty) (os : List Op) (xs : List Expr) (k : Kind) → out-Expr e ≡ Expr-F.Apply t os xs → typing w e frame ≡ Some k → is_typed (all_typed (map (typing w) xs) frame) (λ ks. gives w.shapes os ks k) ≡ true
+  apply_right e t os xs k is h =
+      let f = fold_out-Expr Typing Typing (expr_step w) (place_step w) e in
+      stepped_right (Expr-F.Apply t os (map (typing w) xs)) k (ap (λ y. expr_step w (map-Expr Expr Place Typing Typing (typing w) (place_typing w) y) frame) (sym is) ∙ sym (ap (λ t. t frame) f) ∙ h)
 
   pub call_typed : (k : Kind) (number : ℕ) (xs : List Expr) (ks : List Kind) → is_value w.shapes k ≡ true → Each xs ks → is_call (slice_get w.functions number) ks k ≡ true → typing w (Call (type_of k) number xs) frame ≡ Some k
   call_typed k number xs ks value each right =

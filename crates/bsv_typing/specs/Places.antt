@@ -1,14 +1,16 @@
 -- Names, and what stands behind them: instances, their methods, fields, bits (Bluespec reference guide,
 -- "Member selection", "Bit selection" and "Method calls").
-use Rattle.std.specs.Prelude.{ℕ, ◌+◌, ◌-◌, min, nat_le, nat_lt, Bool, true, false, not, ◌&&◌, ◌||◌, List, [], ◌∷◌, Option, Some, None, codes, if◌then◌else◌}
+use Rattle.std.specs.Prelude.{ℕ, ◌+◌, ◌-◌, min, nat_le, nat_lt, Bool, true, false, not, ◌&&◌, ◌||◌, List, [], ◌∷◌, ◌++◌, Option, Some, None, codes, if◌then◌else◌}
 use Rattle.std.specs.Str.{bytes_eq}
+use Rattle.bsv_types.specs.declared.operators.Op.{Op}
 use Rattle.bsv_types.specs.declared.operators.Op.TheVariants as op
 use Rattle.bsv_types.specs.declared.types.PartTy.TheVariants as part_type
-use Rattle.bsv_types.specs.declared.expressions.Expr.{Expr, Variable, Method}
+use Rattle.bsv_types.specs.declared.expressions.Expr.{Expr, Variable, Method, out-Expr}
+use Rattle.bsv_types.specs.declared.expressions.Expr.TheOpen.{Expr-F}
 use Rattle.bsv_types.specs.declared.expressions.Place.{Place, roll-Place}
 use Rattle.bsv_types.specs.Kinds.{Kind, bit, integer, part, bare, is_interface, type_of}
 use Rattle.bsv_types.specs.Shapes.{counted}
-use Rattle.bsv_types.specs.Operators.{◌>>=◌}
+use Rattle.bsv_types.specs.Operators.{◌>>=◌, is_suffix}
 use Rattle.bsv_types.specs.Methods.{Signature, Effect, value, methods}
 use Rattle.bsv_types.specs.Expressions.{Slot, one, many}
 use Rattle.bsv_typing.specs.Operands.{Made, Operand}
@@ -80,8 +82,26 @@ unfoldable pub name_front : Option (ℕ × Slot) → Option (ℕ × List Kind ×
 name_front (Some v) function = Some (variable_front v.0 v.1)
 name_front None function = function_case function [] None >>= λ m. Some (whole m)
 
+-- suffixes stand with no other operators
+abbrev pub are_suffixes : List Op → Bool
+are_suffixes [] = false
+are_suffixes (o ∷ os) = is_suffix o
+
+-- the suffixes of an expression, with their operands: what stands in front of them, and the place of each index.
+-- Another expression stands in front, and has none
+abbrev pub suffixes_in : Expr → Expr-F Expr Place → List Op × List Expr
+suffixes_in e (Expr-F.Apply t os xs) = if are_suffixes os then (os, xs) else ([], e ∷ [])
+suffixes_in e _ = ([], e ∷ [])
+
+unfoldable pub suffixes : Expr → List Op × List Expr
+suffixes e = suffixes_in e (out-Expr e)
+
+-- one suffix more: those of one expression stand in one list
+abbrev pub with_suffix : Kind → Op → List Expr → Expr → Made
+with_suffix k o places e = applied k ((suffixes e).0 ++ o ∷ []) ((suffixes e).1 ++ places)
+
 unfoldable pub field_of : Limits → List ℕ → Made → Option Front
-field_of g name m = field_named g m.kind name >>= λ f. Some (whole (applied f.1 (op.Field f.0 ∷ []) (m.expr ∷ [])))
+field_of g name m = field_named g m.kind name >>= λ f. Some (whole (with_suffix f.1 (op.Field f.0) [] m.expr))
 
 abbrev pub called : Option Made → Option Front
 called m = m >>= λ x. Some (whole x)
@@ -104,7 +124,7 @@ method_behind g name xs _ = None
 unfoldable pub bit_of : Operand → Made → Option Front
 bit_of x m = by m.kind where
   by : Kind → Option Front
-  by (bit n) = x.check (Some integer) >>= λ i. Some (whole (applied (bit 1) (op.Index ∷ []) (m.expr ∷ i.expr ∷ [])))
+  by (bit n) = x.check (Some integer) >>= λ i. Some (whole (with_suffix (bit 1) op.Index (i.expr ∷ []) m.expr))
   by _ = None
 
 -- `[i]`: a place of an array, or a bit
@@ -112,10 +132,10 @@ unfoldable pub index_behind : Limits → Operand → Front → Option Front
 index_behind g x (array level k) = x.check (Some integer) >>= λ i. Some (instance (record { level = level; index = Some i.expr; kind = k }))
 index_behind g x f = value_at g f >>= bit_of x
 
--- the width of the bits from l to h. Where l is above h it is no width: it is counted down from the greatest
--- number of 32 bits, so that no type that a source can name has it
+-- the width of the bits from l to h. A range that counts down has no bits: where widths are left aside, it is narrower
+-- than every value
 abbrev pub slice_width : ℕ → ℕ → ℕ
-slice_width h l = if nat_le l h then min (h - l + 1) 4294967295 else 4294967294 - min (l - h - 1) 2147483647
+slice_width h l = if nat_le l h then min (h - l + 1) 4294967295 else 0
 
 abbrev pub slice_fits : Limits → ℕ → ℕ → ℕ → Bool
 slice_fits g h l n = not g.strict || (nat_le l h && nat_lt h n)
@@ -125,7 +145,7 @@ slice_fits g h l n = not g.strict || (nat_le l h && nat_lt h n)
 unfoldable pub bits_of : Limits → ℕ → ℕ → Made → Option Front
 bits_of g h l m = by m.kind where
   by : Kind → Option Front
-  by (bit n) = if slice_fits g h l n then Some (whole (applied (bit (slice_width h l)) (op.Slice (counted h) (counted l) ∷ []) (m.expr ∷ []))) else None
+  by (bit n) = if slice_fits g h l n then Some (whole (with_suffix (bit (slice_width h l)) (op.Slice (counted h) (counted l)) [] m.expr)) else None
   by _ = None
 
 -- `[h:l]`, of unsized literals

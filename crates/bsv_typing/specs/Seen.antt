@@ -7,7 +7,8 @@ use Rattle.bsv_ast.specs.declared.expressions.Suffix.{Suffix, fold-Suffix}
 use Rattle.bsv_types.specs.declared.types.Ty.{Ty}
 use Rattle.bsv_types.specs.declared.expressions.Expr as typed_expression
 use Rattle.bsv_types.specs.Kinds.{Kind, bool, maybe, kind}
-use Rattle.bsv_types.specs.Methods.{Signature, Effect, value, action, action_value, param_kinds}
+use Rattle.bsv_types.specs.declared.definitions.MethodHeader.{MethodHeader}
+use Rattle.bsv_types.specs.Methods.{Signature, Effect, value, action, action_value, param_kinds, header_signature}
 use Rattle.bsv_types.specs.Shapes.{Shapes}
 use Rattle.bsv_types.specs.Expressions.{Slot, one, many}
 use Rattle.bsv_scopes.specs.declared.scopes.Scopes.{Scopes}
@@ -168,3 +169,8 @@ suffix_seen c v = fold-Suffix Term Suffixed (List ℕ × Operand) (step (env c v
 
 abbrev pub suffixes_seen : Context → Scopes Variable → List Suffix → List Suffixed
 suffixes_seen c v xs = map (suffix_seen c v) xs
+
+-- a method that a program declares, with its number
+abbrev pub header_at : ℕ → Option MethodHeader → Option (ℕ × Signature)
+header_at number None = None
+header_at number (Some h) = Some (number, header_signature h)

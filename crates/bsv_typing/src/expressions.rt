@@ -22,7 +22,9 @@ use crate::front::{
     place_number, read, slice_behind,
 };
 use crate::given::{GivenFunction, given_function};
-use crate::made::{Made, applied, applied_to_one, applied_to_two, as_wanted, called, chosen, one};
+use crate::made::{
+    Made, applied, applied_to_one, applied_to_two, as_wanted, called, chosen, one, with_suffix,
+};
 use crate::methods::{Params, method_named};
 use crate::openness::{are_literals, are_open, is_open, literal, split_open};
 use bsv_ast::{Expr, FieldValue, Level, Operator, Suffix, UnaryOperator};
@@ -1127,7 +1129,8 @@ fn bit_of(
         return Err(Fail::Fault);
     }
     let index = typing(alloc, context, variables, place, Some(&Ty::Integer))?;
+    let index = one(alloc, index.expr)?;
     let operand = typed.into_inner().expr;
-    let bit = applied_to_two(alloc, Ty::Bit(1), Op::Index, operand, index.expr)?;
+    let bit = with_suffix(alloc, Ty::Bit(1), Op::Index, index, operand)?;
     Ok(Front::Whole(bit))
 }

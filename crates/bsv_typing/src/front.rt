@@ -10,7 +10,7 @@ ghost use Rattle.bsv_typing.specs.Seen.{Gives, limits, made, instance_of, front_
 use crate::classes::is_interface;
 use crate::context::{Context, FunctionHeader, Slot, Variable};
 use crate::fail::Fail;
-use crate::made::{Made, applied_to_one, called};
+use crate::made::{Made, called, with_suffix};
 use crate::methods::{FoundMethod, Params, method_named};
 use bsv_bits::Name;
 use bsv_scopes::Scopes;
@@ -223,7 +223,8 @@ fn field_behind(alloc: Global, context: &Context, name: &[u8], typed: Made) -> R
     let op = Op::Field(place_number(place)?);
     let ty = ty.copy(alloc)?;
     let operand = typed.into_inner().expr;
-    Ok(Front::Whole(applied_to_one(alloc, ty, op, operand)?))
+    let typed = with_suffix(alloc, ty, op, Items::new(alloc), operand)?;
+    Ok(Front::Whole(typed))
 }
 
 /// `.m` behind an instance.
@@ -263,14 +264,14 @@ pub(crate) fn member_behind(
     }
 }
 
-/// The width of the bits from low to high.
+/// The width of the bits from low to high, of which there are none where the range counts down.
 fn slice_width(high: u128, low: u128) -> u32
     ensures { result ≡ spec.slice_width high low }
 {
     if low <= high {
         capped((high - low).saturating_add(1), 4_294_967_295)
     } else {
-        4_294_967_294 - capped(low - high - 1, 2_147_483_647)
+        0
     }
 }
 
@@ -310,7 +311,8 @@ fn bits_of(
     }
     let op = Op::Slice(capped(high, u32::MAX), capped(low, u32::MAX));
     let ty = Ty::Bit(slice_width(high, low));
-    Ok(Front::Whole(applied_to_one(alloc, ty, op, typed.expr)?))
+    let typed = with_suffix(alloc, ty, op, Items::new(alloc), typed.expr)?;
+    Ok(Front::Whole(typed))
 }
 
 /// `[h:l]`, of unsized literals.

@@ -1,7 +1,9 @@
 ghost use Rattle.std.specs.Prelude.{◌≡◌, [], ◌∷◌, Some, IfOk};
 ghost use Rattle.bsv_types.specs.Kinds.{kind};
+ghost use Rattle.bsv_types.specs.Operators.{is_suffix};
 ghost use Rattle.bsv_typing.specs.Env as spec;
 ghost use Rattle.bsv_typing.specs.Operands.{wanted};
+ghost use Rattle.bsv_typing.specs.Places as places;
 ghost use Rattle.bsv_typing.specs.Seen.{Gives, expected, made};
 
 use crate::fail::Fail;
@@ -105,6 +107,57 @@ pub(crate) fn applied_to_two(
     let mut operands = one(alloc, first)?;
     operands.push(second)?;
     let operators = one(alloc, op)?;
+    applied(alloc, ty, operators, operands)
+}
+
+/// Whether the operator stands behind its operand.
+fn is_suffix(op: Op) -> bool
+    ensures { result ≡ is_suffix op }
+{
+    matches!(op, Op::Index | Op::Slice(_, _) | Op::Field(_))
+}
+
+/// Whether operators are suffixes.
+fn are_suffixes(operators: &[Op]) -> bool
+    ensures { result ≡ places.are_suffixes operators.now }
+{
+    match operators.split_first() {
+        Some((first, _)) => is_suffix(*first),
+        None => false,
+    }
+}
+
+/// The suffixes of an expression, with their operands.
+#[tactic(auto, unfolding(crate::specs::Places::suffixes))]
+fn suffixes(alloc: Global, expr: Expr) -> Result<(Items<Op>, Items<Expr>), AllocError>
+    ensures { IfOk result (λ r. r ≡ places.suffixes expr) }
+{
+    match expr {
+        Expr::Apply(ty, operators, operands) => {
+            if are_suffixes(operators.as_slice()) {
+                Ok((operators, operands))
+            } else {
+                let whole = Expr::Apply(ty, operators, operands);
+                Ok((Items::new(alloc), one(alloc, whole)?))
+            }
+        }
+        other => Ok((Items::new(alloc), one(alloc, other)?)),
+    }
+}
+
+/// One suffix more behind an expression, with the place of an index, of the type.
+pub(crate) fn with_suffix(
+    alloc: Global,
+    ty: Ty,
+    op: Op,
+    place: Items<Expr>,
+    operand: Expr,
+) -> Result<Made, AllocError>
+    ensures { IfOk result (λ m. made m ≡ places.with_suffix (kind ty) op place operand) }
+{
+    let (mut operators, mut operands) = suffixes(alloc, operand)?;
+    operators.push(op)?;
+    operands.append(place)?;
     applied(alloc, ty, operators, operands)
 }
 

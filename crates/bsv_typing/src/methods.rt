@@ -1,15 +1,16 @@
-ghost use Rattle.std.specs.Prelude.{◌≡◌, [], ◌∷◌, IfOk, MatchOption, length, map, option_map};
+ghost use Rattle.std.specs.Prelude.{◌≡◌, [], ◌∷◌, IfOk, MatchOption, length, map, option_map, slice_get};
 ghost use Rattle.bsv_types.specs.Kinds.{kind};
 ghost use Rattle.bsv_types.specs.declared.types.PartTy.TheVariants as part_type;
 ghost use Rattle.bsv_types.specs.Methods as spec;
 ghost use Rattle.bsv_types.specs.Methods.{param_kinds};
 ghost use Rattle.bsv_types.specs.Operators.{same_kinds};
 ghost use Rattle.bsv_typing.specs.Places.{method_from, method_named, value_of};
-ghost use Rattle.bsv_typing.specs.Seen.{Gives, limits, shapes, params_of, effect_of, method_of};
+ghost use Rattle.bsv_typing.specs.Seen.{Gives, limits, shapes, header_at, params_of, effect_of, method_of};
 
 use crate::context::Context;
 use crate::fail::Fail;
-use bsv_types::{Boxed, MethodHeader, MethodResult, Param, PartTy, Ty};
+use bsv_types::{Boxed, MethodHeader, MethodResult, Methods, Param, PartTy, Ty};
+use sqlite_items::at;
 use std::alloc::{AllocError, Global};
 use std::slice;
 
@@ -145,21 +146,30 @@ fn declared_effect(result_of: &MethodResult) -> MethodEffect<'_>
     }
 }
 
+/// The declared method at a place, if there is one.
+fn declared_at(headers: &[MethodHeader], number: usize) -> Option<FoundMethod<'_>>
+    ensures { option_map method_of result ≡ header_at number (slice_get headers.now number) }
+{
+    match at(headers, number) {
+        None => None,
+        Some(header) => Some(FoundMethod {
+            number,
+            name: header.name.bytes(),
+            params: Params::Declared(header.params.as_slice()),
+            effect: declared_effect(&header.result),
+        }),
+    }
+}
+
 /// The declared method of the name.
-fn declared_method<'a>(methods: &'a [MethodHeader], name: &[u8]) -> Option<FoundMethod<'a>>
+#[tactic(auto, using(crate::proofs::Placed::placed))]
+fn declared_method<'a>(methods: &'a Methods, name: &[u8]) -> Option<FoundMethod<'a>>
     ensures { option_map method_of result ≡ method_from 0 name.now (map spec.header_signature methods.now) }
 {
-    for (number, header) in methods.iter().enumerate() {
-        if name == header.name.bytes() {
-            return Some(FoundMethod {
-                number,
-                name: header.name.bytes(),
-                params: Params::Declared(header.params.as_slice()),
-                effect: declared_effect(&header.result),
-            });
-        }
+    match methods.place(name) {
+        None => None,
+        Some(number) => declared_at(methods.as_slice(), number),
     }
-    None
 }
 
 /// A method without parameters.
@@ -291,7 +301,7 @@ pub fn method_named<'a>(context: &'a Context, ty: &'a Ty, name: &[u8]) -> Option
 {
     match ty {
         Ty::Interface(number) => match context.interfaces.get(*number as usize) {
-            Some(interface) => declared_method(interface.methods.as_slice(), name),
+            Some(interface) => declared_method(&interface.methods, name),
             None => None,
         },
         Ty::Part(part, Some(held)) => part_method(*part, held.get(), name),

@@ -9,6 +9,7 @@ use Rattle.bsv_flow.specs.Sources.{read_limit}
 use Rattle.bsv_flow.specs.Yields.{Yields}
 use Rattle.bsv_flow.proofs.Decided.{next_sources}
 use Rattle.bsv_flow.proofs.Queued.{with_items_extends}
+use Rattle.bsv_flow.proofs.Sourced.{still_within}
 use Rattle.bsv_flow.proofs.Steps.{yields_whole, read_whole_tree, none_left, refused_here, refused_behind, loads_more, loads_first, one_long, all_loaded}
 use Rattle.bsv_flow.proofs.loading.load.Goals as goal
 use Rattle.bsv_flow.proofs.loading.load.Goals.{else-loop-turn-test, then-loop-turn-test+in_default}
@@ -24,6 +25,7 @@ loop-turn-init g c =
       few = omega (arith, one);
       contents = refl;
       faults = refl;
+      read = λ _. refl;
     }
 
 pub returns-in_err-package-clause-refused : goal.returns-in_err-package-clause-refused
@@ -73,6 +75,7 @@ loop-turn-preserved g c =
       few = c.in_ok-queue.ensures.few;
       contents = c.in_ok-source.ensures.contents ∙ before.contents;
       faults = c.in_ok-source.ensures.kept (λ blamed e. let no_value : ⊥ = cc in no_value) ∙ before.faults;
+      read = still_within read_limit (g.F.Files.reading c.args.files.now) (g.F.Files.reading c.loop-turn.files) (g.F.Files.reading c.read_source.new.files) before.read c.in_ok-source.ensures.within;
     }
 
 pub returns-clause-loaded : goal.returns-clause-loaded

@@ -1,5 +1,7 @@
-use Rattle.std.proofs.Common.{◌≡◌, ◌≤◌, ℕ, List, length, map, take, Some}
+use Rattle.std.proofs.Common.{◌≡◌, ◌<◌, ◌≤◌, ℕ, List, length, map, take, Some}
+use Rattle.bsv_io.specs.Reading.{bytes_given}
 use Rattle.bsv_flow.specs.Loads.{Loads, most_packages}
+use Rattle.bsv_flow.specs.Sources.{read_limit}
 use Rattle.bsv_flow.proofs.loading.load.Given as goal
 
 -- so many files were read, and each is the package that it yields
@@ -14,4 +16,5 @@ invariant-loop-turn g l =
       few : length l.queue ≤ most_packages;
       contents : (reading l.files).contents ≡ (reading l.fn.files).contents;
       faults : (reading l.files).faults ≡ (reading l.fn.files).faults;
+      read : read_limit < bytes_given (reading l.files) → (reading l.files).current ≡ (reading l.fn.files).current;
     }

@@ -20,6 +20,14 @@ returns-then-len-eq0-clause-source g c =
       | then-len-eq0-via-else-len-eq0+then-len-eq-READ_LIMIT w ↦ read_front text source.items more.after split (omega (arith, ok.0, w.len-else-len-eq0.ensures, w.if-len-eq-READ_LIMIT.true))
     ]
 
+pub returns-in_err-len-clause-within : goal.returns-in_err-len-clause-within
+returns-in_err-len-clause-within g c =
+    omega (arith, c.loop-turn.invariant.given, c.loop-turn.invariant.short, c.read_more.ensures.within, c.min-room.ensures, c.len.ensures, length-take c.min-room.result c.loop-turn.buffer)
+
+pub returns-then-len-eq0-clause-within : goal.returns-then-len-eq0-clause-within
+returns-then-len-eq0-clause-within g c =
+    omega (arith, c.loop-turn.invariant.given, c.loop-turn.invariant.short, c.read_more.ensures.within, c.min-room.ensures, c.len.ensures, length-take c.min-room.result c.loop-turn.buffer)
+
 pub loop-turn-preserved : goal.loop-turn-preserved
 loop-turn-preserved g c =
     let before = c.loop-turn.invariant in
@@ -30,6 +38,7 @@ loop-turn-preserved g c =
           let more = this.source so_far.0 so_far.1 in
           (more.after, more.told_after, so_far.2 ∙ more.moved);
       turns = omega (arith, before.turns, this.long.1, c.if-len-eq0.false);
+      given = omega (arith, before.given, this.given, this.long.1);
       short = omega (arith, before.short, this.long.0, this.long.1, c.min-room.ensures, c.len.ensures, length-take c.min-room.result c.loop-turn.buffer, c.len-else-len-eq0.ensures, c.if-len-eq-READ_LIMIT.false);
       room = omega (arith, before.room, c.read_more.auto.buffer, length-append c.read_more.new.buffer (drop c.min-room.result c.loop-turn.buffer), length-take c.min-room.result c.loop-turn.buffer, length-drop c.min-room.result c.loop-turn.buffer);
       contents = this.contents ∙ before.contents;

@@ -1,5 +1,5 @@
-use Rattle.std.proofs.Common.{◌≡◌, ◌≤◌, ◌<◌, ℕ, List, ◌++◌, length, vec_len, Some, IsSome}
-use Rattle.bsv_io.specs.Reading.{current_name, rest}
+use Rattle.std.proofs.Common.{◌≡◌, ◌≤◌, ◌<◌, ℕ, ◌+◌, List, ◌++◌, length, vec_len, Some, IsSome}
+use Rattle.bsv_io.specs.Reading.{bytes_given, current_name, rest}
 use Rattle.bsv_flow.specs.Sources.{read_limit}
 use Rattle.bsv_flow.proofs.source.read_current.Given as goal
 
@@ -10,6 +10,7 @@ invariant-loop-turn g l =
     record {
       text : (text : List ℕ) → rest (reading l.fn.files) ≡ Some text → (left : List ℕ) × (rest (reading l.files) ≡ Some left) × (text ≡ l.source.items ++ left);
       turns : l._turn ≤ vec_len l.source;
+      given : bytes_given (reading l.files) ≡ bytes_given (reading l.fn.files) + vec_len l.source;
       short : vec_len l.source < read_limit;
       room : 0 < length l.buffer;
       contents : (reading l.files).contents ≡ (reading l.fn.files).contents;

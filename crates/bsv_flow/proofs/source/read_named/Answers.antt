@@ -1,7 +1,7 @@
-use Rattle.std.proofs.Common.{ℕ, List, Some, ap, ◌∙◌, subst}
+use Rattle.std.proofs.Common.{ℕ, ◌+◌, ◌<◌, List, Some, ap, ◌∙◌, subst, arith}
 use Rattle.std.proofs.lemmas.Result.{IfOk-weaker}
 use Rattle.bsv_io.specs.Faults.{MayFault}
-use Rattle.bsv_io.specs.Reading.{Reading, current_name}
+use Rattle.bsv_io.specs.Reading.{Reading, bytes_given, current_name}
 use Rattle.bsv_flow.proofs.Sourced.{rest_chosen}
 use Rattle.bsv_flow.proofs.source.read_named.Goals as goal
 
@@ -31,3 +31,13 @@ returns-clause-failed g c =
 pub returns-clause-kept : goal.returns-clause-kept
 returns-clause-kept g c =
     λ h. c.read_current.ensures.kept h ∙ ap (λ (r : Reading). r.faults) c.in_ok-choose.ensures.ok
+
+pub returns-in_err-choose-clause-within : goal.returns-in_err-choose-clause-within
+returns-in_err-choose-clause-within g c =
+    let none = ap (λ (r : Reading). bytes_given r) c.in_err-choose.ensures.err in
+    λ far. absurd (omega (arith, none, far))
+
+pub returns-clause-within : goal.returns-clause-within
+returns-clause-within g c =
+    let start = ap (λ (r : Reading). bytes_given r) c.in_ok-choose.ensures.ok in
+    λ far. absurd (omega (arith, start, far, c.read_current.ensures.within))

@@ -9,6 +9,7 @@ use Rattle.bsv_top.specs.declared.machine.Machine.{Machine}
 use Rattle.bsv_top.specs.Running.{report_so_far}
 use Rattle.bsv_top.specs.Traces.{clocks_of}
 use Rattle.bsv_top.proofs.Plains.{found_none, found_plain, plain_once}
+use Rattle.bsv_top.proofs.Within.{loaded_within, run_within}
 use Rattle.bsv_top.proofs.answer.answer.Goals as goal
 
 pub returns-in_err-loaded-clause-refused : goal.returns-in_err-loaded-clause-refused
@@ -64,3 +65,30 @@ pub returns-clause-none : goal.returns-clause-none
 returns-clause-none g c =
     let plain = found_plain c.as_bytes.result.now c.args.form.top.now c.in_ok-loaded.loaded c.in_ok-machine_of.field-0 c.in-Some.machine c.as_bytes.ensures.value c.in_ok-machine_of.ensures.machine c.in-Some.is in
     λ contents told none. absurd (none c.in-Some.machine (c.in_ok-loaded.loaded, c.in_ok-loaded.ensures.loaded contents told, plain))
+
+pub returns-in_err-loaded-clause-within : goal.returns-in_err-loaded-clause-within
+returns-in_err-loaded-clause-within g c = λ contents told.
+    loaded_within c.args.form.trace.now contents (g.F.Files.reading c.args.files.now) (g.F.Files.reading c.load_typed.new.files) c.in_err-loaded.ensures.within
+
+pub returns-in_err-machine_of-clause-within : goal.returns-in_err-machine_of-clause-within
+returns-in_err-machine_of-clause-within g c = λ contents told.
+    loaded_within c.args.form.trace.now contents (g.F.Files.reading c.args.files.now) (g.F.Files.reading c.load_typed.new.files) c.in_ok-loaded.ensures.within
+
+pub returns-in-None-clause-within : goal.returns-in-None-clause-within
+returns-in-None-clause-within g c = λ contents told.
+    loaded_within c.args.form.trace.now contents (g.F.Files.reading c.args.files.now) (g.F.Files.reading c.load_typed.new.files) c.in_ok-loaded.ensures.within
+
+pub returns-clause-within : goal.returns-clause-within
+returns-clause-within g c = λ contents told.
+    run_within c.args.form.trace.now contents (g.F.Files.reading c.args.files.now) (g.F.Files.reading c.load_typed.new.files) c.in_ok-loaded.ensures.within (g.F.Files.reading c.simulate.new.files)
+    (c.simulate.ensures.within contents (c.in_ok-loaded.ensures.contents ∙ told))
+
+pub returns-clause-done_within : goal.returns-clause-done_within
+returns-clause-done_within g c =
+    on_ok_weaker c.simulate.result
+    (λ h contents told. h contents (c.in_ok-loaded.ensures.contents ∙ told))
+    c.simulate.ensures.done_within
+
+pub returns-clause-bad_within : goal.returns-clause-bad_within
+returns-clause-bad_within g c =
+    λ number h contents told. c.simulate.ensures.bad_within number h contents (c.in_ok-loaded.ensures.contents ∙ told)

@@ -1,13 +1,13 @@
 use Rattle.std.proofs.Common.{◌≡◌, ℕ, ◌+◌, ◌≤◌, Bool, if◌then◌else◌, take, drop, length, IsSome, Err, refl, sym, ap, ◌∙◌, subst, arith}
 use Rattle.std.proofs.lemmas.List.{length-take-le}
 use Rattle.std.proofs.lemmas.Result.{err_from_is_err_and}
-use Rattle.bsv_io.specs.Reading.{Reading, Gives, rest, current_name}
+use Rattle.bsv_io.specs.Reading.{Reading, Gives, bytes_given, rest, current_name}
 use Rattle.bsv_top.specs.declared.simulate.Halt.TheVariants as halt
 use Rattle.bsv_top.specs.declared.trace.Lines.{Lines}
 use Rattle.bsv_top.specs.Running.{HasReport, state_after_clocks}
 use Rattle.bsv_top.specs.Scanning.{lines_in_all}
-use Rattle.bsv_io.proofs.Readings.{piece_read, rest_advanced, name_advanced, current_advanced, if_told}
-use Rattle.bsv_top.proofs.Following.{ahead_start, reached_start, ahead_more, ahead_bad, ahead_at_least, ahead_piece, ahead_end}
+use Rattle.bsv_io.proofs.Readings.{piece_read, rest_advanced, given_advanced, name_advanced, current_advanced, if_told}
+use Rattle.bsv_top.proofs.Following.{ahead_start, reached_start, ahead_more, ahead_bad, ahead_at_least, ahead_piece, ahead_within, ahead_end, same_file}
 use Rattle.bsv_top.proofs.follow.run_trace.Goals as goal
 
 pub loop-turn-init : goal.loop-turn-init
@@ -19,6 +19,7 @@ loop-turn-init g c =
       reached = reached_start lines c.requires.lines;
       turns = omega arith;
       ahead = λ trace told. (trace, told, ahead_start trace lines c.requires.lines);
+      given = let start = ap (λ (l : Lines). l.at) c.requires.lines in omega (arith, start);
       state = c.requires.state ∙ ap (state_after_clocks m) (sym none);
       next = c.requires.next;
       room = c.requires.room;
@@ -91,6 +92,60 @@ returns-in_err-run_bytes-clause-unwritable_clocks g c =
     let given = if_told _ (Gives len c.read.new.buf) a.0 a.1 c.in-Ok.ensures.bytes in
     ahead_piece trace a.0 piece (drop len a.0) c.loop-turn.lines (c.run_bytes.new.lines.done + 1) (piece_read len c.read.new.buf a.0 given) a.2 ((c.run_bytes.ensures.failed e).0 (drop len a.0))
 
+pub returns-in-Err-clause-file : goal.returns-in-Err-clause-file
+returns-in-Err-clause-file g c =
+    let before = c.loop-turn.invariant in
+    let failed = c.in-Err.ensures.err in
+    record { name = ap current_name failed ∙ before.name; current = subst (λ (r : Reading). IsSome r.current) (sym failed) before.current }
+
+pub returns-in-Err-clause-within : goal.returns-in-Err-clause-within
+returns-in-Err-clause-within g c =
+    let before = c.loop-turn.invariant in
+    let same = ap (λ (r : Reading). bytes_given r) c.in-Err.ensures.err in
+    λ trace told.
+    let a = before.ahead trace told in
+    let within = ahead_within trace a.0 c.loop-turn.lines before.reached a.2 in
+    omega (arith, same, before.given, within)
+
+pub returns-in_err-run_last-clause-file : goal.returns-in_err-run_last-clause-file
+returns-in_err-run_last-clause-file g c =
+    same_file (g.F.Files.reading c.args.files.now) (g.F.Files.reading c.loop-turn.files) (g.F.Files.reading c.read.new.self) c.in-Ok.len c.in-Ok.ensures.ok c.loop-turn.invariant.name c.loop-turn.invariant.current
+
+pub returns-in_err-run_last-clause-within : goal.returns-in_err-run_last-clause-within
+returns-in_err-run_last-clause-within g c =
+    let before = c.loop-turn.invariant in
+    let given = ap (λ (r : Reading). bytes_given r) c.in-Ok.ensures.ok ∙ given_advanced (g.F.Files.reading c.loop-turn.files) c.in-Ok.len before.current in
+    λ trace told.
+    let a = before.ahead trace told in
+    let within = ahead_within trace a.0 c.loop-turn.lines before.reached a.2 in
+    omega (arith, given, before.given, within, c.in-Ok.ensures.within)
+
+pub returns-then-len-eq0-clause-file : goal.returns-then-len-eq0-clause-file
+returns-then-len-eq0-clause-file g c =
+    same_file (g.F.Files.reading c.args.files.now) (g.F.Files.reading c.loop-turn.files) (g.F.Files.reading c.read.new.self) c.in-Ok.len c.in-Ok.ensures.ok c.loop-turn.invariant.name c.loop-turn.invariant.current
+
+pub returns-then-len-eq0-clause-within : goal.returns-then-len-eq0-clause-within
+returns-then-len-eq0-clause-within g c =
+    let before = c.loop-turn.invariant in
+    let given = ap (λ (r : Reading). bytes_given r) c.in-Ok.ensures.ok ∙ given_advanced (g.F.Files.reading c.loop-turn.files) c.in-Ok.len before.current in
+    λ trace told.
+    let a = before.ahead trace told in
+    let within = ahead_within trace a.0 c.loop-turn.lines before.reached a.2 in
+    omega (arith, given, before.given, within, c.in-Ok.ensures.within)
+
+pub returns-in_err-run_bytes-clause-file : goal.returns-in_err-run_bytes-clause-file
+returns-in_err-run_bytes-clause-file g c =
+    same_file (g.F.Files.reading c.args.files.now) (g.F.Files.reading c.loop-turn.files) (g.F.Files.reading c.read.new.self) c.in-Ok.len c.in-Ok.ensures.ok c.loop-turn.invariant.name c.loop-turn.invariant.current
+
+pub returns-in_err-run_bytes-clause-within : goal.returns-in_err-run_bytes-clause-within
+returns-in_err-run_bytes-clause-within g c =
+    let before = c.loop-turn.invariant in
+    let given = ap (λ (r : Reading). bytes_given r) c.in-Ok.ensures.ok ∙ given_advanced (g.F.Files.reading c.loop-turn.files) c.in-Ok.len before.current in
+    λ trace told.
+    let a = before.ahead trace told in
+    let within = ahead_within trace a.0 c.loop-turn.lines before.reached a.2 in
+    omega (arith, given, before.given, within, c.in-Ok.ensures.within)
+
 pub loop-turn-preserved : goal.loop-turn-preserved
 loop-turn-preserved g c =
     let before = c.loop-turn.invariant in
@@ -100,6 +155,7 @@ loop-turn-preserved g c =
     let read = c.in-Ok.ensures.ok in
     let old = g.F.Files.reading c.loop-turn.files in
     let long : length piece ≡ len = length-take-le len c.read.new.buf c.in-Ok.ensures.within in
+    let given = ap (λ (r : Reading). bytes_given r) read ∙ given_advanced old len before.current in
     record {
       reached = this.reached;
       turns = omega (arith, this.lines.at, before.turns);
@@ -107,6 +163,7 @@ loop-turn-preserved g c =
           let a = before.ahead trace told in
           let given = if_told _ (Gives len c.read.new.buf) a.0 a.1 c.in-Ok.ensures.bytes in
           (drop len a.0, ap rest read ∙ rest_advanced old len a.0 a.1, ahead_more trace a.0 piece (drop len a.0) c.loop-turn.lines c.run_bytes.new.lines (piece_read len c.read.new.buf a.0 given) a.2 this.lines);
+      given = omega (arith, before.given, given, long, this.lines.at);
       state = this.state;
       next = this.next;
       room = omega (arith, before.room);

@@ -1,5 +1,5 @@
-use Rattle.std.proofs.Common.{◌≡◌, ◌≤◌, ◌<◌, ℕ, List, length, Some, IsSome}
-use Rattle.bsv_io.specs.Reading.{current_name, rest}
+use Rattle.std.proofs.Common.{◌≡◌, ◌≤◌, ◌<◌, ℕ, ◌+◌, List, length, Some, IsSome}
+use Rattle.bsv_io.specs.Reading.{bytes_given, current_name, rest}
 use Rattle.bsv_io.specs.Writing.{Writing}
 use Rattle.bsv_top.specs.Running.{HasReport, state_after_clocks}
 use Rattle.bsv_top.specs.Scanning.{IsReached}
@@ -16,6 +16,7 @@ invariant-loop-turn g l =
       reached : IsReached l.lines;
       turns : l._turn ≤ l.lines.at;
       ahead : (trace : List ℕ) → rest (reading l.fn.files) ≡ Some trace → (left : List ℕ) × (rest (reading l.files) ≡ Some left) × Ahead trace left l.lines;
+      given : bytes_given (reading l.files) ≡ bytes_given (reading l.fn.files) + l.lines.at;
       state : l.state ≡ state_after_clocks m l.lines.done;
       next : length l.next ≡ length l.state;
       room : 0 < length l.buffer;

@@ -4,6 +4,7 @@ use Rattle.bsv_top.specs.Running.{report_so_far}
 use Rattle.bsv_top.specs.Traces.{clocks_of}
 use Rattle.bsv_top.proofs.Answering.{an_answer, one_status}
 use Rattle.bsv_top.proofs.Decided.{done_answer}
+use Rattle.bsv_top.proofs.OneAnswer.{one_output, one_text}
 use Rattle.bsv_top.proofs.program.one_answer.Goals as goal
 
 pub returns-clause-some : goal.returns-clause-some
@@ -11,6 +12,12 @@ returns-clause-some c = an_answer
 
 pub returns-clause-one_status : goal.returns-clause-one_status
 returns-clause-one_status c = λ words contents s other output text more said. one_status words contents s other output text more said
+
+pub returns-clause-one_output : goal.returns-clause-one_output
+returns-clause-one_output c = one_output
+
+pub returns-clause-one_text : goal.returns-clause-one_text
+returns-clause-one_text c = one_text
 
 pub returns-clause-done : goal.returns-clause-done
 returns-clause-done c = λ contents file top trace m is_plain whole.

@@ -1,4 +1,4 @@
-use Rattle.std.proofs.Common.{◌≡◌, ◌⊎◌, inl, ⊎_elim, [], Err, map, string_bytes, refl, sym, ap, ◌∙◌, subst}
+use Rattle.std.proofs.Common.{◌≡◌, ℕ, List, ◌⊎◌, inl, ⊎_elim, [], Err, map, string_bytes, refl, sym, ap, ◌∙◌, subst}
 use Rattle.bsv_io.proofs.Appended.{appended-nil, nothing_put}
 use Rattle.bsv_io.proofs.NoFaults.{NoFault-MayFault}
 use Rattle.bsv_top.specs.declared.answer.Stop.TheVariants as stop
@@ -8,11 +8,12 @@ use Rattle.bsv_top.specs.Answers as a
 use Rattle.bsv_top.specs.Answers.{Answer, HasNoForm, usage_line, no_memory_line}
 use Rattle.bsv_top.specs.Outcomes as o
 use Rattle.bsv_top.specs.Outcomes.{Answered, IsDecided, OutputBegun, TextBegun, Unreadable}
+use Rattle.bsv_top.specs.Places.{IsTraceWithin, ReadsWithin, unread}
 use Rattle.bsv_top.specs.Running.{report_so_far}
 use Rattle.bsv_top.specs.Traces.{clocks_of}
 use Rattle.bsv_top.proofs.Decided as d
-use Rattle.bsv_top.proofs.Decided.{done_answer, begun, begun_nothing, status_of_form}
-use Rattle.bsv_top.proofs.Stopped.{decided_tells, known, stop_answered, stop_complete, stop_text, stop_unreadable}
+use Rattle.bsv_top.proofs.Decided.{done_answer, begun, begun_nothing, same_trace, status_of_form}
+use Rattle.bsv_top.proofs.Stopped.{decided_tells, known, never_done, only_bad, stop_answered, stop_complete, stop_text, stop_unreadable}
 use Rattle.bsv_top.proofs.program.run.Goals as goal
 
 -- src/program.rt:77:9
@@ -103,3 +104,48 @@ returns-in-Err-clause-complete g c = λ contents told no_read no_write no_tell o
     (λ name u. NoFault-MayFault _ _ no_read (c.in-Err.ensures.source_unread name (ap Err u)).0)
     (λ u. NoFault-MayFault _ _ no_read (c.in-Err.ensures.trace_unread (ap Err u)).0)
     unwritable other output text answer)
+
+pub returns-in_default-clause-within : goal.returns-in_default-clause-within
+returns-in_default-clause-within g c = λ contents told file top trace spelled. unread refl
+
+pub returns-in-Ok-clause-within : goal.returns-in-Ok-clause-within
+returns-in-Ok-clause-within g c = λ contents told file top trace spelled.
+    subst (λ (t : List ℕ). ReadsWithin t contents (g.F.Files.reading c.args.files.now) (g.F.Files.reading c.answer.new.files))
+    (same_trace (map string_bytes c.args.words.now) _ _ _ file top trace c.in-Some.ensures.form spelled) (c.in-Ok.ensures.within contents told)
+
+pub returns-in-Err-clause-within : goal.returns-in-Err-clause-within
+returns-in-Err-clause-within g c = λ contents told file top trace spelled.
+    subst (λ (t : List ℕ). ReadsWithin t contents (g.F.Files.reading c.args.files.now) (g.F.Files.reading c.answer.new.files))
+    (same_trace (map string_bytes c.args.words.now) _ _ _ file top trace c.in-Some.ensures.form spelled) (c.in-Err.ensures.within contents told)
+
+pub returns-in_default-clause-done_within : goal.returns-in_default-clause-done_within
+returns-in_default-clause-done_within g c = λ is contents told file top trace spelled.
+    let said = c.tell_usage.ensures.told (λ write. let no_value : ⊥ = cc in no_value) in
+    let usage = said.0 in
+    let none : ⊥ = cc in
+    absurd none
+
+pub returns-in_default-clause-bad_within : goal.returns-in_default-clause-bad_within
+returns-in_default-clause-bad_within g c = λ is contents told file top trace spelled.
+    let said = c.tell_usage.ensures.told (λ write. let no_value : ⊥ = cc in no_value) in
+    let usage = said.0 in
+    let none : ⊥ = cc in
+    absurd none
+
+pub returns-in-Ok-clause-done_within : goal.returns-in-Ok-clause-done_within
+returns-in-Ok-clause-done_within g c = λ is contents told file top trace spelled.
+    subst (λ (t : List ℕ). IsTraceWithin t contents (g.F.Files.reading c.answer.new.files))
+    (same_trace (map string_bytes c.args.words.now) _ _ _ file top trace c.in-Some.ensures.form spelled) (c.in-Ok.ensures.done_within contents told)
+
+pub returns-in-Err-clause-done_within : goal.returns-in-Err-clause-done_within
+returns-in-Err-clause-done_within g c = λ is contents told file top trace spelled.
+    let said = c.tell_stop.ensures.told (λ write. let no_value : ⊥ = cc in no_value) in
+    absurd (never_done c.in-Err.stop (sym said.0 ∙ is))
+
+pub returns-in-Err-clause-bad_within : goal.returns-in-Err-clause-bad_within
+returns-in-Err-clause-bad_within g c = λ is contents told file top trace spelled.
+    let said = c.tell_stop.ensures.told (λ write. let no_value : ⊥ = cc in no_value) in
+    let bad = only_bad c.in-Err.stop (sym said.0 ∙ is) in
+    subst (λ (t : List ℕ). IsTraceWithin t contents (g.F.Files.reading c.answer.new.files))
+    (same_trace (map string_bytes c.args.words.now) _ _ _ file top trace c.in-Some.ensures.form spelled)
+    (c.in-Err.ensures.bad_within bad.0 (ap Err bad.1) contents told)

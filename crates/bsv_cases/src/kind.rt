@@ -1,0 +1,83 @@
+/// The kinds of refusals that a want can name, in the order in which they are looked for.
+#[derive(Clone, Copy, Debug, PartialEq, Eq)]
+pub(crate) enum Kind {
+    Limit,
+    BadByte,
+    OpenComment,
+    BadLiteral,
+    TooLong,
+    Syntax,
+    TooDeep,
+    TwiceDefined,
+    BadAttribute,
+    UnknownName,
+    TypeFault,
+    WidthFault,
+    NotYet,
+}
+
+const KINDS: [Kind; 13] = [
+    Kind::Limit,
+    Kind::BadByte,
+    Kind::OpenComment,
+    Kind::BadLiteral,
+    Kind::TooLong,
+    Kind::Syntax,
+    Kind::TooDeep,
+    Kind::TwiceDefined,
+    Kind::BadAttribute,
+    Kind::UnknownName,
+    Kind::TypeFault,
+    Kind::WidthFault,
+    Kind::NotYet,
+];
+
+impl Kind {
+    /// The name of the kind, as the program tells it.
+    pub(crate) fn name(self) -> &'static str {
+        match self {
+            Kind::Limit => "Limit",
+            Kind::BadByte => "BadByte",
+            Kind::OpenComment => "OpenComment",
+            Kind::BadLiteral => "BadLiteral",
+            Kind::TooLong => "TooLong",
+            Kind::Syntax => "Syntax",
+            Kind::TooDeep => "TooDeep",
+            Kind::TwiceDefined => "TwiceDefined",
+            Kind::BadAttribute => "BadAttribute",
+            Kind::UnknownName => "UnknownName",
+            Kind::TypeFault => "TypeFault",
+            Kind::WidthFault => "WidthFault",
+            Kind::NotYet => "NotYet",
+        }
+    }
+
+    /// The number of the kind.
+    pub(crate) fn number(self) -> u8 {
+        match self {
+            Kind::Limit => 17,
+            Kind::BadByte => 1,
+            Kind::OpenComment => 2,
+            Kind::BadLiteral => 3,
+            Kind::TooLong => 4,
+            Kind::Syntax => 5,
+            Kind::TooDeep => 6,
+            Kind::TwiceDefined => 8,
+            Kind::BadAttribute => 11,
+            Kind::UnknownName => 7,
+            Kind::TypeFault => 9,
+            Kind::WidthFault => 10,
+            Kind::NotYet => 0,
+        }
+    }
+
+    /// The kind of this name.
+    pub(crate) fn named(name: &str) -> Option<Kind> {
+        KINDS.iter().copied().find(|kind| kind.name() == name)
+    }
+
+    /// Whether this kind is looked for behind the other one.
+    pub(crate) fn is_behind(self, other: Kind) -> bool {
+        self as u8 > other as u8
+    }
+}
