@@ -1,5 +1,8 @@
 ghost use Rattle.std.specs.Prelude.{◌≡◌, ◌+◌, ◌^◌, ◌≤◌, ◌<◌, ◌↔◌, IsSome, IfSome};
-ghost use Rattle.bsv_bits.specs.Words.{IsWord, bit, zero_word, word_add, word_sub, word_mul, word_neg, word_and, word_or, word_xor, word_not, word_same, word_less, word_shl, word_shr, word_slice, word_concat, word_extend};
+ghost use Rattle.bsv_bits.specs.Words.{IsWord, bit, zero_word, word_add, word_sub, word_mul};
+ghost use Rattle.bsv_bits.specs.Words.{word_neg, word_and, word_or, word_xor, word_not, word_same};
+ghost use Rattle.bsv_bits.specs.Words.{word_less, word_shl, word_shr, word_slice, word_concat};
+ghost use Rattle.bsv_bits.specs.Words.{word_extend};
 ghost use Rattle.bsv_bits.specs.Signed.{is_negative, word_less_signed, word_sar, word_sign_extend};
 
 use crate::numbers::{difference, joined, ones, reduce, shifted_down, shifted_up};

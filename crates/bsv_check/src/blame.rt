@@ -68,7 +68,8 @@ impl Blame {
         number: u32,
         span: Span,
     ) -> Result<(), OutOfMemory>
-        ensures { OnOk result (blame_of self.new ≡ spec.without_typing item.now leaning (in_package number span) (blame_of self.old)) }
+        ensures { OnOk result (blame_of self.new
+            ≡ spec.without_typing item.now leaning (in_package number span) (blame_of self.old)) }
     {
         self.untyped.add(alloc, item)?;
         let place = Place {

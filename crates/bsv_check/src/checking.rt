@@ -59,7 +59,8 @@ fn add_function(
     functions: &mut Items<Function>,
     written: &WrittenFunction,
 ) -> Result<(), BodyFail>
-    ensures typed { GivesAt (λ u. functions.new) result (spec.function_step (program_of program.old) written.now functions.old) }
+    ensures typed { GivesAt (λ u. functions.new) result
+        (spec.function_step (program_of program.old) written.now functions.old) }
     ensures kept { program_of program.new ≡ program_of program.old }
 {
     let number = at(written.span, place_number(functions.len()))?;
@@ -76,7 +77,8 @@ fn add_module(
     modules: &mut Items<Module>,
     written: &WrittenModule,
 ) -> Result<(), BodyFail>
-    ensures typed { GivesAt (λ u. modules.new) result (spec.module_step (program_of program.old) written.now modules.old) }
+    ensures typed { GivesAt (λ u. modules.new) result
+        (spec.module_step (program_of program.old) written.now modules.old) }
     ensures kept { program_of program.new ≡ program_of program.old }
 {
     let number = at(written.span, place_number(modules.len()))?;
@@ -93,7 +95,8 @@ fn add_item(
     done: &mut Done,
     item: &Item,
 ) -> Result<(), BodyFail>
-    ensures typed { GivesAt (λ u. done_of done.new) result (spec.item_step (program_of program.old) item.now (done_of done.old)) }
+    ensures typed { GivesAt (λ u. done_of done.new) result
+        (spec.item_step (program_of program.old) item.now (done_of done.old)) }
     ensures kept { program_of program.new ≡ program_of program.old }
 {
     match item {
@@ -110,7 +113,8 @@ fn add_items(
     done: &mut Done,
     items: &[Item],
 ) -> Result<(), BodyFail>
-    ensures typed { GivesAt (λ u. done_of done.new) result (spec.all_items (program_of program.old) items.now (done_of done.old)) }
+    ensures typed { GivesAt (λ u. done_of done.new) result
+        (spec.all_items (program_of program.old) items.now (done_of done.old)) }
     ensures kept { program_of program.new ≡ program_of program.old }
 {
     let mut rest = items;
@@ -130,7 +134,8 @@ fn add_package(
     number: u32,
     package: &Package,
 ) -> Result<(), PlaceFail>
-    ensures typed { GivesPlace (λ u. done_of done.new) result (spec.package_step (program_of program.old) number «package».now (done_of done.old)) }
+    ensures typed { GivesPlace (λ u. done_of done.new) result
+        (spec.package_step (program_of program.old) number «package».now (done_of done.old)) }
     ensures kept { program_of program.new ≡ program_of program.old }
 {
     match add_items(alloc, program, done, items_of(package)) {
@@ -150,7 +155,8 @@ fn add_packages(
     done: &mut Done,
     packages: &[Package],
 ) -> Result<(), PlaceFail>
-    ensures typed { GivesPlace (λ u. done_of done.new) result (spec.all_packages (program_of program.old) 0 packages.now (done_of done.old)) }
+    ensures typed { GivesPlace (λ u. done_of done.new) result
+        (spec.all_packages (program_of program.old) 0 packages.now (done_of done.old)) }
     ensures kept { program_of program.new ≡ program_of program.old }
 {
     let mut rest = packages;
@@ -187,7 +193,8 @@ fn told(
     first: Place,
     packages: &[Package],
 ) -> Result<Parts, PlaceFail>
-    ensures { GivesPlace made_by result (Err (blames.told first (blames.packages_judged (program_of program.old) (blame_of blame.now) 0 packages.now))) }
+    ensures { GivesPlace made_by result (Err (blames.told first
+        (blames.packages_judged (program_of program.old) (blame_of blame.now) 0 packages.now))) }
 {
     match judge_packages(alloc, program, blame, packages) {
         Ok(()) => Err(PlaceFail::At(first)),
@@ -295,11 +302,16 @@ fn check_all(alloc: Global, packages: &[Package]) -> Result<Typed, CheckFault>
 pub fn check(alloc: Global, packages: &[Package]) -> Result<Typed, CheckFault>
     ensures typed { IfOk result (λ t. spec.checked packages.now ≡ Ok (typed_seen t)) }
     ensures only { Answers typed_seen result (spec.checked packages.now) }
-    ensures twice_defined { Stands check_fault.TwiceDefined spec.twice_defined result (spec.checked packages.now) }
-    ensures bad_attribute { Stands check_fault.BadAttribute spec.bad_attribute result (spec.checked packages.now) }
-    ensures unknown_name { Stands check_fault.UnknownName spec.unknown_name result (spec.checked packages.now) }
-    ensures type_fault { Stands check_fault.TypeFault spec.type_fault result (spec.checked packages.now) }
-    ensures width_fault { Stands check_fault.WidthFault spec.width_fault result (spec.checked packages.now) }
+    ensures twice_defined { Stands check_fault.TwiceDefined spec.twice_defined result
+        (spec.checked packages.now) }
+    ensures bad_attribute { Stands check_fault.BadAttribute spec.bad_attribute result
+        (spec.checked packages.now) }
+    ensures unknown_name { Stands check_fault.UnknownName spec.unknown_name result
+        (spec.checked packages.now) }
+    ensures type_fault { Stands check_fault.TypeFault spec.type_fault result
+        (spec.checked packages.now) }
+    ensures width_fault { Stands check_fault.WidthFault spec.width_fault result
+        (spec.checked packages.now) }
 {
     check_all(alloc, packages)
 }

@@ -80,7 +80,8 @@ fn are_modules_counted(modules: &[Module]) -> bool
 
 /// Whether a number names each definition.
 fn are_definitions_counted(parts: &Parts) -> bool
-    ensures { result ≡ all_countable parts.now.types.enums parts.now.types.structs parts.now.types.interfaces parts.now.done.functions parts.now.done.modules }
+    ensures { result ≡ all_countable parts.now.types.enums parts.now.types.structs
+        parts.now.types.interfaces parts.now.done.functions parts.now.done.modules }
 {
     is_countable(&parts.types.enums)
         && is_countable(&parts.types.structs)

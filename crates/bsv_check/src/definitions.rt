@@ -32,7 +32,8 @@ fn define_type(
     name: &Name,
     ty: Ty,
 ) -> Result<(), BodyFail>
-    ensures given { GivesAt (λ done. types_of context.new) result (at span (spec.with_type name.now (kind ty) (types_of context.old))) }
+    ensures given { GivesAt (λ done. types_of context.new) result
+        (at span (spec.with_type name.now (kind ty) (types_of context.old))) }
     ensures kept { KeptAt result (types_of context.new ≡ types_of context.old) }
 {
     let own = Name::new(alloc, name.bytes())?;
@@ -89,7 +90,8 @@ fn define_labels(
     of_enum: u32,
     labels: &[Ident],
 ) -> Result<(), Fail>
-    ensures { Gives (λ done. labels_of known.new) result (Some (spec.with_labels of_enum 0 labels.now (labels_of known.old))) }
+    ensures { Gives (λ done. labels_of known.new) result
+        (Some (spec.with_labels of_enum 0 labels.now (labels_of known.old))) }
 {
     let mut rest = labels;
     let mut place = 0usize;
@@ -161,7 +163,8 @@ fn define_enum(
     name: &Ident,
     labels: &[Ident],
 ) -> Result<(), BodyFail>
-    ensures given { GivesAt (λ done. types_of context.new) result (spec.enum_case span name.now labels.now (types_of context.old)) }
+    ensures given { GivesAt (λ done. types_of context.new) result
+        (spec.enum_case span name.now labels.now (types_of context.old)) }
     ensures kept { KeptAt result (types_of context.new ≡ types_of context.old) }
 {
     let made = made_enum(alloc, span, &name.name, labels)?;
@@ -259,7 +262,8 @@ fn written_struct(
     name: &Name,
     written: &[WrittenField],
 ) -> Result<Struct, BodyFail>
-    ensures { GivesAt (λ s. s) result (spec.struct_at span name.now written.now (types_of context.now)) }
+    ensures { GivesAt (λ s. s) result (spec.struct_at span name.now written.now
+        (types_of context.now)) }
 {
     let fields = fields(alloc, context, span, written)?;
     made_struct(alloc, context, span, name, fields)
@@ -274,7 +278,8 @@ fn define_struct(
     name: &Ident,
     written: &[WrittenField],
 ) -> Result<(), BodyFail>
-    ensures given { GivesAt (λ done. types_of context.new) result (spec.struct_case span name.now written.now (types_of context.old)) }
+    ensures given { GivesAt (λ done. types_of context.new) result
+        (spec.struct_case span name.now written.now (types_of context.old)) }
     ensures kept { KeptAt result (types_of context.new ≡ types_of context.old) }
 {
     let made = written_struct(alloc, context, span, &name.name, written)?;
@@ -305,7 +310,8 @@ fn define_alias(
     written: &WrittenType,
     name: &Ident,
 ) -> Result<(), BodyFail>
-    ensures given { GivesAt (λ done. types_of context.new) result (spec.alias_case span written.now name.now (types_of context.old)) }
+    ensures given { GivesAt (λ done. types_of context.new) result
+        (spec.alias_case span written.now name.now (types_of context.old)) }
     ensures kept { KeptAt result (types_of context.new ≡ types_of context.old) }
 {
     let ty = type_at(alloc, context, span, written)?;
@@ -314,7 +320,8 @@ fn define_alias(
 
 /// A typedef.
 fn define_typedef(alloc: Global, context: &mut Context, typedef: &Typedef) -> Result<(), BodyFail>
-    ensures given { GivesAt (λ done. types_of context.new) result (spec.typedef_case typedef.now (types_of context.old)) }
+    ensures given { GivesAt (λ done. types_of context.new) result
+        (spec.typedef_case typedef.now (types_of context.old)) }
     ensures kept { KeptAt result (types_of context.new ≡ types_of context.old) }
 {
     match typedef {
@@ -364,7 +371,8 @@ fn method_headers(
     span: Span,
     written: &[WrittenHeader],
 ) -> Result<Items<MethodHeader>, BodyFail>
-    ensures { GivesAt (λ hs. hs) result (spec.headers_at (type_names context.now) span written.now) }
+    ensures { GivesAt (λ hs. hs) result (spec.headers_at
+        (type_names context.now) span written.now) }
 {
     let mut found = Items::new(alloc);
     let mut rest = written;
@@ -403,7 +411,8 @@ fn define_interface(
     context: &mut Context,
     written: &WrittenInterface,
 ) -> Result<(), BodyFail>
-    ensures given { GivesAt (λ done. types_of context.new) result (spec.interface_case written.now (types_of context.old)) }
+    ensures given { GivesAt (λ done. types_of context.new) result
+        (spec.interface_case written.now (types_of context.old)) }
     ensures kept { KeptAt result (types_of context.new ≡ types_of context.old) }
 {
     let span = written.span;
@@ -426,7 +435,8 @@ pub(crate) fn define_types(
     context: &mut Context,
     item: &Item,
 ) -> Result<(), BodyFail>
-    ensures given { GivesAt (λ done. types_of context.new) result (spec.types_behind item.now (types_of context.old)) }
+    ensures given { GivesAt (λ done. types_of context.new) result
+        (spec.types_behind item.now (types_of context.old)) }
     ensures kept { KeptAt result (types_of context.new ≡ types_of context.old) }
 {
     match item {

@@ -36,7 +36,8 @@ fn value_body(
     ty: &Ty,
     body: &WrittenBody,
 ) -> Result<Body, BodyFail>
-    ensures { GivesAt (λ b. (shown scopes.new, b)) result (spec.value_body (task_of task.now) span (shown scopes.old) (kind ty.now) body.now) }
+    ensures { GivesAt (λ b. (shown scopes.new, b)) result
+        (spec.value_body (task_of task.now) span (shown scopes.old) (kind ty.now) body.now) }
 {
     match body {
         WrittenBody::Statements(_, written) => {
@@ -61,7 +62,8 @@ fn action_body(
     span: Span,
     body: &WrittenBody,
 ) -> Result<Body, BodyFail>
-    ensures { GivesAt (λ b. (shown scopes.new, b)) result (spec.action_body (task_of task.now) span (shown scopes.old) body.now) }
+    ensures { GivesAt (λ b. (shown scopes.new, b)) result
+        (spec.action_body (task_of task.now) span (shown scopes.old) body.now) }
 {
     match body {
         WrittenBody::Statements(_, written) => {
@@ -82,7 +84,9 @@ pub(crate) fn body(
     does: &MethodResult,
     written: &WrittenBody,
 ) -> Result<Body, BodyFail>
-    ensures { GivesAt (λ b. (shown scopes.new, b)) result (spec.body_of (fixed context.now) (type_names context.now) span base (shown scopes.old) (effect does.now) written.now) }
+    ensures { GivesAt (λ b. (shown scopes.new, b)) result
+        (spec.body_of (fixed context.now) (type_names context.now) span base (shown scopes.old)
+        (effect does.now) written.now) }
 {
     let task = match does {
         MethodResult::Value(ty) => {
@@ -121,7 +125,8 @@ fn guard(
     span: Span,
     condition: &Option<Expr>,
 ) -> Result<Option<Typed>, BodyFail>
-    ensures { GivesAt (λ c. c) result (spec.guard (spec.task (site_of site.now)) span (shown scopes.now) condition.now) }
+    ensures { GivesAt (λ c. c) result (spec.guard (spec.task (site_of site.now)) span
+        (shown scopes.now) condition.now) }
 {
     match condition {
         None => Ok(None),
@@ -151,7 +156,8 @@ fn rule_body(
     scopes: &mut Scopes<Variable>,
     body: &[Stmt],
 ) -> Result<Items<TypedStmt>, BodyFail>
-    ensures { GivesAt (λ xs. (shown scopes.new, xs)) result (spec.rule_body (site_of site.now) body.now (shown scopes.old)) }
+    ensures { GivesAt (λ xs. (shown scopes.new, xs)) result
+        (spec.rule_body (site_of site.now) body.now (shown scopes.old)) }
 {
     let task = Task {
         context: site.context,
@@ -173,7 +179,8 @@ fn rule_whole(
     span: Span,
     written: &WrittenRule,
 ) -> Result<Rule, BodyFail>
-    ensures { GivesAt (λ r. (shown scopes.new, r)) result (spec.rule_at (site_of site.now) span written.now (shown scopes.old)) }
+    ensures { GivesAt (λ r. (shown scopes.new, r)) result
+        (spec.rule_at (site_of site.now) span written.now (shown scopes.old)) }
 {
     let attributes = asked(alloc, span, Owner::Rule, written.attributes.as_slice())?;
     if !is_lower(written.name.name.bytes()) {
@@ -199,7 +206,8 @@ pub(crate) fn rule(
     span: Span,
     written: &WrittenRule,
 ) -> Result<ModuleStmt, BodyFail>
-    ensures { GivesAt (λ x. (state_of state.new, x)) result (spec.rule_case (site_of site.now) span written.now (state_of state.old)) }
+    ensures { GivesAt (λ x. (state_of state.new, x)) result
+        (spec.rule_case (site_of site.now) span written.now (state_of state.old)) }
 {
     let number = at(span, place_number(state.rules.len()))?;
     let typed = rule_whole(alloc, site, &mut state.scopes, span, written)?;
@@ -215,7 +223,8 @@ fn method_header(
     written: &WrittenMethod,
     wanted: FoundMethod<'_>,
 ) -> Result<(Items<Param>, MethodResult), BodyFail>
-    ensures { GivesAt method_header_of result (spec.method_header (site_of site.now) span written.now (method_of wanted.entry).1) }
+    ensures { GivesAt method_header_of result
+        (spec.method_header (site_of site.now) span written.now (method_of wanted.entry).1) }
 {
     let own = params(
         alloc,
@@ -257,7 +266,9 @@ fn method_body(
     does: &MethodResult,
     written: &WrittenBody,
 ) -> Result<Body, BodyFail>
-    ensures { GivesAt (λ b. (shown scopes.new, b)) result (spec.method_body (site_of site.now) span params.now (effect does.now) written.now (shown scopes.old)) }
+    ensures { GivesAt (λ b. (shown scopes.new, b)) result
+        (spec.method_body (site_of site.now) span params.now (effect does.now) written.now
+        (shown scopes.old)) }
 {
     let base = level(scopes)?;
     scopes.open(alloc)?;
@@ -275,7 +286,8 @@ fn wanted<'a>(
     span: Span,
     name: &Name,
 ) -> Result<FoundMethod<'a>, BodyFail>
-    ensures found { GivesAt method_of result (spec.wanted_method (site_of site.now) span name.now (state_of state.now)) }
+    ensures found { GivesAt method_of result (spec.wanted_method (site_of site.now) span name.now
+        (state_of state.now)) }
     ensures within { IfOk result (λ m. m.number < vec_len state.now.methods) }
 {
     let Some(found) = method_named(site.context, site.interface, name.bytes()) else {
@@ -298,7 +310,9 @@ fn method_whole(
     written: &WrittenMethod,
     found: FoundMethod<'_>,
 ) -> Result<Method, BodyFail>
-    ensures { GivesAt (λ m. (shown scopes.new, m)) result (spec.method_at (site_of site.now) span written.now (method_of found.entry).1 (shown scopes.old)) }
+    ensures { GivesAt (λ m. (shown scopes.new, m)) result
+        (spec.method_at (site_of site.now) span written.now (method_of found.entry).1
+        (shown scopes.old)) }
 {
     let name = Name::new(alloc, written.name.name.bytes())?;
     let header = Boxed::new(alloc, method_header(alloc, site, span, written, found)?)?;
@@ -334,7 +348,8 @@ pub(crate) fn method(
     span: Span,
     written: &WrittenMethod,
 ) -> Result<ModuleStmt, BodyFail>
-    ensures { GivesAt (λ x. (state_of state.new, x)) result (spec.method_case (site_of site.now) span written.now (state_of state.old)) }
+    ensures { GivesAt (λ x. (state_of state.new, x)) result
+        (spec.method_case (site_of site.now) span written.now (state_of state.old)) }
 {
     let found = wanted(site, state, span, &written.name.name)?;
     let number = at(span, place_number(found.number))?;

@@ -84,8 +84,10 @@ fn add_type(
     blame: &mut Blame,
     item: &Item,
 ) -> Result<(), OutOfMemory>
-    ensures types { OnOk result (types_of context.new ≡ spec.type_step item.now (types_of context.old)) }
-    ensures blame { OnOk result (blame_of blame.new ≡ blames.type_blame number item.now (types_of context.old) (blame_of blame.old)) }
+    ensures types { OnOk result (types_of context.new
+        ≡ spec.type_step item.now (types_of context.old)) }
+    ensures blame { OnOk result (blame_of blame.new
+        ≡ blames.type_blame number item.now (types_of context.old) (blame_of blame.old)) }
 {
     match define_types(alloc, context, item) {
         Ok(()) => Ok(()),
@@ -105,8 +107,11 @@ fn add_types(
     blame: &mut Blame,
     items: &[Item],
 ) -> Result<(), OutOfMemory>
-    ensures types { OnOk result (types_of context.new ≡ spec.over_items spec.type_step items.now (types_of context.old)) }
-    ensures blame { OnOk result (blame_of blame.new ≡ blames.items_blame spec.type_step blames.type_blame number items.now (types_of context.old) (blame_of blame.old)) }
+    ensures types { OnOk result (types_of context.new
+        ≡ spec.over_items spec.type_step items.now (types_of context.old)) }
+    ensures blame { OnOk result (blame_of blame.new
+        ≡ blames.items_blame spec.type_step blames.type_blame number items.now
+        (types_of context.old) (blame_of blame.old)) }
 {
     let mut rest = items;
     while let Some((item, after)) = rest.split_first() {
@@ -123,8 +128,11 @@ fn all_types(
     blame: &mut Blame,
     packages: &[Package],
 ) -> Result<(), OutOfMemory>
-    ensures types { OnOk result (types_of context.new ≡ spec.over_all spec.type_step packages.now (types_of context.old)) }
-    ensures blame { OnOk result (blame_of blame.new ≡ blames.all_blame spec.type_step blames.type_blame 0 packages.now (types_of context.old) (blame_of blame.old)) }
+    ensures types { OnOk result (types_of context.new
+        ≡ spec.over_all spec.type_step packages.now (types_of context.old)) }
+    ensures blame { OnOk result (blame_of blame.new
+        ≡ blames.all_blame spec.type_step blames.type_blame 0 packages.now (types_of context.old)
+        (blame_of blame.old)) }
 {
     let mut number: u32 = 0;
     let mut rest = packages;
@@ -138,7 +146,8 @@ fn all_types(
 
 /// The heading of the function or the module that an item defines.
 fn announce(alloc: Global, program: &mut Program, item: &Item) -> Result<(), BodyFail>
-    ensures given { GivesAt (λ done. program_of program.new) result (spec.headers_behind item.now (program_of program.old)) }
+    ensures given { GivesAt (λ done. program_of program.new) result
+        (spec.headers_behind item.now (program_of program.old)) }
     ensures kept { KeptAt result (program_of program.new ≡ program_of program.old) }
 {
     match item {
@@ -157,8 +166,10 @@ fn add_heading(
     blame: &mut Blame,
     item: &Item,
 ) -> Result<(), OutOfMemory>
-    ensures program { OnOk result (program_of program.new ≡ spec.header_step item.now (program_of program.old)) }
-    ensures blame { OnOk result (blame_of blame.new ≡ blames.header_blame number item.now (program_of program.old) (blame_of blame.old)) }
+    ensures program { OnOk result (program_of program.new
+        ≡ spec.header_step item.now (program_of program.old)) }
+    ensures blame { OnOk result (blame_of blame.new
+        ≡ blames.header_blame number item.now (program_of program.old) (blame_of blame.old)) }
 {
     match announce(alloc, program, item) {
         Ok(()) => {}
@@ -179,8 +190,11 @@ fn add_headings(
     blame: &mut Blame,
     items: &[Item],
 ) -> Result<(), OutOfMemory>
-    ensures program { OnOk result (program_of program.new ≡ spec.over_items spec.header_step items.now (program_of program.old)) }
-    ensures blame { OnOk result (blame_of blame.new ≡ blames.items_blame spec.header_step blames.header_blame number items.now (program_of program.old) (blame_of blame.old)) }
+    ensures program { OnOk result (program_of program.new
+        ≡ spec.over_items spec.header_step items.now (program_of program.old)) }
+    ensures blame { OnOk result (blame_of blame.new
+        ≡ blames.items_blame spec.header_step blames.header_blame number items.now
+        (program_of program.old) (blame_of blame.old)) }
 {
     let mut rest = items;
     while let Some((item, after)) = rest.split_first() {
@@ -197,8 +211,11 @@ fn all_headings(
     blame: &mut Blame,
     packages: &[Package],
 ) -> Result<(), OutOfMemory>
-    ensures program { OnOk result (program_of program.new ≡ spec.over_all spec.header_step packages.now (program_of program.old)) }
-    ensures blame { OnOk result (blame_of blame.new ≡ blames.all_blame spec.header_step blames.header_blame 0 packages.now (program_of program.old) (blame_of blame.old)) }
+    ensures program { OnOk result (program_of program.new
+        ≡ spec.over_all spec.header_step packages.now (program_of program.old)) }
+    ensures blame { OnOk result (blame_of blame.new
+        ≡ blames.all_blame spec.header_step blames.header_blame 0 packages.now
+        (program_of program.old) (blame_of blame.old)) }
 {
     let mut number: u32 = 0;
     let mut rest = packages;
@@ -230,7 +247,8 @@ pub(crate) fn read_headings(
     strict: bool,
     packages: &[Package],
 ) -> Result<Headings, OutOfMemory>
-    ensures program { IfOk result (λ h. program_of h.program ≡ spec.all_headers strict packages.now) }
+    ensures program { IfOk result (λ h. program_of h.program
+        ≡ spec.all_headers strict packages.now) }
     ensures blame { IfOk result (λ h. blame_of h.blame ≡ blames.headers_blame strict packages.now) }
 {
     let mut blame = Blame::none(alloc);

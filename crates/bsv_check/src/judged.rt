@@ -42,7 +42,8 @@ fn judge_function(
     blame: &Blame,
     written: &WrittenFunction,
 ) -> Result<(), BodyFail>
-    ensures judged { GivesAt (λ u. u) result (spec.function_judged (program_of program.old) (blame_of blame.now) written.now) }
+    ensures judged { GivesAt (λ u. u) result (spec.function_judged (program_of program.old)
+        (blame_of blame.now) written.now) }
     ensures kept { program_of program.new ≡ program_of program.old }
 {
     let name = &written.name.name;
@@ -64,7 +65,9 @@ fn judge_stmt(
     state: &mut State,
     stmt: &WrittenStmt,
 ) -> Result<(), BodyFail>
-    ensures { GivesAt (λ u. (variables_of variables.new, state_of state.new)) result (spec.stmt_judged (site_of site.now) (untyped_of untyped.now) (variables_of variables.old) stmt.now (state_of state.old)) }
+    ensures { GivesAt (λ u. (variables_of variables.new, state_of state.new)) result
+        (spec.stmt_judged (site_of site.now) (untyped_of untyped.now)
+        (variables_of variables.old) stmt.now (state_of state.old)) }
 {
     if untyped.statement_leans(alloc, variables, stmt)? {
         variables.pass(alloc, stmt, false)?;
@@ -84,7 +87,8 @@ fn judge_stmts(
     state: &mut State,
     stmts: &[WrittenStmt],
 ) -> Result<(), BodyFail>
-    ensures { GivesAt (λ u. u) result (spec.stmts_judged (site_of site.now) (untyped_of untyped.now) (variables_of variables.old) stmts.now (state_of state.old)) }
+    ensures { GivesAt (λ u. u) result (spec.stmts_judged (site_of site.now) (untyped_of untyped.now)
+        (variables_of variables.old) stmts.now (state_of state.old)) }
 {
     let mut rest = stmts;
     while let Some((stmt, after)) = rest.split_first() {
@@ -104,7 +108,9 @@ fn judge_body(
     params: &[Param],
     interface: &Ty,
 ) -> Result<(), BodyFail>
-    ensures { GivesAt (λ u. u) result (spec.body_judged (site_at (program_of program.now) program.now.context.callable (kind interface.now)) (untyped_of untyped.now) written.now params.now) }
+    ensures { GivesAt (λ u. u) result (spec.body_judged
+        (site_at (program_of program.now) program.now.context.callable (kind interface.now))
+        (untyped_of untyped.now) written.now params.now) }
 {
     let scopes = param_scopes(alloc, written.span, params)?;
     let site = Site {
@@ -133,7 +139,8 @@ fn judge_module(
     untyped: &Untyped,
     written: &WrittenModule,
 ) -> Result<(), BodyFail>
-    ensures judged { GivesAt (λ u. u) result (spec.module_judged (program_of program.old) (untyped_of untyped.now) written.now) }
+    ensures judged { GivesAt (λ u. u) result (spec.module_judged (program_of program.old)
+        (untyped_of untyped.now) written.now) }
     ensures kept { program_of program.new ≡ program_of program.old }
 {
     if untyped.has(Space::Modules, &written.name.name) {
@@ -159,7 +166,8 @@ fn judge_item(
     blame: &Blame,
     item: &Item,
 ) -> Result<(), BodyFail>
-    ensures judged { GivesAt (λ u. u) result (spec.item_judged (program_of program.old) (blame_of blame.now) item.now) }
+    ensures judged { GivesAt (λ u. u) result (spec.item_judged (program_of program.old)
+        (blame_of blame.now) item.now) }
     ensures kept { program_of program.new ≡ program_of program.old }
 {
     match item {
@@ -176,7 +184,8 @@ fn judge_items(
     blame: &Blame,
     items: &[Item],
 ) -> Result<(), BodyFail>
-    ensures judged { GivesAt (λ u. u) result (spec.items_judged (program_of program.old) (blame_of blame.now) items.now) }
+    ensures judged { GivesAt (λ u. u) result (spec.items_judged (program_of program.old)
+        (blame_of blame.now) items.now) }
     ensures kept { program_of program.new ≡ program_of program.old }
 {
     let mut rest = items;
@@ -195,7 +204,8 @@ fn judge_package(
     number: u32,
     package: &Package,
 ) -> Result<(), PlaceFail>
-    ensures judged { GivesPlace (λ u. u) result (spec.package_judged (program_of program.old) (blame_of blame.now) number «package».now) }
+    ensures judged { GivesPlace (λ u. u) result
+        (spec.package_judged (program_of program.old) (blame_of blame.now) number «package».now) }
     ensures kept { program_of program.new ≡ program_of program.old }
 {
     match judge_items(alloc, program, blame, items_of(package)) {
@@ -215,7 +225,8 @@ pub(crate) fn judge_packages(
     blame: &Blame,
     packages: &[Package],
 ) -> Result<(), PlaceFail>
-    ensures { GivesPlace (λ u. u) result (spec.packages_judged (program_of program.old) (blame_of blame.now) 0 packages.now) }
+    ensures { GivesPlace (λ u. u) result (spec.packages_judged (program_of program.old)
+        (blame_of blame.now) 0 packages.now) }
 {
     let mut rest = packages;
     let mut number: u32 = 0;

@@ -124,7 +124,8 @@ fn handed(
     expr: &Expr,
     ty: &Ty,
 ) -> Result<Argument, Fail>
-    ensures { Gives (λ x. x) result (spec.handed (site_of site.now) (shown scopes.now) expr.now (kind ty.now)) }
+    ensures { Gives (λ x. x) result (spec.handed (site_of site.now) (shown scopes.now) expr.now
+        (kind ty.now)) }
 {
     if !is_interface(ty) {
         let typed = typing(alloc, site.context, scopes, expr, Some(ty))?;
@@ -150,7 +151,8 @@ fn all_handed(
     exprs: &[Expr],
     types: &[Ty],
 ) -> Result<Items<Argument>, Fail>
-    ensures { Gives (λ xs. xs) result (spec.all_handed (site_of site.now) (shown scopes.now) exprs.now (kinds types.now)) }
+    ensures { Gives (λ xs. xs) result (spec.all_handed (site_of site.now)
+        (shown scopes.now) exprs.now (kinds types.now)) }
 {
     let mut found = Items::new(alloc);
     let mut rest = exprs;
@@ -180,7 +182,8 @@ fn given_over(
     exprs: &[Expr],
     ty: &Ty,
 ) -> Result<Items<Argument>, Fail>
-    ensures { Gives (λ xs. xs) result (spec.all_handed (site_of site.now) (shown scopes.now) exprs.now (table.maker_params maker (kind ty.now))) }
+    ensures { Gives (λ xs. xs) result (spec.all_handed (site_of site.now)
+        (shown scopes.now) exprs.now (table.maker_params maker (kind ty.now))) }
 {
     match maker {
         GivenMaker::Reg | GivenMaker::DWire => {
@@ -202,7 +205,8 @@ fn given_arguments(
     exprs: &[Expr],
     ty: &Ty,
 ) -> Result<Items<Argument>, Fail>
-    ensures { Gives (λ xs. xs) result (spec.given_arguments (site_of site.now) (shown scopes.now) maker exprs.now (kind ty.now)) }
+    ensures { Gives (λ xs. xs) result (spec.given_arguments (site_of site.now)
+        (shown scopes.now) maker exprs.now (kind ty.now)) }
 {
     match ty {
         Ty::Part(part, Some(held)) if *part == made_part(maker) => {
@@ -224,7 +228,8 @@ fn module_arguments(
     exprs: &[Expr],
     ty: &Ty,
 ) -> Result<Items<Argument>, Fail>
-    ensures { Gives (λ xs. xs) result (spec.module_arguments (site_of site.now) (shown scopes.now) (header instantiated.now) exprs.now (kind ty.now)) }
+    ensures { Gives (λ xs. xs) result (spec.module_arguments (site_of site.now) (shown scopes.now)
+        (header instantiated.now) exprs.now (kind ty.now)) }
 {
     if instantiated.interface.same(ty) {
         all_handed(alloc, site, scopes, exprs, instantiated.params.as_slice())
@@ -242,7 +247,8 @@ fn module_make(
     make: &WrittenMake,
     ty: &Ty,
 ) -> Result<Make, Fail>
-    ensures { Gives (λ x. x) result (spec.module_make (site_of site.now) (shown scopes.now) (module_named site.now.modules.now make.now.maker.name) make.now.arguments (kind ty.now)) }
+    ensures { Gives (λ x. x) result (spec.module_make (site_of site.now) (shown scopes.now)
+        (module_named site.now.modules.now make.now.maker.name) make.now.arguments (kind ty.now)) }
 {
     let Some(module) = site.modules.find(&make.maker.name) else {
         return Err(Fail::Fault);
@@ -264,7 +270,8 @@ pub(crate) fn make(
     written: &WrittenMake,
     ty: &Ty,
 ) -> Result<Make, BodyFail>
-    ensures { GivesAt (λ x. x) result (spec.make_at (site_of site.now) (shown scopes.now) span written.now (kind ty.now)) }
+    ensures { GivesAt (λ x. x) result (spec.make_at (site_of site.now)
+        (shown scopes.now) span written.now (kind ty.now)) }
 {
     let Some(maker) = given_maker(&written.maker.name) else {
         return at(span, module_make(alloc, site, scopes, written, ty));

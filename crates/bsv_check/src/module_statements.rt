@@ -62,7 +62,9 @@ fn instance(
     name: &Ident,
     maker: &WrittenMake,
 ) -> Result<ModuleStmt, BodyFail>
-    ensures { GivesAt (λ x. (state_of state.new, x)) result (spec.instance_case (site_of site.now) span written.now name.now.name maker.now (state_of state.old)) }
+    ensures { GivesAt (λ x. (state_of state.new, x)) result
+        (spec.instance_case (site_of site.now) span written.now name.now.name maker.now
+        (state_of state.old)) }
 {
     let ty = interface(alloc, site, span, written)?;
     let made = make(alloc, site, &state.scopes, span, maker, &ty)?;
@@ -86,7 +88,8 @@ fn count(
     span: Span,
     written: &Expr,
 ) -> Result<Typed, BodyFail>
-    ensures { GivesAt (λ x. x) result (spec.count_at (site_of site.now) span (shown scopes.now) written.now) }
+    ensures { GivesAt (λ x. x) result (spec.count_at (site_of site.now) span
+        (shown scopes.now) written.now) }
 {
     site.of_type(alloc, scopes, span, written, &Ty::Integer)
 }
@@ -102,7 +105,9 @@ fn array(
     name: &Ident,
     length: &Expr,
 ) -> Result<ModuleStmt, BodyFail>
-    ensures { GivesAt (λ x. (state_of state.new, x)) result (spec.array_case (site_of site.now) span written.now name.now.name length.now (state_of state.old)) }
+    ensures { GivesAt (λ x. (state_of state.new, x)) result
+        (spec.array_case (site_of site.now) span written.now name.now.name length.now
+        (state_of state.old)) }
 {
     let ty = interface(alloc, site, span, written)?;
     let count = TypedBox::new(alloc, count(alloc, site, &state.scopes, span, length)?)?;
@@ -125,7 +130,8 @@ fn array_named(
     span: Span,
     name: &Name,
 ) -> Result<(u32, Ty), BodyFail>
-    ensures { GivesAt array_of result (at span (spec.array_named (variable_in (shown scopes.now) name.now))) }
+    ensures { GivesAt array_of result (at span
+        (spec.array_named (variable_in (shown scopes.now) name.now))) }
 {
     let Some(variable) = scopes.find(name) else {
         return Err(BodyFail::At(span));
@@ -146,7 +152,9 @@ fn place(
     index: &Expr,
     maker: &WrittenMake,
 ) -> Result<ModuleStmt, BodyFail>
-    ensures { GivesAt (λ x. (state_of state.new, x)) result (spec.place_case (site_of site.now) span name.now.name index.now maker.now (state_of state.old)) }
+    ensures { GivesAt (λ x. (state_of state.new, x)) result
+        (spec.place_case (site_of site.now) span name.now.name index.now maker.now
+        (state_of state.old)) }
 {
     let scopes = &state.scopes;
     let typed = site.of_type(alloc, scopes, span, index, &Ty::Integer)?;
@@ -165,7 +173,8 @@ fn variable(
     span: Span,
     declaration: &Declaration,
 ) -> Result<ModuleStmt, BodyFail>
-    ensures { GivesAt (λ x. (state_of state.new, x)) result (spec.declare_case (site_of site.now) span declaration.now (state_of state.old)) }
+    ensures { GivesAt (λ x. (state_of state.new, x)) result
+        (spec.declare_case (site_of site.now) span declaration.now (state_of state.old)) }
 {
     let task = Task {
         context: site.context,
@@ -193,7 +202,8 @@ fn assign(
     name: &Ident,
     value: &Expr,
 ) -> Result<ModuleStmt, BodyFail>
-    ensures { GivesAt (λ x. (state_of state.new, x)) result (spec.assign_case (site_of site.now) span name.now.name value.now (state_of state.old)) }
+    ensures { GivesAt (λ x. (state_of state.new, x)) result
+        (spec.assign_case (site_of site.now) span name.now.name value.now (state_of state.old)) }
 {
     let task = Task {
         context: site.context,
@@ -217,7 +227,8 @@ fn nested(
     state: &mut State,
     stmt: &WrittenStmt,
 ) -> Result<ModuleStmt, BodyFail>
-    ensures { GivesAt (λ x. (state_of state.new, x)) result (spec.nested (site_of site.now) stmt.now (state_of state.old)) }
+    ensures { GivesAt (λ x. (state_of state.new, x)) result
+        (spec.nested (site_of site.now) stmt.now (state_of state.old)) }
 {
     match stmt {
         WrittenStmt::Instance(span, ty, name, maker) => {
@@ -252,7 +263,8 @@ fn all_nested(
     state: &mut State,
     stmts: &[WrittenStmt],
 ) -> Result<Items<ModuleStmt>, BodyFail>
-    ensures { GivesAt (λ xs. (state_of state.new, xs)) result (spec.all_in (map (spec.nested (site_of site.now)) stmts.now) (state_of state.old)) }
+    ensures { GivesAt (λ xs. (state_of state.new, xs)) result
+        (spec.all_in (map (spec.nested (site_of site.now)) stmts.now) (state_of state.old)) }
 {
     let mut found = Items::new(alloc);
     let mut rest = stmts;
@@ -273,7 +285,8 @@ fn inside(
     state: &mut State,
     stmt: &WrittenStmt,
 ) -> Result<ModuleStmt, BodyFail>
-    ensures { GivesAt (λ x. (state_of state.new, x)) result (spec.inside (spec.nested (site_of site.now) stmt.now) (state_of state.old)) }
+    ensures { GivesAt (λ x. (state_of state.new, x)) result
+        (spec.inside (spec.nested (site_of site.now) stmt.now) (state_of state.old)) }
 {
     state.scopes.open(alloc)?;
     let typed = nested(alloc, site, state, stmt)?;
@@ -290,7 +303,8 @@ fn block(
     state: &mut State,
     stmts: &[WrittenStmt],
 ) -> Result<ModuleStmt, BodyFail>
-    ensures { GivesAt (λ x. (state_of state.new, x)) result (spec.block_case (map (spec.nested (site_of site.now)) stmts.now) (state_of state.old)) }
+    ensures { GivesAt (λ x. (state_of state.new, x)) result
+        (spec.block_case (map (spec.nested (site_of site.now)) stmts.now) (state_of state.old)) }
 {
     state.scopes.open(alloc)?;
     let typed = all_nested(alloc, site, state, stmts)?;
@@ -306,7 +320,8 @@ fn condition(
     span: Span,
     arm: &WrittenBranch,
 ) -> Result<Typed, BodyFail>
-    ensures { GivesAt (λ x. x) result (of_kind (spec.task (site_of site.now)) (shown scopes.now) span (arm_of (site_of site.now) arm.now).condition bool) }
+    ensures { GivesAt (λ x. x) result (of_kind (spec.task (site_of site.now))
+        (shown scopes.now) span (arm_of (site_of site.now) arm.now).condition bool) }
 {
     site.of_type(alloc, scopes, span, &arm.condition, &Ty::Bool)
 }
@@ -320,7 +335,9 @@ fn conditions(
     span: Span,
     arms: &[WrittenBranch],
 ) -> Result<Vec<Typed>, BodyFail>
-    ensures { GivesAt (λ xs. xs.items) result (spec.conditions (site_of site.now) (shown scopes.now) span (map (arm_of (site_of site.now)) arms.now)) }
+    ensures { GivesAt (λ xs. xs.items) result
+        (spec.conditions (site_of site.now) (shown scopes.now) span
+        (map (arm_of (site_of site.now)) arms.now)) }
 {
     let mut found = Vec::new(alloc);
     let mut rest = arms;
@@ -340,7 +357,8 @@ fn behind_condition(
     state: &mut State,
     arm: &WrittenBranch,
 ) -> Result<ModuleStmt, BodyFail>
-    ensures { GivesAt (λ x. (state_of state.new, x)) result (spec.inside (arm_of (site_of site.now) arm.now).run (state_of state.old)) }
+    ensures { GivesAt (λ x. (state_of state.new, x)) result
+        (spec.inside (arm_of (site_of site.now) arm.now).run (state_of state.old)) }
 {
     inside(alloc, site, state, &arm.arm)
 }
@@ -355,7 +373,8 @@ fn arms(
     tests: Vec<Typed>,
     written: &[WrittenBranch],
 ) -> Result<Items<ModuleBranch>, BodyFail>
-    ensures { GivesAt (λ xs. (state_of state.new, xs)) result (spec.arms tests.items (map (arm_of (site_of site.now)) written.now) (state_of state.old)) }
+    ensures { GivesAt (λ xs. (state_of state.new, xs)) result
+        (spec.arms tests.items (map (arm_of (site_of site.now)) written.now) (state_of state.old)) }
 {
     let mut found = Items::new(alloc);
     let mut left = tests.into_iter();
@@ -383,7 +402,9 @@ fn last_arm(
     state: &mut State,
     otherwise: &Option<Boxed<WrittenStmt>>,
 ) -> Result<Option<TypedBox<ModuleStmt>>, BodyFail>
-    ensures { GivesAt (λ x. (state_of state.new, x)) result (spec.last_arm (option_map (spec.nested (site_of site.now)) otherwise.now) (state_of state.old)) }
+    ensures { GivesAt (λ x. (state_of state.new, x)) result
+        (spec.last_arm (option_map (spec.nested (site_of site.now)) otherwise.now)
+        (state_of state.old)) }
 {
     match otherwise {
         None => Ok(None),
@@ -404,7 +425,9 @@ fn choice(
     written: &[WrittenBranch],
     otherwise: &Option<Boxed<WrittenStmt>>,
 ) -> Result<ModuleStmt, BodyFail>
-    ensures { GivesAt (λ x. (state_of state.new, x)) result (spec.if_case (site_of site.now) span (map (arm_of (site_of site.now)) written.now) (option_map (spec.nested (site_of site.now)) otherwise.now) (state_of state.old)) }
+    ensures { GivesAt (λ x. (state_of state.new, x)) result
+        (spec.if_case (site_of site.now) span (map (arm_of (site_of site.now)) written.now)
+        (option_map (spec.nested (site_of site.now)) otherwise.now) (state_of state.old)) }
 {
     let tests = conditions(alloc, site, &state.scopes, span, written)?;
     let branches = arms(alloc, site, state, tests, written)?;
@@ -423,7 +446,9 @@ fn repeat(
     heading: &Head,
     body: &WrittenStmt,
 ) -> Result<ModuleStmt, BodyFail>
-    ensures { GivesAt (λ x. (state_of state.new, x)) result (spec.for_case (site_of site.now) span heading.now (spec.nested (site_of site.now) body.now) (state_of state.old)) }
+    ensures { GivesAt (λ x. (state_of state.new, x)) result
+        (spec.for_case (site_of site.now) span heading.now (spec.nested (site_of site.now) body.now)
+        (state_of state.old)) }
 {
     let task = Task {
         context: site.context,
@@ -445,7 +470,8 @@ pub(crate) fn direct(
     state: &mut State,
     stmt: &WrittenStmt,
 ) -> Result<ModuleStmt, BodyFail>
-    ensures { GivesAt (λ x. (state_of state.new, x)) result (spec.direct (site_of site.now) stmt.now (state_of state.old)) }
+    ensures { GivesAt (λ x. (state_of state.new, x)) result
+        (spec.direct (site_of site.now) stmt.now (state_of state.old)) }
 {
     match stmt {
         WrittenStmt::Method(span, written) => method(alloc, site, state, *span, written),
@@ -461,7 +487,8 @@ pub(crate) fn all_direct(
     state: &mut State,
     stmts: &[WrittenStmt],
 ) -> Result<Items<ModuleStmt>, BodyFail>
-    ensures { GivesAt (λ xs. (state_of state.new, xs)) result (spec.all_in (map (spec.direct (site_of site.now)) stmts.now) (state_of state.old)) }
+    ensures { GivesAt (λ xs. (state_of state.new, xs)) result
+        (spec.all_in (map (spec.direct (site_of site.now)) stmts.now) (state_of state.old)) }
 {
     let mut found = Items::new(alloc);
     let mut rest = stmts;

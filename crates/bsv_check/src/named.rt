@@ -30,8 +30,10 @@ impl SeenNames {
     /// Whether the name is new, and then it came.
     #[tactic(auto, using(crate::proofs::Distinct::coming))]
     pub(crate) fn add(&mut self, alloc: Global, name: &Name) -> Result<bool, OutOfMemory>
-        ensures is_new { IfOk result (λ is_new. is_new ≡ not (is_listed name.now (seen_names self.old))) }
-        ensures came { IfOk result (λ is_new. is_new ≡ true → seen_names self.new ≡ seen_names self.old ++ name.now ∷ []) }
+        ensures is_new { IfOk result (λ is_new. is_new
+            ≡ not (is_listed name.now (seen_names self.old))) }
+        ensures came { IfOk result (λ is_new. is_new ≡ true
+            → seen_names self.new ≡ seen_names self.old ++ name.now ∷ []) }
     {
         let own = Name::new(alloc, name.bytes())?;
         Ok(self.names.define(own, ())?)

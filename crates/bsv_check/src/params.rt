@@ -49,7 +49,8 @@ fn param(
     written: &WrittenParam,
     which: Allowed,
 ) -> Result<Param, BodyFail>
-    ensures { GivesAt (λ p. p) result (spec.param_at (type_names context.now) (allowed which context.now) span written.now) }
+    ensures { GivesAt (λ p. p) result (spec.param_at (type_names context.now)
+        (allowed which context.now) span written.now) }
 {
     let ty = at(span, written_type(alloc, context, &written.written))?;
     if !which.takes(context, &ty) {
@@ -68,7 +69,8 @@ pub(crate) fn params(
     written: &[WrittenParam],
     which: Allowed,
 ) -> Result<Items<Param>, BodyFail>
-    ensures { GivesAt (λ ps. ps) result (spec.params_at (type_names context.now) (allowed which context.now) span written.now) }
+    ensures { GivesAt (λ ps. ps) result (spec.params_at (type_names context.now)
+        (allowed which context.now) span written.now) }
 {
     let mut found = Items::new(alloc);
     let mut rest = written;
@@ -88,7 +90,8 @@ pub(crate) fn declare_params(
     scopes: &mut Scopes<Variable>,
     params: &[Param],
 ) -> Result<(), BodyFail>
-    ensures { GivesAt (λ done. shown scopes.new) result (at span (spec.with_params params.now (shown scopes.old))) }
+    ensures { GivesAt (λ done. shown scopes.new) result
+        (at span (spec.with_params params.now (shown scopes.old))) }
 {
     let mut rest = params;
     while let Some((next, after)) = rest.split_first() {

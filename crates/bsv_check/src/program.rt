@@ -80,7 +80,8 @@ fn value_params(
     span: Span,
     written: &[WrittenParam],
 ) -> Result<Items<Param>, BodyFail>
-    ensures { GivesAt (λ ps. ps) result (spec.value_params (program_of program.now) span written.now) }
+    ensures { GivesAt (λ ps. ps) result (spec.value_params
+        (program_of program.now) span written.now) }
 {
     params(alloc, &program.context, span, written, Allowed::Values)
 }
@@ -115,7 +116,8 @@ fn function_entry(
     program: &Program,
     written: &WrittenFunction,
 ) -> Result<FunctionHeader, BodyFail>
-    ensures { GivesAt function_seen result (spec.function_entry (program_of program.now) written.now) }
+    ensures { GivesAt function_seen result (spec.function_entry
+        (program_of program.now) written.now) }
 {
     let (params, result) = function_heading(alloc, program, written)?;
     let number = at(written.span, place_number(program.context.functions.len()))?;
@@ -134,7 +136,8 @@ pub(crate) fn announce_function(
     program: &mut Program,
     written: &WrittenFunction,
 ) -> Result<(), BodyFail>
-    ensures given { GivesAt (λ done. program_of program.new) result (spec.with_function (program_of program.old) written.now) }
+    ensures given { GivesAt (λ done. program_of program.new) result
+        (spec.with_function (program_of program.old) written.now) }
     ensures kept { KeptAt result (program_of program.new ≡ program_of program.old) }
 {
     let entry = function_entry(alloc, program, written)?;
@@ -167,7 +170,9 @@ fn function_body(
     gives: &Ty,
     written: &WrittenBody,
 ) -> Result<Body, BodyFail>
-    ensures { GivesAt (λ b. b) result (spec.function_body (program_of program.now) program.now.context.callable span params.now (kind gives.now) written.now) }
+    ensures { GivesAt (λ b. b) result (spec.function_body
+        (program_of program.now) program.now.context.callable span params.now
+        (kind gives.now) written.now) }
 {
     let mut scopes = param_scopes(alloc, span, params)?;
     let does = MethodResult::Value(gives.copy(alloc)?);
@@ -190,7 +195,8 @@ pub(crate) fn function(
     number: u32,
     written: &WrittenFunction,
 ) -> Result<Function, BodyFail>
-    ensures typed { GivesAt (λ f. f) result (spec.function_case (program_of program.old) number written.now) }
+    ensures typed { GivesAt (λ f. f) result (spec.function_case
+        (program_of program.old) number written.now) }
     ensures kept { program_of program.new ≡ program_of program.old }
 {
     let span = written.span;
@@ -220,7 +226,8 @@ fn module_params(
     span: Span,
     written: &[WrittenParam],
 ) -> Result<Items<Param>, BodyFail>
-    ensures { GivesAt (λ ps. ps) result (spec.module_params (program_of program.now) span written.now) }
+    ensures { GivesAt (λ ps. ps) result (spec.module_params
+        (program_of program.now) span written.now) }
 {
     params(
         alloc,
@@ -280,7 +287,8 @@ pub(crate) fn announce_module(
     program: &mut Program,
     written: &WrittenModule,
 ) -> Result<(), BodyFail>
-    ensures given { GivesAt (λ done. program_of program.new) result (spec.with_module (program_of program.old) written.now) }
+    ensures given { GivesAt (λ done. program_of program.new) result
+        (spec.with_module (program_of program.old) written.now) }
     ensures kept { KeptAt result (program_of program.new ≡ program_of program.old) }
 {
     let entry = module_entry(alloc, program, written)?;
@@ -310,7 +318,8 @@ pub(crate) fn no_methods(
     context: &Context,
     interface: &Ty,
 ) -> Result<Vec<Option<Method>>, AllocError>
-    ensures { IfOk result (λ ms. ms.items ≡ spec.no_methods (methods (shapes context.now) (kind interface.now))) }
+    ensures { IfOk result (λ ms. ms.items ≡ spec.no_methods
+        (methods (shapes context.now) (kind interface.now))) }
 {
     let mut places = Vec::new(alloc);
     for _method in 0..method_count(context, interface) {
@@ -347,7 +356,8 @@ fn mark(marks: &mut [bool], found: Option<FoundMethod<'_>>)
 #[cycle(marks)]
 #[tactic(auto, using(crate::proofs::Marks::marking), unfolding(bsv_typing::specs::Places::method_named))]
 fn mark_stmt(context: &Context, interface: &Ty, stmt: &WrittenStmt, marks: &mut [bool])
-    ensures { marks.new ≡ modules.all_marked (methods (shapes context.now) (kind interface.now)) (modules.stmt_names stmt.now) marks.old }
+    ensures { marks.new ≡ modules.all_marked (methods (shapes context.now) (kind interface.now))
+        (modules.stmt_names stmt.now) marks.old }
 {
     match stmt {
         WrittenStmt::Method(_, method) => {
@@ -375,7 +385,9 @@ fn mark_choice(
     otherwise: &Option<Boxed<WrittenStmt>>,
     marks: &mut [bool],
 )
-    ensures { marks.new ≡ modules.all_marked (methods (shapes context.now) (kind interface.now)) (modules.together (map modules.branch_names branches.now) ++ modules.last_names (option_map modules.stmt_names otherwise.now)) marks.old }
+    ensures { marks.new ≡ modules.all_marked (methods (shapes context.now) (kind interface.now))
+        (modules.together (map modules.branch_names branches.now) ++ modules.last_names
+        (option_map modules.stmt_names otherwise.now)) marks.old }
 {
     mark_branches(context, interface, branches, marks);
     mark_last(context, interface, otherwise, marks);
@@ -384,7 +396,8 @@ fn mark_choice(
 /// The methods in an arm of an `if` have their marks.
 #[cycle(marks)]
 fn mark_branch(context: &Context, interface: &Ty, branch: &WrittenBranch, marks: &mut [bool])
-    ensures { marks.new ≡ modules.all_marked (methods (shapes context.now) (kind interface.now)) (modules.branch_names branch.now) marks.old }
+    ensures { marks.new ≡ modules.all_marked (methods (shapes context.now) (kind interface.now))
+        (modules.branch_names branch.now) marks.old }
 {
     mark_stmt(context, interface, &branch.arm, marks);
 }
@@ -393,7 +406,8 @@ fn mark_branch(context: &Context, interface: &Ty, branch: &WrittenBranch, marks:
 #[cycle(marks)]
 #[tactic(auto, using(crate::proofs::Marks::marking))]
 fn mark_branches(context: &Context, interface: &Ty, branches: &[WrittenBranch], marks: &mut [bool])
-    ensures { marks.new ≡ modules.all_marked (methods (shapes context.now) (kind interface.now)) (modules.together (map modules.branch_names branches.now)) marks.old }
+    ensures { marks.new ≡ modules.all_marked (methods (shapes context.now) (kind interface.now))
+        (modules.together (map modules.branch_names branches.now)) marks.old }
 {
     let mut rest = branches;
     while let Some((branch, after)) = rest.split_first() {
@@ -410,7 +424,8 @@ fn mark_last(
     otherwise: &Option<Boxed<WrittenStmt>>,
     marks: &mut [bool],
 )
-    ensures { marks.new ≡ modules.all_marked (methods (shapes context.now) (kind interface.now)) (modules.last_names (option_map modules.stmt_names otherwise.now)) marks.old }
+    ensures { marks.new ≡ modules.all_marked (methods (shapes context.now) (kind interface.now))
+        (modules.last_names (option_map modules.stmt_names otherwise.now)) marks.old }
 {
     match otherwise {
         None => {}
@@ -422,7 +437,8 @@ fn mark_last(
 #[cycle(marks)]
 #[tactic(auto, using(crate::proofs::Marks::marking))]
 fn mark_methods(context: &Context, interface: &Ty, stmts: &[WrittenStmt], marks: &mut [bool])
-    ensures { marks.new ≡ modules.all_marked (methods (shapes context.now) (kind interface.now)) (modules.method_names stmts.now) marks.old }
+    ensures { marks.new ≡ modules.all_marked (methods (shapes context.now) (kind interface.now))
+        (modules.method_names stmts.now) marks.old }
 {
     let mut rest = stmts;
     while let Some((stmt, after)) = rest.split_first() {
@@ -452,7 +468,8 @@ pub(crate) fn defines_all(
     interface: &Ty,
     stmts: &[WrittenStmt],
 ) -> Result<bool, AllocError>
-    ensures { IfOk result (λ b. b ≡ modules.defines_all (methods (shapes context.now) (kind interface.now)) stmts.now) }
+    ensures { IfOk result (λ b. b ≡ modules.defines_all
+        (methods (shapes context.now) (kind interface.now)) stmts.now) }
 {
     let mut marks = no_marks(alloc, method_count(context, interface))?;
     mark_methods(context, interface, stmts, marks.as_mut_slice());
@@ -487,7 +504,8 @@ fn module_body(
     written: &WrittenModule,
     scopes: Scopes<Variable>,
 ) -> Result<(State, Items<ModuleStmt>), BodyFail>
-    ensures { GivesAt body_seen result (spec.module_body (site_of site.now) written.now (shown scopes)) }
+    ensures { GivesAt body_seen result (spec.module_body (site_of site.now) written.now
+        (shown scopes)) }
 {
     let stmts = written.body.as_slice();
     if !defines_all(alloc, site.context, site.interface, stmts)? {
@@ -511,7 +529,9 @@ fn module_parts(
     written: &WrittenModule,
     params: &[Param],
 ) -> Result<Parts, BodyFail>
-    ensures { GivesAt (λ parts. parts) result (spec.module_parts (spec.site_at (program_of program.now) program.now.context.callable (kind interface.now)) written.now params.now) }
+    ensures { GivesAt (λ parts. parts) result
+        (spec.module_parts (spec.site_at (program_of program.now) program.now.context.callable
+        (kind interface.now)) written.now params.now) }
 {
     let scopes = param_scopes(alloc, written.span, params)?;
     let site = Site {
@@ -532,7 +552,8 @@ pub(crate) fn module(
     number: u32,
     written: &WrittenModule,
 ) -> Result<Module, BodyFail>
-    ensures typed { GivesAt (λ m. m) result (spec.module_case (program_of program.old) number written.now) }
+    ensures typed { GivesAt (λ m. m) result (spec.module_case
+        (program_of program.old) number written.now) }
     ensures kept { program_of program.new ≡ program_of program.old }
 {
     let span = written.span;

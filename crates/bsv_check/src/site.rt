@@ -50,7 +50,8 @@ impl Site<'_> {
         expr: &Expr,
         ty: &Ty,
     ) -> Result<Typed, BodyFail>
-        ensures { GivesAt (λ x. x) result (of_kind (spec.task (site_of self.now)) (shown scopes.now) span expr.now (kind ty.now)) }
+        ensures { GivesAt (λ x. x) result (of_kind (spec.task (site_of self.now))
+            (shown scopes.now) span expr.now (kind ty.now)) }
     {
         let task = Task {
             context: self.context,

@@ -88,9 +88,12 @@ pub fn expression(
     requires within { at ≤ length tokens.now }
     requires shallow { IsShallow source.now tokens.now }
     ensures found { IfOk result (λ x. IsBetween source.now tokens.now at x.0 x.1) }
-    ensures longest { IfOk result (λ x. (y : Tree) (next : ℕ) → IsBetween source.now tokens.now at y next → next ≤ x.1) }
-    ensures one { IfOk result (λ x. (y : Tree) → IsBetween source.now tokens.now at y x.1 → y ≡ x.0) }
-    ensures syntax { (byte : ℕ) → result ≡ Err (Syntax byte) → (y : Tree) (next : ℕ) → IsBetween source.now tokens.now at y next → ⊥ }
+    ensures longest { IfOk result (λ x. (y : Tree) (next : ℕ)
+        → IsBetween source.now tokens.now at y next → next ≤ x.1) }
+    ensures one { IfOk result (λ x. (y : Tree) → IsBetween source.now tokens.now at y x.1
+        → y ≡ x.0) }
+    ensures syntax { (byte : ℕ) → result ≡ Err (Syntax byte) → (y : Tree) (next : ℕ)
+        → IsBetween source.now tokens.now at y next → ⊥ }
 {
     let lexemes = lexemes(alloc, source, tokens)?;
     let (_, rest) = lexemes.split_at(at);

@@ -21,7 +21,8 @@ pub fn refusal(lexemes: &[Lexeme]) -> ReadFault
 /// This word, and the tokens behind it.
 #[tactic(auto, unfolding(crate::specs::Reading::take_leaf))]
 pub fn expect(terminal: Terminal, lexemes: &[Lexeme]) -> Result<(Span, &[Lexeme]), ReadFault>
-    ensures { (source : List ℕ) → Gives (λ x. (x.0, x.1.now)) result (spec.expect source terminal lexemes.now) }
+    ensures { (source : List ℕ) → Gives (λ x. (x.0, x.1.now)) result
+        (spec.expect source terminal lexemes.now) }
 {
     match lexemes {
         [next, rest @ ..] if same_terminal(next.terminal, terminal) => Ok((next.span, rest)),
@@ -37,7 +38,8 @@ pub fn name<'a>(
     terminal: Terminal,
     lexemes: &'a [Lexeme],
 ) -> Result<(Ident, &'a [Lexeme]), ReadFault>
-    ensures { Gives (λ x. (x.0, x.1.now)) result (spec.take_leaf source.now (terminal ∷ []) grammar.name_told lexemes.now) }
+    ensures { Gives (λ x. (x.0, x.1.now)) result
+        (spec.take_leaf source.now (terminal ∷ []) grammar.name_told lexemes.now) }
 {
     match lexemes {
         [next, rest @ ..] if same_terminal(next.terminal, terminal) => {
@@ -60,7 +62,8 @@ pub fn number<'a>(
     source: &[u8],
     lexemes: &'a [Lexeme],
 ) -> Result<((Span, Literal), &'a [Lexeme]), ReadFault>
-    ensures { Gives (λ x. (x.0, x.1.now)) result (spec.take_leaf source.now (word.Number ∷ []) grammar.number_told lexemes.now) }
+    ensures { Gives (λ x. (x.0, x.1.now)) result
+        (spec.take_leaf source.now (word.Number ∷ []) grammar.number_told lexemes.now) }
 {
     match lexemes {
         [next, rest @ ..] if same_terminal(next.terminal, Terminal::Number) => {
@@ -79,7 +82,8 @@ pub fn tag<'a>(
     source: &[u8],
     lexemes: &'a [Lexeme],
 ) -> Result<((Span, bool), &'a [Lexeme]), ReadFault>
-    ensures { Gives (λ x. (x.0, x.1.now)) result (spec.take_leaf source.now (word.Upper ∷ []) grammar.tag_told lexemes.now) }
+    ensures { Gives (λ x. (x.0, x.1.now)) result
+        (spec.take_leaf source.now (word.Upper ∷ []) grammar.tag_told lexemes.now) }
 {
     match lexemes {
         [next, rest @ ..] if same_terminal(next.terminal, Terminal::Upper) => {

@@ -90,7 +90,8 @@ fn unary_operator(terminal: Terminal) -> Option<UnaryOperator>
 /// An operator of the level, and the tokens behind it.
 #[tactic(auto, unfolding(crate::specs::Reading::take_leaf))]
 pub fn operator(level: Level, lexemes: &[Lexeme]) -> Result<(Operator, &[Lexeme]), ReadFault>
-    ensures { (source : List ℕ) → Gives (λ x. (x.0, x.1.now)) result (spec.take_leaf source (grammar.words_of level) grammar.operator_told lexemes.now) }
+    ensures { (source : List ℕ) → Gives (λ x. (x.0, x.1.now)) result
+        (spec.take_leaf source (grammar.words_of level) grammar.operator_told lexemes.now) }
 {
     match lexemes {
         [next, rest @ ..] if is_in(words_of(level), next.terminal) => {
@@ -106,7 +107,9 @@ pub fn operator(level: Level, lexemes: &[Lexeme]) -> Result<(Operator, &[Lexeme]
 /// An operator in front of an operand, and the tokens behind it.
 #[tactic(auto, unfolding(crate::specs::Reading::take_leaf))]
 pub fn prefix(lexemes: &[Lexeme]) -> Result<((Span, UnaryOperator), &[Lexeme]), ReadFault>
-    ensures { (source : List ℕ) → Gives (λ x. (x.0, x.1.now)) result (spec.take_leaf source (word.Not ∷ word.Tilde ∷ word.Minus ∷ []) grammar.unary_told lexemes.now) }
+    ensures { (source : List ℕ) → Gives (λ x. (x.0, x.1.now)) result
+        (spec.take_leaf source (word.Not ∷ word.Tilde ∷ word.Minus ∷ []) grammar.unary_told
+        lexemes.now) }
 {
     match lexemes {
         [next, rest @ ..]

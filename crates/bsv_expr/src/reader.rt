@@ -124,7 +124,8 @@ pub fn exprs<'a>(
     lexemes: &'a [Lexeme],
     depth: usize,
 ) -> Result<(Items<Expr>, &'a [Lexeme]), ReadFault>
-    ensures { Gives (λ x. (x.0, x.1.now)) result (part source.now depth false grammar.exprs lexemes.now) }
+    ensures { Gives (λ x. (x.0, x.1.now)) result
+        (part source.now depth false grammar.exprs lexemes.now) }
 {
     let mut found = Items::new(alloc);
     let (first, mut rest) = expr(alloc, source, lexemes, depth, false)?;
@@ -150,7 +151,8 @@ pub fn arguments<'a>(
     lexemes: &'a [Lexeme],
     depth: usize,
 ) -> Result<((Items<Expr>, Span), &'a [Lexeme]), ReadFault>
-    ensures { (soft : Bool) → Gives (λ x. (x.0, x.1.now)) result (part source.now depth soft grammar.arguments lexemes.now) }
+    ensures { (soft : Bool) → Gives (λ x. (x.0, x.1.now)) result
+        (part source.now depth soft grammar.arguments lexemes.now) }
 {
     let (_, rest) = expect(Terminal::OpenParen, lexemes)?;
     if !starts(&EXPRESSION_FIRST, rest) {
@@ -172,7 +174,8 @@ fn optional_arguments<'a>(
     depth: usize,
     soft: bool,
 ) -> Result<(Option<(Items<Expr>, Span)>, &'a [Lexeme]), ReadFault>
-    ensures { Gives (λ x. (x.0, x.1.now)) result (part source.now depth soft grammar.optional_arguments lexemes.now) }
+    ensures { Gives (λ x. (x.0, x.1.now)) result
+        (part source.now depth soft grammar.optional_arguments lexemes.now) }
 {
     if !starts(&[Terminal::OpenParen], lexemes) {
         return Ok((None, lexemes));
@@ -194,7 +197,8 @@ fn named<'a>(
     depth: usize,
     soft: bool,
 ) -> Result<(Expr, &'a [Lexeme]), ReadFault>
-    ensures { Gives (λ x. (x.0, x.1.now)) result (part source.now depth soft grammar.named lexemes.now) }
+    ensures { Gives (λ x. (x.0, x.1.now)) result
+        (part source.now depth soft grammar.named lexemes.now) }
 {
     let (name, rest) = name(alloc, source, Terminal::Lower, lexemes)?;
     let (found, rest) = optional_arguments(alloc, source, rest, depth, soft)?;
@@ -210,7 +214,8 @@ fn field<'a>(
     lexemes: &'a [Lexeme],
     depth: usize,
 ) -> Result<(FieldValue, &'a [Lexeme]), ReadFault>
-    ensures { Gives (λ x. (x.0, x.1.now)) result (part source.now depth false grammar.field lexemes.now) }
+    ensures { Gives (λ x. (x.0, x.1.now)) result
+        (part source.now depth false grammar.field lexemes.now) }
 {
     let (field, rest) = name(alloc, source, Terminal::Lower, lexemes)?;
     let (_, rest) = expect(Terminal::Colon, rest)?;
@@ -228,7 +233,8 @@ fn field_list<'a>(
     lexemes: &'a [Lexeme],
     depth: usize,
 ) -> Result<(Items<FieldValue>, &'a [Lexeme]), ReadFault>
-    ensures { Gives (λ x. (x.0, x.1.now)) result (part source.now depth false grammar.field_list lexemes.now) }
+    ensures { Gives (λ x. (x.0, x.1.now)) result
+        (part source.now depth false grammar.field_list lexemes.now) }
 {
     let mut found = Items::new(alloc);
     let (first, mut rest) = field(alloc, source, lexemes, depth)?;
@@ -254,7 +260,8 @@ fn fields<'a>(
     lexemes: &'a [Lexeme],
     depth: usize,
 ) -> Result<((Items<FieldValue>, Span), &'a [Lexeme]), ReadFault>
-    ensures { (soft : Bool) → Gives (λ x. (x.0, x.1.now)) result (part source.now depth soft grammar.fields lexemes.now) }
+    ensures { (soft : Bool) → Gives (λ x. (x.0, x.1.now)) result
+        (part source.now depth soft grammar.fields lexemes.now) }
 {
     let (_, rest) = expect(Terminal::OpenBrace, lexemes)?;
     let (found, rest) = field_list(alloc, source, rest, depth)?;
@@ -272,7 +279,8 @@ fn optional_fields<'a>(
     depth: usize,
     soft: bool,
 ) -> Result<(Option<(Items<FieldValue>, Span)>, &'a [Lexeme]), ReadFault>
-    ensures { Gives (λ x. (x.0, x.1.now)) result (part source.now depth soft grammar.optional_fields lexemes.now) }
+    ensures { Gives (λ x. (x.0, x.1.now)) result
+        (part source.now depth soft grammar.optional_fields lexemes.now) }
 {
     if !starts(&[Terminal::OpenBrace], lexemes) {
         return Ok((None, lexemes));
@@ -294,7 +302,8 @@ fn labelled<'a>(
     depth: usize,
     soft: bool,
 ) -> Result<(Expr, &'a [Lexeme]), ReadFault>
-    ensures { Gives (λ x. (x.0, x.1.now)) result (part source.now depth soft grammar.labelled lexemes.now) }
+    ensures { Gives (λ x. (x.0, x.1.now)) result
+        (part source.now depth soft grammar.labelled lexemes.now) }
 {
     let (name, rest) = name(alloc, source, Terminal::Upper, lexemes)?;
     let (found, rest) = optional_fields(alloc, source, rest, depth, soft)?;
@@ -310,7 +319,8 @@ fn group<'a>(
     lexemes: &'a [Lexeme],
     depth: usize,
 ) -> Result<(Expr, &'a [Lexeme]), ReadFault>
-    ensures { (soft : Bool) → Gives (λ x. (x.0, x.1.now)) result (part source.now depth soft grammar.group lexemes.now) }
+    ensures { (soft : Bool) → Gives (λ x. (x.0, x.1.now)) result
+        (part source.now depth soft grammar.group lexemes.now) }
 {
     let (open, rest) = expect(Terminal::OpenParen, lexemes)?;
     let (inner, rest) = expr(alloc, source, rest, depth, false)?;
@@ -328,7 +338,8 @@ fn concat<'a>(
     lexemes: &'a [Lexeme],
     depth: usize,
 ) -> Result<(Expr, &'a [Lexeme]), ReadFault>
-    ensures { (soft : Bool) → Gives (λ x. (x.0, x.1.now)) result (part source.now depth soft grammar.concat lexemes.now) }
+    ensures { (soft : Bool) → Gives (λ x. (x.0, x.1.now)) result
+        (part source.now depth soft grammar.concat lexemes.now) }
 {
     let (open, rest) = expect(Terminal::OpenBrace, lexemes)?;
     let (parts, rest) = exprs(alloc, source, rest, depth)?;
@@ -346,7 +357,8 @@ fn primary<'a>(
     depth: usize,
     soft: bool,
 ) -> Result<(Expr, &'a [Lexeme]), ReadFault>
-    ensures { Gives (λ x. (x.0, x.1.now)) result (part source.now depth soft grammar.primary lexemes.now) }
+    ensures { Gives (λ x. (x.0, x.1.now)) result
+        (part source.now depth soft grammar.primary lexemes.now) }
 {
     if starts(&[Terminal::Number], lexemes) {
         let ((span, value), rest) = number(source, lexemes)?;
@@ -374,7 +386,8 @@ fn method<'a>(
     depth: usize,
     soft: bool,
 ) -> Result<(Suffix, &'a [Lexeme]), ReadFault>
-    ensures { Gives (λ x. (x.0, x.1.now)) result (part source.now depth soft grammar.method lexemes.now) }
+    ensures { Gives (λ x. (x.0, x.1.now)) result
+        (part source.now depth soft grammar.method lexemes.now) }
 {
     let (dot, rest) = expect(Terminal::Dot, lexemes)?;
     let (name, rest) = name(alloc, source, Terminal::Lower, rest)?;
@@ -391,7 +404,8 @@ fn bracketed<'a>(
     lexemes: &'a [Lexeme],
     depth: usize,
 ) -> Result<(Suffix, &'a [Lexeme]), ReadFault>
-    ensures { (soft : Bool) → Gives (λ x. (x.0, x.1.now)) result (part source.now depth soft grammar.bracketed lexemes.now) }
+    ensures { (soft : Bool) → Gives (λ x. (x.0, x.1.now)) result
+        (part source.now depth soft grammar.bracketed lexemes.now) }
 {
     let (open, rest) = expect(Terminal::OpenBracket, lexemes)?;
     let (first, rest) = expr(alloc, source, rest, depth, false)?;
@@ -418,7 +432,8 @@ fn suffixed<'a>(
     depth: usize,
     soft: bool,
 ) -> Result<(Suffix, &'a [Lexeme]), ReadFault>
-    ensures { Gives (λ x. (x.0, x.1.now)) result (part source.now depth soft grammar.suffixed lexemes.now) }
+    ensures { Gives (λ x. (x.0, x.1.now)) result
+        (part source.now depth soft grammar.suffixed lexemes.now) }
 {
     if starts(&[Terminal::Dot], lexemes) {
         return method(alloc, source, lexemes, depth, soft);
@@ -436,7 +451,8 @@ fn suffixes<'a>(
     depth: usize,
     soft: bool,
 ) -> Result<(Items<Suffix>, &'a [Lexeme]), ReadFault>
-    ensures { Gives (λ x. (x.0, x.1.now)) result (part source.now depth soft grammar.suffixes lexemes.now) }
+    ensures { Gives (λ x. (x.0, x.1.now)) result
+        (part source.now depth soft grammar.suffixes lexemes.now) }
 {
     let mut found = Items::new(alloc);
     let mut rest = lexemes;
@@ -466,7 +482,8 @@ fn postfix<'a>(
     depth: usize,
     soft: bool,
 ) -> Result<(Expr, &'a [Lexeme]), ReadFault>
-    ensures { Gives (λ x. (x.0, x.1.now)) result (part source.now depth soft grammar.postfix lexemes.now) }
+    ensures { Gives (λ x. (x.0, x.1.now)) result
+        (part source.now depth soft grammar.postfix lexemes.now) }
 {
     let (first, rest) = primary(alloc, source, lexemes, depth, soft)?;
     let (found, rest) = suffixes(alloc, source, rest, depth, soft)?;
@@ -483,7 +500,8 @@ fn operated<'a>(
     depth: usize,
     soft: bool,
 ) -> Result<(Expr, &'a [Lexeme]), ReadFault>
-    ensures { Gives (λ x. (x.0, x.1.now)) result (part source.now depth soft grammar.operated lexemes.now) }
+    ensures { Gives (λ x. (x.0, x.1.now)) result
+        (part source.now depth soft grammar.operated lexemes.now) }
 {
     let ((span, operator), rest) = prefix(lexemes)?;
     let (operand, rest) = postfix(alloc, source, rest, depth, soft)?;
@@ -504,7 +522,8 @@ fn tagged<'a>(
     depth: usize,
     soft: bool,
 ) -> Result<(Expr, &'a [Lexeme]), ReadFault>
-    ensures { Gives (λ x. (x.0, x.1.now)) result (part source.now depth soft grammar.tagged lexemes.now) }
+    ensures { Gives (λ x. (x.0, x.1.now)) result
+        (part source.now depth soft grammar.tagged lexemes.now) }
 {
     let (start, rest) = expect(Terminal::Tagged, lexemes)?;
     let ((span, valid), rest) = tag(source, rest)?;
@@ -526,7 +545,8 @@ fn operand<'a>(
     depth: usize,
     soft: bool,
 ) -> Result<(Expr, &'a [Lexeme]), ReadFault>
-    ensures { Gives (λ x. (x.0, x.1.now)) result (part source.now depth soft grammar.operand lexemes.now) }
+    ensures { Gives (λ x. (x.0, x.1.now)) result
+        (part source.now depth soft grammar.operand lexemes.now) }
 {
     if starts(&[Terminal::Tagged], lexemes) {
         return tagged(alloc, source, lexemes, depth, soft);
@@ -549,7 +569,9 @@ fn operation<'a>(
     depth: usize,
     soft: bool,
 ) -> Result<((Operator, Expr), &'a [Lexeme]), ReadFault>
-    ensures { Gives (λ x. (x.0, x.1.now)) result (part source.now depth soft (grammar.operation level (grammar.chain tighter.now)) lexemes.now) }
+    ensures { Gives (λ x. (x.0, x.1.now)) result
+        (part source.now depth soft (grammar.operation level (grammar.chain tighter.now))
+        lexemes.now) }
 {
     let (operator, rest) = operator(level, lexemes)?;
     let (operand, rest) = chain(alloc, source, tighter, rest, depth, soft)?;
@@ -569,7 +591,8 @@ fn operations<'a>(
     depth: usize,
     soft: bool,
 ) -> Result<(Operands, &'a [Lexeme]), ReadFault>
-    ensures { Gives (λ x. (x.0, x.1.now)) result (spec.operations source.now depth soft level tighter.now first lexemes.now) }
+    ensures { Gives (λ x. (x.0, x.1.now)) result
+        (spec.operations source.now depth soft level tighter.now first lexemes.now) }
 {
     let mut operators = Items::new(alloc);
     let mut others = Items::new(alloc);
@@ -610,7 +633,8 @@ fn chain_at<'a>(
     depth: usize,
     soft: bool,
 ) -> Result<(Expr, &'a [Lexeme]), ReadFault>
-    ensures { Gives (λ x. (x.0, x.1.now)) result (part source.now depth soft (grammar.chain (level ∷ tighter.now)) lexemes.now) }
+    ensures { Gives (λ x. (x.0, x.1.now)) result
+        (part source.now depth soft (grammar.chain (level ∷ tighter.now)) lexemes.now) }
 {
     let (first, rest) = chain(alloc, source, tighter, lexemes, depth, soft)?;
     let (found, rest) = operations(alloc, source, level, tighter, first, rest, depth, soft)?;
@@ -628,7 +652,8 @@ fn chain<'a>(
     depth: usize,
     soft: bool,
 ) -> Result<(Expr, &'a [Lexeme]), ReadFault>
-    ensures { Gives (λ x. (x.0, x.1.now)) result (part source.now depth soft (grammar.chain levels.now) lexemes.now) }
+    ensures { Gives (λ x. (x.0, x.1.now)) result
+        (part source.now depth soft (grammar.chain levels.now) lexemes.now) }
 {
     match levels {
         [] => operand(alloc, source, lexemes, depth, soft),
@@ -646,7 +671,8 @@ fn arm<'a>(
     depth: usize,
     soft: bool,
 ) -> Result<((Expr, Expr), &'a [Lexeme]), ReadFault>
-    ensures { Gives (λ x. (x.0, x.1.now)) result (part source.now depth soft grammar.arm lexemes.now) }
+    ensures { Gives (λ x. (x.0, x.1.now)) result
+        (part source.now depth soft grammar.arm lexemes.now) }
 {
     let (_, rest) = expect(Terminal::Question, lexemes)?;
     let (value, rest) = chain(alloc, source, &LEVELS, rest, depth, soft)?;
@@ -665,7 +691,8 @@ fn choice<'a>(
     depth: usize,
     soft: bool,
 ) -> Result<(Expr, &'a [Lexeme]), ReadFault>
-    ensures { Gives (λ x. (x.0, x.1.now)) result (part source.now depth soft grammar.choice lexemes.now) }
+    ensures { Gives (λ x. (x.0, x.1.now)) result
+        (part source.now depth soft grammar.choice lexemes.now) }
 {
     let mut conditions = Items::new(alloc);
     let mut values = Items::new(alloc);

@@ -201,5 +201,6 @@ impl Primitive for PlainKind {
     }
 
     ghost laws = { λ kind.
-        plain_laws kind.width kind.depth kind.some_width kind.most_width kind.some_depth kind.most_depth };
+        plain_laws kind.width kind.depth kind.some_width kind.most_width kind.some_depth
+        kind.most_depth };
 }

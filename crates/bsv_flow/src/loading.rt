@@ -40,7 +40,8 @@ pub fn load<F: Files>(alloc: Global, files: &mut F, name: &str) -> Result<Loaded
     ensures read_fault { (blamed : List ℕ) → result ≡ Err (ReadFault blamed)
         → MayFault (F.reading files.old).faults (F.reading files.new).faults
         × ((F.reading files.new).blamed ≡ Some blamed) }
-    ensures reached { (blamed : List ℕ) → result ≡ Err (ReadFault blamed) → (contents : List ℕ → List ℕ)
+    ensures reached { (blamed : List ℕ) → result ≡ Err (ReadFault blamed)
+        → (contents : List ℕ → List ℕ)
         → (F.reading files.old).contents ≡ Some contents → Reaches name.now contents blamed }
     // No source is read on behind one byte more than it may have.
     ensures within { read_limit < bytes_given (F.reading files.new)
@@ -80,7 +81,8 @@ pub fn one_loading()
     ensures apart { (first : List ℕ) (contents : List ℕ → List ℕ) (l : TheLoaded) (r : TheRefusal)
         → IsLoaded first contents l → Refuses first contents r → ⊥ }
     ensures some { (first : List ℕ) (contents : List ℕ → List ℕ)
-        → ((l : TheLoaded) × IsLoaded first contents l) ⊎ ((r : TheRefusal) × Refuses first contents r) }
+        → ((l : TheLoaded) × IsLoaded first contents l)
+        ⊎ ((r : TheRefusal) × Refuses first contents r) }
     ensures one_refusal { (first : List ℕ) (contents : List ℕ → List ℕ) (r other : TheRefusal)
         → Refuses first contents r → Refuses first contents other → IsSameRefusal r other }
 {}

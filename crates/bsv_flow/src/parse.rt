@@ -22,9 +22,11 @@ const MAX_BYTES: usize = 1_048_576;
 fn token_fault(alloc: Global, file: &[u8], source: &[u8], fault: LexFault) -> CompileFault
     ensures bad_byte { (at : ℕ) (r : TheRefusal) → fault ≡ lexical.BadByte at → result ≡ Refused r
         → r ≡ refusal.BadByte file.now (place.line source.now at) (place.column source.now at) }
-    ensures open_comment { (at : ℕ) (r : TheRefusal) → fault ≡ lexical.OpenComment at → result ≡ Refused r
+    ensures open_comment { (at : ℕ) (r : TheRefusal) → fault ≡ lexical.OpenComment at
+        → result ≡ Refused r
         → r ≡ refusal.OpenComment file.now (place.line source.now at) (place.column source.now at) }
-    ensures bad_literal { (at : ℕ) (r : TheRefusal) → fault ≡ lexical.BadLiteral at → result ≡ Refused r
+    ensures bad_literal { (at : ℕ) (r : TheRefusal) → fault ≡ lexical.BadLiteral at
+        → result ≡ Refused r
         → r ≡ refusal.BadLiteral file.now (place.line source.now at) (place.column source.now at) }
     ensures too_long { (at : ℕ) (r : TheRefusal) → fault ≡ lexical.TooLong at → result ≡ Refused r
         → r ≡ refusal.TooLong file.now (place.line source.now at) (place.column source.now at) }
@@ -95,7 +97,8 @@ fn too_large(alloc: Global) -> CompileFault
 /// The package that a source of this file is.
 pub(crate) fn package_of(alloc: Global, file: &[u8], source: &[u8]) -> Result<Package, CompileFault>
     ensures found { IfOk result (λ x. Yields file.now source.now (Ok x)) }
-    ensures refused { (r : TheRefusal) → result ≡ Err (Refused r) → Yields file.now source.now (Err r) }
+    ensures refused { (r : TheRefusal) → result ≡ Err (Refused r)
+        → Yields file.now source.now (Err r) }
     ensures own { (name : List ℕ) → result ≡ Err (ReadFault name) → ⊥ }
 {
     if source.len() > MAX_BYTES {

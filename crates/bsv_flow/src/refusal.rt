@@ -78,10 +78,13 @@ impl Refusal {
     /// Puts the line of the refusal: `refused`, its number, its kind and its details.
     #[tactic(auto, unfolding(crate::specs::Refusals::refusal_line))]
     pub fn put<S: Sink>(&self, sink: &mut S) -> Result<(), Failed>
-        ensures ok { OnOk result (S.writing sink.new ≡ appended (refusal_line self.now) (S.writing sink.old)) }
-        ensures prefix { AppendsPrefix (refusal_line self.now) (S.writing sink.old) (S.writing sink.new) }
+        ensures ok { OnOk result (S.writing sink.new
+            ≡ appended (refusal_line self.now) (S.writing sink.old)) }
+        ensures prefix { AppendsPrefix (refusal_line self.now) (S.writing sink.old)
+            (S.writing sink.new) }
         ensures count { (S.writing sink.old).faults ≤ (S.writing sink.new).faults }
-        ensures counted { OnErr result (MayFault (S.writing sink.old).faults (S.writing sink.new).faults) }
+        ensures counted { OnErr result (MayFault (S.writing sink.old).faults
+            (S.writing sink.new).faults) }
     {
         match self {
             Refusal::BadByte(file, line, column) => {
@@ -130,10 +133,13 @@ fn put_placed<S: Sink>(
     line: u64,
     column: u64,
 ) -> Result<(), Failed>
-    ensures ok { OnOk result (S.writing sink.new ≡ appended (front.now ++ place_text file.now line column) (S.writing sink.old)) }
-    ensures prefix { AppendsPrefix (front.now ++ place_text file.now line column) (S.writing sink.old) (S.writing sink.new) }
+    ensures ok { OnOk result (S.writing sink.new
+        ≡ appended (front.now ++ place_text file.now line column) (S.writing sink.old)) }
+    ensures prefix { AppendsPrefix (front.now ++ place_text file.now line column)
+        (S.writing sink.old) (S.writing sink.new) }
     ensures count { (S.writing sink.old).faults ≤ (S.writing sink.new).faults }
-    ensures counted { OnErr result (MayFault (S.writing sink.old).faults (S.writing sink.new).faults) }
+    ensures counted { OnErr result (MayFault (S.writing sink.old).faults
+        (S.writing sink.new).faults) }
 {
     let mut lines = Buffer::new();
     let mut columns = Buffer::new();
@@ -153,10 +159,13 @@ fn put_placed<S: Sink>(
 
 /// Puts the line of a limit that is passed.
 fn put_limit<S: Sink>(sink: &mut S, kind: &Name, number: u64) -> Result<(), Failed>
-    ensures ok { OnOk result (S.writing sink.new ≡ appended (limit_text kind.now number) (S.writing sink.old)) }
-    ensures prefix { AppendsPrefix (limit_text kind.now number) (S.writing sink.old) (S.writing sink.new) }
+    ensures ok { OnOk result (S.writing sink.new
+        ≡ appended (limit_text kind.now number) (S.writing sink.old)) }
+    ensures prefix { AppendsPrefix (limit_text kind.now number) (S.writing sink.old)
+        (S.writing sink.new) }
     ensures count { (S.writing sink.old).faults ≤ (S.writing sink.new).faults }
-    ensures counted { OnErr result (MayFault (S.writing sink.old).faults (S.writing sink.new).faults) }
+    ensures counted { OnErr result (MayFault (S.writing sink.old).faults
+        (S.writing sink.new).faults) }
 {
     let mut digits = Buffer::new();
     let digits = digits.format(number).as_bytes();

@@ -87,7 +87,8 @@ fn read_more<F: Files>(
     requires current { IsSome (F.reading files.old).current }
     ensures source { IfOk result (λ n. (left : List ℕ) → rest (F.reading files.old) ≡ Some left
         → Moves n source.old.items source.new.items left (rest (F.reading files.new))) }
-    ensures long { IfOk result (λ n. (n ≤ length buffer.old) × (vec_len source.new ≡ vec_len source.old + n)) }
+    ensures long { IfOk result (λ n. (n ≤ length buffer.old)
+        × (vec_len source.new ≡ vec_len source.old + n)) }
     ensures file { OnOk result (SameFile (F.reading files.old) (F.reading files.new)) }
     ensures given { IfOk result (λ n. bytes_given (F.reading files.new)
         ≡ bytes_given (F.reading files.old) + n) }
@@ -140,7 +141,8 @@ fn read_current<F: Files>(
 /// Reads the file of a name up to the limit.
 fn read_named<F: Files>(alloc: Global, files: &mut F, name: &[u8]) -> Result<Vec<u8>, Unread>
     ensures source { IfOk result (λ source. (contents : List ℕ → List ℕ)
-        → (F.reading files.old).contents ≡ Some contents → source.items ≡ take read_limit (contents name.now)) }
+        → (F.reading files.old).contents ≡ Some contents
+        → source.items ≡ take read_limit (contents name.now)) }
     ensures within { read_limit < bytes_given (F.reading files.new)
         → (F.reading files.new).current ≡ (F.reading files.old).current }
     ensures contents { (F.reading files.new).contents ≡ (F.reading files.old).contents }
@@ -163,7 +165,8 @@ pub(crate) fn read_source<F: Files>(
     name: &[u8],
 ) -> Result<Source, CompileFault>
     ensures source { IfOk result (λ source. (contents : List ℕ → List ℕ)
-        → (F.reading files.old).contents ≡ Some contents → source ≡ take read_limit (contents name.now)) }
+        → (F.reading files.old).contents ≡ Some contents
+        → source ≡ take read_limit (contents name.now)) }
     ensures within { read_limit < bytes_given (F.reading files.new)
         → (F.reading files.new).current ≡ (F.reading files.old).current }
     ensures contents { (F.reading files.new).contents ≡ (F.reading files.old).contents }

@@ -41,7 +41,11 @@ fn position_of(
     loaded: &Loaded,
     place: Place,
 ) -> Result<(Name, u64, u64), OutOfMemory>
-    ensures { IfOk result (λ r. r ≡ (file_of loaded.now place.«package», line_of loaded.now place, column_of loaded.now place)) }
+    ensures { IfOk result (λ r. r ≡ (
+      file_of loaded.now place.«package»,
+      line_of loaded.now place,
+      column_of loaded.now place,
+    )) }
 {
     let file = file_of(alloc, loaded, place.package)?;
     let (line, column) = position(source_of(loaded, place.package), place.span.start);
@@ -97,7 +101,8 @@ pub fn one_typing()
     ensures apart { (first : List ℕ) (contents : List ℕ → List ℕ) (l : TheLoaded) (r : TheRefusal)
         → IsTyped first contents l → Rejects first contents r → ⊥ }
     ensures some { (first : List ℕ) (contents : List ℕ → List ℕ)
-        → ((l : TheLoaded) × IsTyped first contents l) ⊎ ((r : TheRefusal) × Rejects first contents r) }
+        → ((l : TheLoaded) × IsTyped first contents l)
+        ⊎ ((r : TheRefusal) × Rejects first contents r) }
     ensures one_program { (first : List ℕ) (contents : List ℕ → List ℕ) (l m : TheLoaded)
         (one : IsTyped first contents l) (other : IsTyped first contents m)
         → one.made ≡ other.made }

@@ -42,7 +42,8 @@ impl<'a, R: OpenFiles> Model for DiskFiles<'a, R> {
 /// Reads the next bytes to the front of the buffer, again where a signal came between.
 fn read_some<F: Read>(file: &mut F, buf: &mut [u8]) -> Option<usize>
     ensures within { IfSome result (λ n. n ≤ length buf.new) }
-    ensures bytes { IfSome result (λ n. Consumes (F.remaining file.old) (F.remaining file.new) (take n buf.new)) }
+    ensures bytes { IfSome result (λ n. Consumes (F.remaining file.old) (F.remaining file.new)
+        (take n buf.new)) }
     ensures end { IfSome result (λ n. n ≡ 0 → 0 < length buf.old → IsAtEnd (F.remaining file.new)) }
     ensures failed { IfNone result (Keeps (F.remaining file.old) (F.remaining file.new)) }
 {
@@ -82,7 +83,8 @@ impl<R: OpenFiles> Files for DiskFiles<'_, R> {
           current = None;
         }) }
         ensures count { (disk_reading self.old).faults ≤ (disk_reading self.new).faults }
-        ensures counted { OnErr result (MayFault (disk_reading self.old).faults (disk_reading self.new).faults) }
+        ensures counted { OnErr result (MayFault (disk_reading self.old).faults
+            (disk_reading self.new).faults) }
 
         // What is left is what the opened file of this name tells; each failure counts once.
         ensures text { OnOk result (IsUtf8 name) }
@@ -110,7 +112,8 @@ impl<R: OpenFiles> Files for DiskFiles<'_, R> {
           blamed = current_name (disk_reading self.old);
         }) }
         ensures count { (disk_reading self.old).faults ≤ (disk_reading self.new).faults }
-        ensures counted { OnErr result (MayFault (disk_reading self.old).faults (disk_reading self.new).faults) }
+        ensures counted { OnErr result (MayFault (disk_reading self.old).faults
+            (disk_reading self.new).faults) }
 
         // Each failure counts once, and the buffer has what the file gave.
         ensures passed { IfOk result (λ n. self.new.standing ≡ passed n self.old.standing) }

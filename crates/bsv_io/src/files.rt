@@ -24,7 +24,8 @@ pub trait Files {
           current = None;
         }) }
         ensures count { (reading self.old).faults ≤ (reading self.new).faults }
-        ensures counted { OnErr result (MayFault (reading self.old).faults (reading self.new).faults) };
+        ensures counted { OnErr result (MayFault (reading self.old).faults
+            (reading self.new).faults) };
 
     /// Puts the next bytes of the current file in front of the buffer, and answers how many; 0
     /// only at the end. A failed call leaves the place in the file as it was.
@@ -39,5 +40,6 @@ pub trait Files {
           blamed = current_name (reading self.old);
         }) }
         ensures count { (reading self.old).faults ≤ (reading self.new).faults }
-        ensures counted { OnErr result (MayFault (reading self.old).faults (reading self.new).faults) };
+        ensures counted { OnErr result (MayFault (reading self.old).faults
+            (reading self.new).faults) };
 }

@@ -1,4 +1,6 @@
-ghost use Rattle.std.specs.Prelude.{◌≡◌, ◌+◌, ◌<◌, ◌≤◌, ◌^◌, ◌++◌, ◌||◌, length, min, take, drop, not, None, Some, IsNone, IsSome, IsOk, IfOk, IfSome, OnOk, OnErr, is_ok, is_none, if◌then◌else◌};
+ghost use Rattle.std.specs.Prelude.{◌≡◌, ◌+◌, ◌<◌, ◌≤◌, ◌^◌, ◌++◌, ◌||◌, length, min, take, drop};
+ghost use Rattle.std.specs.Prelude.{not, None, Some, IsNone, IsSome, IsOk, IfOk, IfSome, OnOk};
+ghost use Rattle.std.specs.Prelude.{OnErr, is_ok, is_none, if◌then◌else◌};
 ghost use Rattle.std.specs.Option.{option_copied};
 ghost use Rattle.bsv_io.specs.Calls.{is_listed, called};
 ghost use Rattle.bsv_io.specs.Faults.{MayFault};
@@ -70,10 +72,12 @@ impl Files for MemFiles {
           current = None;
         }) }
         ensures count { (mem_reading self.old).faults ≤ (mem_reading self.new).faults }
-        ensures counted { OnErr result (MayFault (mem_reading self.old).faults (mem_reading self.new).faults) }
+        ensures counted { OnErr result (MayFault (mem_reading self.old).faults
+            (mem_reading self.new).faults) }
 
         // Which calls fail, and all that a call changes.
-        ensures fails { is_ok result ≡ not (is_listed self.old.plan || is_none (file_of self.old.files name)) }
+        ensures fails { is_ok result ≡ not (is_listed self.old.plan || is_none
+            (file_of self.old.files name)) }
         ensures files { self.new.files ≡ self.old.files }
         ensures numbered { self.new.plan ≡ called self.old.plan }
         ensures chosen { OnOk result (self.new.standing ≡ opened name self.old.standing) }
@@ -98,7 +102,8 @@ impl Files for MemFiles {
           blamed = current_name (mem_reading self.old);
         }) }
         ensures count { (mem_reading self.old).faults ≤ (mem_reading self.new).faults }
-        ensures counted { OnErr result (MayFault (mem_reading self.old).faults (mem_reading self.new).faults) }
+        ensures counted { OnErr result (MayFault (mem_reading self.old).faults
+            (mem_reading self.new).faults) }
 
         // Which calls fail, how much a call gives, and all that it changes.
         ensures fails { is_ok result ≡ not (is_listed self.old.plan) }

@@ -69,14 +69,18 @@ impl Sink for MemSink {
     ghost writing = { mem_writing };
 
     fn put(&mut self, bytes: &[u8]) -> Result<(), Failed>
-        ensures ok { OnOk result (mem_writing self.new ≡ appended bytes.now (mem_writing self.old)) }
-        ensures err { OnErr result (AppendsPrefix bytes.now (mem_writing self.old) (mem_writing self.new)) }
+        ensures ok { OnOk result (mem_writing self.new
+            ≡ appended bytes.now (mem_writing self.old)) }
+        ensures err { OnErr result (AppendsPrefix bytes.now (mem_writing self.old)
+            (mem_writing self.new)) }
         ensures count { (mem_writing self.old).faults ≤ (mem_writing self.new).faults }
-        ensures counted { OnErr result (MayFault (mem_writing self.old).faults (mem_writing self.new).faults) }
+        ensures counted { OnErr result (MayFault (mem_writing self.old).faults
+            (mem_writing self.new).faults) }
 
         // Which calls fail, how much a call keeps, and all else that it changes.
         ensures fails { is_ok result ≡ not (must_fail (length bytes.now) self.old) }
-        ensures kept { self.new.bytes ≡ self.old.bytes ++ take (kept_count (length bytes.now) self.old) bytes.now }
+        ensures kept { self.new.bytes ≡ self.old.bytes ++ take
+            (kept_count (length bytes.now) self.old) bytes.now }
         ensures room { self.new.room ≡ self.old.room }
         ensures numbered { self.new.plan ≡ called self.old.plan }
         ensures same { OnOk result (self.new.faults ≡ self.old.faults) }

@@ -41,9 +41,11 @@ impl PutBuffer {
         ensures ok { OnOk result (appended self.new (S.writing sink.new)
             ≡ appended (self.old ++ bytes.now) (S.writing sink.old)) }
         ensures err { OnErr result (self.new ≡ []) }
-        ensures prefix { AppendsPrefix (self.old ++ bytes.now) (S.writing sink.old) (S.writing sink.new) }
+        ensures prefix { AppendsPrefix (self.old ++ bytes.now) (S.writing sink.old)
+            (S.writing sink.new) }
         ensures count { (S.writing sink.old).faults ≤ (S.writing sink.new).faults }
-        ensures counted { OnErr result (MayFault (S.writing sink.old).faults (S.writing sink.new).faults) }
+        ensures counted { OnErr result (MayFault (S.writing sink.old).faults
+            (S.writing sink.new).faults) }
     {
         self.make_room(sink, bytes.len())?;
         self.extend_or_put(sink, bytes)
@@ -54,9 +56,11 @@ impl PutBuffer {
         ensures ok { OnOk result (appended self.new (S.writing sink.new)
             ≡ appended (self.old ++ joined pieces.now) (S.writing sink.old)) }
         ensures err { OnErr result (self.new ≡ []) }
-        ensures prefix { AppendsPrefix (self.old ++ joined pieces.now) (S.writing sink.old) (S.writing sink.new) }
+        ensures prefix { AppendsPrefix (self.old ++ joined pieces.now) (S.writing sink.old)
+            (S.writing sink.new) }
         ensures count { (S.writing sink.old).faults ≤ (S.writing sink.new).faults }
-        ensures counted { OnErr result (MayFault (S.writing sink.old).faults (S.writing sink.new).faults) }
+        ensures counted { OnErr result (MayFault (S.writing sink.old).faults
+            (S.writing sink.new).faults) }
     {
         for piece in pieces {
             self.add(sink, piece)?;
@@ -67,11 +71,13 @@ impl PutBuffer {
     /// Leaves room for so many bytes, or nothing that waits.
     fn make_room<S: Sink>(&mut self, sink: &mut S, len: usize) -> Result<(), Failed>
         ensures room { OnOk result (length self.new + len ≤ 4096 ⊎ self.new ≡ []) }
-        ensures ok { OnOk result (appended self.new (S.writing sink.new) ≡ appended self.old (S.writing sink.old)) }
+        ensures ok { OnOk result (appended self.new (S.writing sink.new)
+            ≡ appended self.old (S.writing sink.old)) }
         ensures err { OnErr result (self.new ≡ []) }
         ensures prefix { AppendsPrefix self.old (S.writing sink.old) (S.writing sink.new) }
         ensures count { (S.writing sink.old).faults ≤ (S.writing sink.new).faults }
-        ensures counted { OnErr result (MayFault (S.writing sink.old).faults (S.writing sink.new).faults) }
+        ensures counted { OnErr result (MayFault (S.writing sink.old).faults
+            (S.writing sink.new).faults) }
     {
         if self.waiting.remaining_capacity() < len {
             self.flush(sink)?;
@@ -85,9 +91,11 @@ impl PutBuffer {
         ensures ok { OnOk result (appended self.new (S.writing sink.new)
             ≡ appended (self.old ++ bytes.now) (S.writing sink.old)) }
         ensures err { OnErr result (self.new ≡ []) }
-        ensures prefix { AppendsPrefix (self.old ++ bytes.now) (S.writing sink.old) (S.writing sink.new) }
+        ensures prefix { AppendsPrefix (self.old ++ bytes.now) (S.writing sink.old)
+            (S.writing sink.new) }
         ensures count { (S.writing sink.old).faults ≤ (S.writing sink.new).faults }
-        ensures counted { OnErr result (MayFault (S.writing sink.old).faults (S.writing sink.new).faults) }
+        ensures counted { OnErr result (MayFault (S.writing sink.old).faults
+            (S.writing sink.new).faults) }
     {
         if self.waiting.try_extend_from_slice(bytes).is_ok() {
             return Ok(());
@@ -101,7 +109,8 @@ impl PutBuffer {
         ensures ok { OnOk result (S.writing sink.new ≡ appended self.old (S.writing sink.old)) }
         ensures prefix { AppendsPrefix self.old (S.writing sink.old) (S.writing sink.new) }
         ensures count { (S.writing sink.old).faults ≤ (S.writing sink.new).faults }
-        ensures counted { OnErr result (MayFault (S.writing sink.old).faults (S.writing sink.new).faults) }
+        ensures counted { OnErr result (MayFault (S.writing sink.old).faults
+            (S.writing sink.new).faults) }
     {
         if self.waiting.is_empty() {
             return Ok(());
@@ -114,10 +123,12 @@ impl PutBuffer {
 
 /// Puts a text that comes in pieces.
 pub fn put_all<S: Sink>(sink: &mut S, pieces: &[&[u8]]) -> Result<(), Failed>
-    ensures ok { OnOk result (S.writing sink.new ≡ appended (joined pieces.now) (S.writing sink.old)) }
+    ensures ok { OnOk result (S.writing sink.new
+        ≡ appended (joined pieces.now) (S.writing sink.old)) }
     ensures prefix { AppendsPrefix (joined pieces.now) (S.writing sink.old) (S.writing sink.new) }
     ensures count { (S.writing sink.old).faults ≤ (S.writing sink.new).faults }
-    ensures counted { OnErr result (MayFault (S.writing sink.old).faults (S.writing sink.new).faults) }
+    ensures counted { OnErr result (MayFault (S.writing sink.old).faults
+        (S.writing sink.new).faults) }
 {
     let mut buffer = PutBuffer::new();
     buffer.add_all(sink, pieces)?;

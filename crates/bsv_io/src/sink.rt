@@ -17,5 +17,6 @@ pub trait Sink {
         ensures ok { OnOk result (writing self.new ≡ appended bytes.now (writing self.old)) }
         ensures err { OnErr result (AppendsPrefix bytes.now (writing self.old) (writing self.new)) }
         ensures count { (writing self.old).faults ≤ (writing self.new).faults }
-        ensures counted { OnErr result (MayFault (writing self.old).faults (writing self.new).faults) };
+        ensures counted { OnErr result (MayFault (writing self.old).faults
+            (writing self.new).faults) };
 }

@@ -65,8 +65,10 @@ impl<W: Write + Drop> Sink for StdSink<W> {
 
     /// Writes and flushes, so that what was put has left the program.
     fn put(&mut self, bytes: &[u8]) -> Result<(), Failed>
-        ensures ok { OnOk result (passing_writing self.new ≡ appended bytes.now (passing_writing self.old)) }
-        ensures err { OnErr result (AppendsPrefix bytes.now (passing_writing self.old) (passing_writing self.new)) }
+        ensures ok { OnOk result (passing_writing self.new
+            ≡ appended bytes.now (passing_writing self.old)) }
+        ensures err { OnErr result (AppendsPrefix bytes.now (passing_writing self.old)
+            (passing_writing self.new)) }
         ensures count { self.old.faults ≤ self.new.faults }
         ensures counted { OnErr result (MayFault self.old.faults self.new.faults) }
 

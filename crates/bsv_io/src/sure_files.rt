@@ -49,7 +49,8 @@ impl Files for SureFiles {
           current = None;
         }) }
         ensures count { (sure_reading self.old).faults ≤ (sure_reading self.new).faults }
-        ensures counted { OnErr result (MayFault (sure_reading self.old).faults (sure_reading self.new).faults) }
+        ensures counted { OnErr result (MayFault (sure_reading self.old).faults
+            (sure_reading self.new).faults) }
 
         // No call fails, and the choice is all that changes.
         ensures sure { IsOk result }
@@ -72,7 +73,8 @@ impl Files for SureFiles {
           blamed = current_name (sure_reading self.old);
         }) }
         ensures count { (sure_reading self.old).faults ≤ (sure_reading self.new).faults }
-        ensures counted { OnErr result (MayFault (sure_reading self.old).faults (sure_reading self.new).faults) }
+        ensures counted { OnErr result (MayFault (sure_reading self.old).faults
+            (sure_reading self.new).faults) }
 
         // No call fails; how much a call gives, and what it leaves.
         ensures sure { IsOk result }

@@ -41,10 +41,13 @@ impl Sink for SureSink {
     ghost writing = { sure_writing };
 
     fn put(&mut self, bytes: &[u8]) -> Result<(), Failed>
-        ensures ok { OnOk result (sure_writing self.new ≡ appended bytes.now (sure_writing self.old)) }
-        ensures err { OnErr result (AppendsPrefix bytes.now (sure_writing self.old) (sure_writing self.new)) }
+        ensures ok { OnOk result (sure_writing self.new
+            ≡ appended bytes.now (sure_writing self.old)) }
+        ensures err { OnErr result (AppendsPrefix bytes.now (sure_writing self.old)
+            (sure_writing self.new)) }
         ensures count { (sure_writing self.old).faults ≤ (sure_writing self.new).faults }
-        ensures counted { OnErr result (MayFault (sure_writing self.old).faults (sure_writing self.new).faults) }
+        ensures counted { OnErr result (MayFault (sure_writing self.old).faults
+            (sure_writing self.new).faults) }
 
         // No call fails, and the bytes are counted.
         ensures sure { IsOk result }

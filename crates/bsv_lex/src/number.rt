@@ -77,7 +77,8 @@ fn digit_value(b: u8) -> u128
 /// A number with one more digit behind it, where that is below 2^128.
 fn with_digit(base: u128, number: u128, b: u8) -> Option<u128>
     requires { base ≤ 16 }
-    ensures { let more = spec.with_digit base number b in result ≡ (if nat_lt more (2 ^ 128) then Some more else None) }
+    ensures { let more = spec.with_digit base number b in result
+        ≡ (if nat_lt more (2 ^ 128) then Some more else None) }
 {
     if b == b'_' {
         Some(number)
@@ -91,7 +92,8 @@ fn with_digit(base: u128, number: u128, b: u8) -> Option<u128>
 fn value_of(base: u128, digits: &[u8]) -> Option<u128>
     requires some { 1 ≤ base }
     requires most { base ≤ 16 }
-    ensures { let value = spec.value_of base digits.now in result ≡ (if nat_lt value (2 ^ 128) then Some value else None) }
+    ensures { let value = spec.value_of base digits.now in result
+        ≡ (if nat_lt value (2 ^ 128) then Some value else None) }
 {
     let mut value = 0;
     let mut rest = digits;
@@ -147,7 +149,8 @@ fn unsized_literal(base: Option<Base>, digits: &[u8]) -> Option<Literal>
 
 /// A size in decimal, where it is 1 to 128.
 fn size_of(digits: &[u8]) -> Option<u32>
-    ensures { let size = spec.value_of 10 digits.now in result ≡ (if nat_le 1 size && nat_le size 128 then Some size else None) }
+    ensures { let size = spec.value_of 10 digits.now in result
+        ≡ (if nat_le 1 size && nat_le size 128 then Some size else None) }
 {
     let size = value_of(10, digits)?;
     if 1 <= size && size <= 128 {
@@ -175,7 +178,8 @@ fn fitting(size: u32, base: Base, value: u128) -> Option<Literal>
 }
 
 fn sized_literal(size: &[u8], base: Base, digits: &[u8]) -> Option<Literal>
-    ensures { result ≡ spec.sized base (spec.value_of 10 size.now) (spec.value_of (spec.radix base) digits.now) }
+    ensures { result ≡ spec.sized base (spec.value_of 10 size.now)
+        (spec.value_of (spec.radix base) digits.now) }
 {
     let Some(size) = size_of(size) else {
         return None;

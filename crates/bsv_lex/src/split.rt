@@ -53,7 +53,8 @@ fn read_all(alloc: Global, source: &[u8]) -> Result<Vec<Token>, LexFault>
 pub fn tokens(alloc: Global, source: &[u8]) -> Result<Vec<Token>, LexFault>
     requires { length source.now ≤ 1048576 }
     ensures found { IfOk result (λ v. Tokens source.now v.items) }
-    ensures only { (list : List Item) → Tokens source.now list → Gives (λ v. v.items) result (Ok list) }
+    ensures only { (list : List Item) → Tokens source.now list
+        → Gives (λ v. v.items) result (Ok list) }
     ensures slices { IfOk result (λ v. All (IsTokenOf source.now) v.items) }
     ensures faulty { IfErr result (λ f. f ≢ OutOfMemory → FirstFault source.now f) }
     ensures fault { (f : Fault) → FirstFault source.now f → Gives (λ v. v.items) result (Err f) }
@@ -64,7 +65,10 @@ pub fn tokens(alloc: Global, source: &[u8]) -> Result<Vec<Token>, LexFault>
 /// A source has one list of tokens or one first fault, and not both.
 pub fn one_answer()
     ensures list { (bytes : List ℕ) (x y : List Item) → Tokens bytes x → Tokens bytes y → x ≡ y }
-    ensures fault { (bytes : List ℕ) (f g : Fault) → FirstFault bytes f → FirstFault bytes g → f ≡ g }
-    ensures apart { (bytes : List ℕ) (x : List Item) (f : Fault) → Tokens bytes x → FirstFault bytes f → ⊥ }
-    ensures some { (bytes : List ℕ) → ((list : List Item) × Tokens bytes list) ⊎ ((f : Fault) × FirstFault bytes f) }
+    ensures fault { (bytes : List ℕ) (f g : Fault) → FirstFault bytes f → FirstFault bytes g
+        → f ≡ g }
+    ensures apart { (bytes : List ℕ) (x : List Item) (f : Fault) → Tokens bytes x
+        → FirstFault bytes f → ⊥ }
+    ensures some { (bytes : List ℕ) → ((list : List Item) × Tokens bytes list)
+        ⊎ ((f : Fault) × FirstFault bytes f) }
 {}

@@ -359,7 +359,8 @@ const SYMBOLS: [(&[u8], Terminal); 35] = [
 
 /// What the table has for the word.
 fn lookup(mut table: &[(&[u8], Terminal)], word: &[u8]) -> Option<Terminal>
-    ensures { result ≡ spec.lookup (map (λ entry. (entry.0.now, entry.1)) table.entry.now) word.now }
+    ensures { result ≡ spec.lookup (map (λ entry. (entry.0.now, entry.1)) table.entry.now)
+        word.now }
 {
     while let [entry, rest @ ..] = table {
         if entry.0 == word {

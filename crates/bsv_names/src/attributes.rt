@@ -17,7 +17,8 @@ fn bad_among(
     owner: Owner,
     attributes: &[Written],
 ) -> Result<Option<Place>, AllocError>
-    ensures { IfOk result (λ bad. bad ≡ spec.first_malformed (map (spec.standing number owner) attributes.now)) }
+    ensures { IfOk result (λ bad. bad ≡ spec.first_malformed
+        (map (spec.standing number owner) attributes.now)) }
 {
     let mut rest = attributes;
     while let Some((written, after)) = rest.split_first() {
@@ -40,7 +41,8 @@ fn bad_of_owner(
     owner: Owner,
     groups: &[AttributeGroup],
 ) -> Result<Option<Place>, AllocError>
-    ensures { IfOk result (λ bad. bad ≡ spec.first_malformed (spec.of_owner number owner groups.now)) }
+    ensures { IfOk result (λ bad. bad ≡ spec.first_malformed
+        (spec.of_owner number owner groups.now)) }
 {
     let mut rest = groups;
     while let Some((group, after)) = rest.split_first() {
@@ -61,7 +63,8 @@ fn bad_in_statement(
     number: u32,
     statement: &ModuleStmt,
 ) -> Result<Option<Place>, AllocError>
-    ensures { IfOk result (λ bad. bad ≡ spec.first_malformed (spec.in_statement number statement.now)) }
+    ensures { IfOk result (λ bad. bad ≡ spec.first_malformed
+        (spec.in_statement number statement.now)) }
 {
     match statement {
         ModuleStmt::Instance(_, _, _, _)
@@ -89,7 +92,8 @@ fn bad_in_statements(
     number: u32,
     statements: &[ModuleStmt],
 ) -> Result<Option<Place>, AllocError>
-    ensures { IfOk result (λ bad. bad ≡ spec.first_malformed (spec.in_statements number statements.now)) }
+    ensures { IfOk result (λ bad. bad ≡ spec.first_malformed
+        (spec.in_statements number statements.now)) }
 {
     let mut rest = statements;
     while let Some((statement, after)) = rest.split_first() {
@@ -110,7 +114,8 @@ fn bad_in_arms(
     branches: &[ModuleBranch],
     otherwise: &ModuleStmt,
 ) -> Result<Option<Place>, AllocError>
-    ensures { IfOk result (λ bad. bad ≡ spec.first_malformed (spec.in_branches number branches.now ++ spec.in_statement number otherwise.now)) }
+    ensures { IfOk result (λ bad. bad ≡ spec.first_malformed
+        (spec.in_branches number branches.now ++ spec.in_statement number otherwise.now)) }
 {
     let bad = bad_in_branches(alloc, number, branches)?;
     if bad.is_some() {
@@ -137,7 +142,8 @@ fn bad_in_branches(
     number: u32,
     branches: &[ModuleBranch],
 ) -> Result<Option<Place>, AllocError>
-    ensures { IfOk result (λ bad. bad ≡ spec.first_malformed (spec.in_branches number branches.now)) }
+    ensures { IfOk result (λ bad. bad ≡ spec.first_malformed
+        (spec.in_branches number branches.now)) }
 {
     let mut rest = branches;
     while let Some((branch, after)) = rest.split_first() {
@@ -157,7 +163,8 @@ fn bad_in_module(
     number: u32,
     definition: &Module,
 ) -> Result<Option<Place>, AllocError>
-    ensures { IfOk result (λ bad. bad ≡ spec.first_malformed (spec.in_module number definition.now)) }
+    ensures { IfOk result (λ bad. bad ≡ spec.first_malformed
+        (spec.in_module number definition.now)) }
 {
     let bad = bad_of_owner(
         alloc,
@@ -184,7 +191,8 @@ fn bad_in_item(alloc: Global, number: u32, item: &Item) -> Result<Option<Place>,
 
 #[tactic(auto, using(crate::proofs::Malformed::malformed))]
 fn bad_in_items(alloc: Global, number: u32, items: &[Item]) -> Result<Option<Place>, AllocError>
-    ensures { IfOk result (λ bad. bad ≡ spec.first_malformed (flat_map (spec.in_item number) items.now)) }
+    ensures { IfOk result (λ bad. bad ≡ spec.first_malformed
+        (flat_map (spec.in_item number) items.now)) }
 {
     let mut rest = items;
     while let Some((item, after)) = rest.split_first() {

@@ -194,7 +194,8 @@ fn last_module_arm_events(
     otherwise: &Option<Boxed<ModuleStmt>>,
     found: &mut Items<Event>,
 ) -> Result<(), OutOfMemory>
-    ensures { OnOk result (found.new ≡ found.old ++ last_arm (option_map spec.module_stmt_events otherwise.now)) }
+    ensures { OnOk result (found.new ≡ found.old ++ last_arm
+        (option_map spec.module_stmt_events otherwise.now)) }
 {
     match otherwise {
         Some(arm) => module_arm_events(alloc, arm.get(), found),

@@ -47,8 +47,10 @@ impl Names {
     /// Defines the name in the space, and says whether it was new there.
     #[tactic(auto, using(crate::proofs::Definitions::by_space))]
     fn define(&mut self, alloc: Global, space: Space, name: &Name) -> Result<bool, OutOfMemory>
-        ensures is_new { IfOk result (λ r. r ≡ not (is_listed name.now (names_in space (known self.old)))) }
-        ensures defined { OnOk result (known self.new ≡ with_definition space name.now (known self.old)) }
+        ensures is_new { IfOk result (λ r. r ≡ not
+            (is_listed name.now (names_in space (known self.old)))) }
+        ensures defined { OnOk result (known self.new
+            ≡ with_definition space name.now (known self.old)) }
     {
         let copy = Name::new(alloc, name.bytes())?;
         Ok(self.definitions.define(space, copy)?)
@@ -155,8 +157,10 @@ impl Names {
         pass: Pass,
         package: &Package,
     ) -> Result<Option<Span>, OutOfMemory>
-        ensures fault { IfOk result (λ r. r ≡ spec.first_fault pass (known self.old) (package_events «package».now)) }
-        ensures after { OnOk result (known self.new ≡ after_all (known self.old) (package_events «package».now)) }
+        ensures fault { IfOk result (λ r. r ≡ spec.first_fault pass (known self.old)
+            (package_events «package».now)) }
+        ensures after { OnOk result (known self.new
+            ≡ after_all (known self.old) (package_events «package».now)) }
     {
         let mut first = None;
         let mut rest = items_of(package).as_slice();
@@ -177,8 +181,10 @@ impl Names {
         pass: Pass,
         packages: &[Package],
     ) -> Result<Option<Place>, OutOfMemory>
-        ensures fault { IfOk result (λ r. r ≡ spec.first_place pass 0 (known self.old) packages.now) }
-        ensures after { OnOk result (known self.new ≡ after_packages (known self.old) packages.now) }
+        ensures fault { IfOk result (λ r. r ≡ spec.first_place pass 0
+            (known self.old) packages.now) }
+        ensures after { OnOk result (known self.new
+            ≡ after_packages (known self.old) packages.now) }
     {
         let mut first = None;
         let mut number: u32 = 0;

@@ -182,7 +182,8 @@ fn last_arm_events(
     otherwise: &Option<Boxed<Stmt>>,
     found: &mut Items<Event>,
 ) -> Result<(), OutOfMemory>
-    ensures { OnOk result (found.new ≡ found.old ++ spec.last_arm (option_map spec.stmt_events otherwise.now)) }
+    ensures { OnOk result (found.new ≡ found.old ++ spec.last_arm
+        (option_map spec.stmt_events otherwise.now)) }
 {
     match otherwise {
         Some(arm) => arm_events(alloc, arm.get(), found),

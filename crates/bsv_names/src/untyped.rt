@@ -84,7 +84,8 @@ impl Untyped {
     /// One name more in the space.
     #[tactic(auto, using(bsv_scopes::proofs::Names::defined))]
     fn define(&mut self, alloc: Global, space: Space, name: &Name) -> Result<(), OutOfMemory>
-        ensures { OnOk result (untyped self.new ≡ spec.with_definition space name.now (untyped self.old)) }
+        ensures { OnOk result (untyped self.new
+            ≡ spec.with_definition space name.now (untyped self.old)) }
     {
         let copy = Name::new(alloc, name.bytes())?;
         let _is_new = match space {
@@ -112,7 +113,8 @@ impl Untyped {
 
     /// What the item defines has no typing.
     pub fn add(&mut self, alloc: Global, item: &Item) -> Result<(), OutOfMemory>
-        ensures { OnOk result (untyped self.new ≡ spec.with_untyped (listed.item_events item.now) (untyped self.old)) }
+        ensures { OnOk result (untyped self.new
+            ≡ spec.with_untyped (listed.item_events item.now) (untyped self.old)) }
     {
         let events = item_events(alloc, item)?;
         self.add_events(alloc, events.as_slice())
@@ -132,7 +134,8 @@ impl Untyped {
 
     /// Whether the event names something without a typing.
     fn lacks(&self, variables: &Variables, locals: &Scopes<()>, event: &Event) -> bool
-        ensures { result ≡ spec.lacks (untyped self.now) (seen_variables variables.now) (scopes locals.now) event.now }
+        ensures { result ≡ spec.lacks (untyped self.now) (seen_variables variables.now)
+            (scopes locals.now) event.now }
     {
         match event {
             Event::Use(space, name, _) => self.has(*space, name),
@@ -157,7 +160,8 @@ impl Untyped {
         variables: &Variables,
         events: &[Event],
     ) -> Result<bool, OutOfMemory>
-        ensures { IfOk result (λ r. r ≡ spec.leans (untyped self.now) (seen_variables variables.now) events.now) }
+        ensures { IfOk result (λ r. r ≡ spec.leans (untyped self.now)
+            (seen_variables variables.now) events.now) }
     {
         let mut locals = Scopes::new(alloc);
         locals.open(alloc)?;
@@ -198,7 +202,8 @@ impl Untyped {
         variables: &Variables,
         stmt: &ModuleStmt,
     ) -> Result<bool, OutOfMemory>
-        ensures { IfOk result (λ r. r ≡ spec.statement_leans (untyped self.now) (seen_variables variables.now) stmt.now) }
+        ensures { IfOk result (λ r. r ≡ spec.statement_leans (untyped self.now)
+            (seen_variables variables.now) stmt.now) }
     {
         let mut events = Items::new(alloc);
         module_stmt_events(alloc, stmt, &mut events)?;
@@ -218,7 +223,8 @@ impl Variables {
     /// Whether a name without `(` behind it names something without a typing: the variable of that
     /// name where there is one, else a function, of which it is said whether it lacks one.
     fn lacks(&self, name: &Name, function: bool) -> bool
-        ensures { result ≡ spec.is_untyped_value (found name.now (seen_variables self.now)) function }
+        ensures { result ≡ spec.is_untyped_value
+            (found name.now (seen_variables self.now)) function }
     {
         match self.typed.find(name) {
             Some(typed) => !*typed,
@@ -228,7 +234,8 @@ impl Variables {
 
     /// A variable more.
     fn declare(&mut self, alloc: Global, name: &Name, typed: bool) -> Result<(), OutOfMemory>
-        ensures { OnOk result (seen_variables self.new ≡ with_new name.now typed (seen_variables self.old)) }
+        ensures { OnOk result (seen_variables self.new
+            ≡ with_new name.now typed (seen_variables self.old)) }
     {
         let copy = Name::new(alloc, name.bytes())?;
         let _is_new = self.typed.define(copy, typed)?;
@@ -252,7 +259,8 @@ impl Variables {
     /// without one.
     #[tactic(auto, unfolding(crate::specs::Untyped::behind))]
     pub fn pass(&mut self, alloc: Global, stmt: &ModuleStmt, typed: bool) -> Result<(), OutOfMemory>
-        ensures { OnOk result (seen_variables self.new ≡ spec.behind typed stmt.now (seen_variables self.old)) }
+        ensures { OnOk result (seen_variables self.new
+            ≡ spec.behind typed stmt.now (seen_variables self.old)) }
     {
         match stmt {
             ModuleStmt::Instance(_, _, name, _) | ModuleStmt::Array(_, _, name, _) => {

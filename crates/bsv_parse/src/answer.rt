@@ -67,10 +67,13 @@ pub fn package(alloc: Global, source: &[u8], tokens: &[Token]) -> Result<Package
     requires limit { length source.now ≤ 1048576 }
     ensures found { IfOk result (λ x. Reads source.now tokens.now x) }
     ensures shallow { OnOk result (IsShallow source.now tokens.now) }
-    ensures only { (x : Tree) → Reads source.now tokens.now x → IsShallow source.now tokens.now → (result ≡ Ok x) ⊎ (result ≡ Err OutOfMemory) }
+    ensures only { (x : Tree) → Reads source.now tokens.now x → IsShallow source.now tokens.now
+        → (result ≡ Ok x) ⊎ (result ≡ Err OutOfMemory) }
     ensures deep { (at : ℕ) → result ≡ Err (TooDeep at) → IsTooDeep source.now tokens.now at }
-    ensures too_deep { (at : ℕ) → IsTooDeep source.now tokens.now at → (result ≡ Err (TooDeep at)) ⊎ (result ≡ Err OutOfMemory) }
-    ensures syntax { (at : ℕ) → result ≡ Err (Syntax at) → (x : Tree) → Reads source.now tokens.now x → ⊥ }
+    ensures too_deep { (at : ℕ) → IsTooDeep source.now tokens.now at
+        → (result ≡ Err (TooDeep at)) ⊎ (result ≡ Err OutOfMemory) }
+    ensures syntax { (at : ℕ) → result ≡ Err (Syntax at) → (x : Tree)
+        → Reads source.now tokens.now x → ⊥ }
     ensures syntax_shallow { (at : ℕ) → result ≡ Err (Syntax at) → IsShallow source.now tokens.now }
 {
     let lexemes = lexemes(alloc, source, tokens)?;
@@ -87,5 +90,6 @@ pub fn package(alloc: Global, source: &[u8], tokens: &[Token]) -> Result<Package
 
 /// The tokens of a source are one package at most.
 pub fn one_package()
-    ensures { (source : List ℕ) (tokens : List Word) (x y : Tree) → Reads source tokens x → Reads source tokens y → x ≡ y }
+    ensures { (source : List ℕ) (tokens : List Word) (x y : Tree) → Reads source tokens x
+        → Reads source tokens y → x ≡ y }
 {}

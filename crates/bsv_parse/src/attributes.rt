@@ -29,7 +29,8 @@ fn quoted<'a>(
     source: &[u8],
     lexemes: &'a [Lexeme],
 ) -> Result<((Span, Name), &'a [Lexeme]), ReadFault>
-    ensures { Gives (λ x. (x.0, x.1.now)) result (reading.take_leaf source.now (word.Text ∷ []) grammar.text_told lexemes.now) }
+    ensures { Gives (λ x. (x.0, x.1.now)) result
+        (reading.take_leaf source.now (word.Text ∷ []) grammar.text_told lexemes.now) }
 {
     match lexemes {
         [next, rest @ ..] if same_terminal(next.terminal, Terminal::Text) => {
@@ -65,7 +66,8 @@ fn attribute<'a>(
     source: &[u8],
     lexemes: &'a [Lexeme],
 ) -> Result<(Attribute, &'a [Lexeme]), ReadFault>
-    ensures { (n : ℕ) → Gives (λ x. (x.0, x.1.now)) result (part source.now n grammar.attribute lexemes.now) }
+    ensures { (n : ℕ) → Gives (λ x. (x.0, x.1.now)) result
+        (part source.now n grammar.attribute lexemes.now) }
 {
     let (name, rest) = name(alloc, source, Terminal::Lower, lexemes)?;
     if !starts(&[Terminal::Equal], rest) {
@@ -83,7 +85,8 @@ fn attributes<'a>(
     source: &[u8],
     lexemes: &'a [Lexeme],
 ) -> Result<(Items<Attribute>, &'a [Lexeme]), ReadFault>
-    ensures { (n : ℕ) → Gives (λ x. (x.0, x.1.now)) result (part source.now n grammar.attributes lexemes.now) }
+    ensures { (n : ℕ) → Gives (λ x. (x.0, x.1.now)) result
+        (part source.now n grammar.attributes lexemes.now) }
 {
     let mut found = Items::new(alloc);
     let (first, mut rest) = attribute(alloc, source, lexemes)?;
@@ -107,7 +110,8 @@ fn group<'a>(
     source: &[u8],
     lexemes: &'a [Lexeme],
 ) -> Result<(AttributeGroup, &'a [Lexeme]), ReadFault>
-    ensures { (n : ℕ) → Gives (λ x. (x.0, x.1.now)) result (part source.now n grammar.group lexemes.now) }
+    ensures { (n : ℕ) → Gives (λ x. (x.0, x.1.now)) result
+        (part source.now n grammar.group lexemes.now) }
 {
     let (open, rest) = expect(Terminal::OpenAttribute, lexemes)?;
     let (attributes, rest) = attributes(alloc, source, rest)?;
@@ -123,7 +127,8 @@ pub fn groups<'a>(
     source: &[u8],
     lexemes: &'a [Lexeme],
 ) -> Result<(Items<AttributeGroup>, &'a [Lexeme]), ReadFault>
-    ensures { (n : ℕ) → Gives (λ x. (x.0, x.1.now)) result (part source.now n grammar.groups lexemes.now) }
+    ensures { (n : ℕ) → Gives (λ x. (x.0, x.1.now)) result
+        (part source.now n grammar.groups lexemes.now) }
 {
     let mut found = Items::new(alloc);
     let mut rest = lexemes;

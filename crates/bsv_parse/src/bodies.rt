@@ -61,7 +61,8 @@ pub fn ending<'a>(
     close: Span,
     lexemes: &'a [Lexeme],
 ) -> Result<(Span, &'a [Lexeme]), ReadFault>
-    ensures { Gives (λ x. (x.0, x.1.now)) result (part source.now 0 (grammar.ending kind name.now close) lexemes.now) }
+    ensures { Gives (λ x. (x.0, x.1.now)) result
+        (part source.now 0 (grammar.ending kind name.now close) lexemes.now) }
 {
     if !starts(&[Terminal::Colon], lexemes) {
         return Ok((close, lexemes));
@@ -90,7 +91,8 @@ fn statements_body<'a>(
     lexemes: &'a [Lexeme],
     depth: usize,
 ) -> Result<((Body, Span), &'a [Lexeme]), ReadFault>
-    ensures { Gives (λ x. (x.0, x.1.now)) result (part source.now depth (grammar.statements_body last name.now) lexemes.now) }
+    ensures { Gives (λ x. (x.0, x.1.now)) result
+        (part source.now depth (grammar.statements_body last name.now) lexemes.now) }
 {
     let (start, rest) = expect(Terminal::Semicolon, lexemes)?;
     let (found, rest) = stmts(alloc, source, rest, depth)?;
@@ -108,7 +110,8 @@ fn value_body<'a>(
     lexemes: &'a [Lexeme],
     depth: usize,
 ) -> Result<((Body, Span), &'a [Lexeme]), ReadFault>
-    ensures { Gives (λ x. (x.0, x.1.now)) result (part source.now depth grammar.value_body lexemes.now) }
+    ensures { Gives (λ x. (x.0, x.1.now)) result
+        (part source.now depth grammar.value_body lexemes.now) }
 {
     let (open, rest) = expect(Terminal::Equal, lexemes)?;
     let (value, rest) = expr(alloc, source, rest, depth, false)?;
@@ -126,7 +129,8 @@ pub fn body<'a>(
     lexemes: &'a [Lexeme],
     depth: usize,
 ) -> Result<((Body, Span), &'a [Lexeme]), ReadFault>
-    ensures { Gives (λ x. (x.0, x.1.now)) result (part source.now depth (grammar.body last name.now) lexemes.now) }
+    ensures { Gives (λ x. (x.0, x.1.now)) result
+        (part source.now depth (grammar.body last name.now) lexemes.now) }
 {
     if starts(&[Terminal::Semicolon], lexemes) {
         return statements_body(alloc, source, last, name, lexemes, depth);

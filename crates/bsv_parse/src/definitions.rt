@@ -35,7 +35,8 @@ pub fn import<'a>(
     source: &[u8],
     lexemes: &'a [Lexeme],
 ) -> Result<(Import, &'a [Lexeme]), ReadFault>
-    ensures { (n : ℕ) → Gives (λ x. (x.0, x.1.now)) result (part source.now n grammar.import lexemes.now) }
+    ensures { (n : ℕ) → Gives (λ x. (x.0, x.1.now)) result
+        (part source.now n grammar.import lexemes.now) }
 {
     let (start, rest) = expect(Terminal::Import, lexemes)?;
     let (package, rest) = name(alloc, source, Terminal::Upper, rest)?;
@@ -53,7 +54,8 @@ fn next_name<'a>(
     source: &[u8],
     lexemes: &'a [Lexeme],
 ) -> Result<(Ident, &'a [Lexeme]), ReadFault>
-    ensures { (n : ℕ) → Gives (λ x. (x.0, x.1.now)) result (part source.now n grammar.next_name lexemes.now) }
+    ensures { (n : ℕ) → Gives (λ x. (x.0, x.1.now)) result
+        (part source.now n grammar.next_name lexemes.now) }
 {
     let (_, rest) = expect(Terminal::Comma, lexemes)?;
     name(alloc, source, Terminal::Upper, rest)
@@ -66,7 +68,8 @@ fn names<'a>(
     source: &[u8],
     lexemes: &'a [Lexeme],
 ) -> Result<(Items<Ident>, &'a [Lexeme]), ReadFault>
-    ensures { (n : ℕ) → Gives (λ x. (x.0, x.1.now)) result (part source.now n grammar.names lexemes.now) }
+    ensures { (n : ℕ) → Gives (λ x. (x.0, x.1.now)) result
+        (part source.now n grammar.names lexemes.now) }
 {
     let mut found = Items::new(alloc);
     let (first, mut rest) = name(alloc, source, Terminal::Upper, lexemes)?;
@@ -89,7 +92,8 @@ fn optional_deriving<'a>(
     source: &[u8],
     lexemes: &'a [Lexeme],
 ) -> Result<(Items<Ident>, &'a [Lexeme]), ReadFault>
-    ensures { (n : ℕ) → Gives (λ x. (x.0, x.1.now)) result (part source.now n grammar.optional_deriving lexemes.now) }
+    ensures { (n : ℕ) → Gives (λ x. (x.0, x.1.now)) result
+        (part source.now n grammar.optional_deriving lexemes.now) }
 {
     if !starts(&[Terminal::Deriving], lexemes) {
         return Ok((Items::new(alloc), lexemes));
@@ -108,7 +112,8 @@ fn named<'a>(
     source: &[u8],
     lexemes: &'a [Lexeme],
 ) -> Result<((Ident, (Items<Ident>, Span)), &'a [Lexeme]), ReadFault>
-    ensures { (n : ℕ) → Gives (λ x. (x.0, x.1.now)) result (part source.now n grammar.named lexemes.now) }
+    ensures { (n : ℕ) → Gives (λ x. (x.0, x.1.now)) result
+        (part source.now n grammar.named lexemes.now) }
 {
     let (name, rest) = name(alloc, source, Terminal::Upper, lexemes)?;
     let (classes, rest) = optional_deriving(alloc, source, rest)?;
@@ -140,7 +145,8 @@ fn labels<'a>(
     source: &[u8],
     lexemes: &'a [Lexeme],
 ) -> Result<(Items<Ident>, &'a [Lexeme]), ReadFault>
-    ensures { (n : ℕ) → Gives (λ x. (x.0, x.1.now)) result (part source.now n grammar.labels lexemes.now) }
+    ensures { (n : ℕ) → Gives (λ x. (x.0, x.1.now)) result
+        (part source.now n grammar.labels lexemes.now) }
 {
     let (_, rest) = expect(Terminal::OpenBrace, lexemes)?;
     let (found, rest) = names(alloc, source, rest)?;
@@ -155,7 +161,8 @@ fn enumeration<'a>(
     source: &[u8],
     lexemes: &'a [Lexeme],
 ) -> Result<(Typedef, &'a [Lexeme]), ReadFault>
-    ensures { (n : ℕ) → Gives (λ x. (x.0, x.1.now)) result (part source.now n grammar.enumeration lexemes.now) }
+    ensures { (n : ℕ) → Gives (λ x. (x.0, x.1.now)) result
+        (part source.now n grammar.enumeration lexemes.now) }
 {
     let (start, rest) = expect(Terminal::Enum, lexemes)?;
     let (labels, rest) = labels(alloc, source, rest)?;
@@ -194,7 +201,8 @@ fn fields<'a>(
     lexemes: &'a [Lexeme],
     depth: usize,
 ) -> Result<(Items<Field>, &'a [Lexeme]), ReadFault>
-    ensures { Gives (λ x. (x.0, x.1.now)) result (part source.now depth grammar.fields lexemes.now) }
+    ensures { Gives (λ x. (x.0, x.1.now)) result
+        (part source.now depth grammar.fields lexemes.now) }
 {
     let mut found = Items::new(alloc);
     let mut rest = lexemes;
@@ -217,7 +225,8 @@ fn field_block<'a>(
     lexemes: &'a [Lexeme],
     depth: usize,
 ) -> Result<(Items<Field>, &'a [Lexeme]), ReadFault>
-    ensures { Gives (λ x. (x.0, x.1.now)) result (part source.now depth grammar.field_block lexemes.now) }
+    ensures { Gives (λ x. (x.0, x.1.now)) result
+        (part source.now depth grammar.field_block lexemes.now) }
 {
     let (_, rest) = expect(Terminal::OpenBrace, lexemes)?;
     let (found, rest) = fields(alloc, source, rest, depth)?;
@@ -233,7 +242,8 @@ fn structure<'a>(
     lexemes: &'a [Lexeme],
     depth: usize,
 ) -> Result<(Typedef, &'a [Lexeme]), ReadFault>
-    ensures { Gives (λ x. (x.0, x.1.now)) result (part source.now depth grammar.structure lexemes.now) }
+    ensures { Gives (λ x. (x.0, x.1.now)) result
+        (part source.now depth grammar.structure lexemes.now) }
 {
     let (start, rest) = expect(Terminal::Struct, lexemes)?;
     let (fields, rest) = field_block(alloc, source, rest, depth)?;
@@ -250,7 +260,8 @@ fn type_form<'a>(
     lexemes: &'a [Lexeme],
     depth: usize,
 ) -> Result<(Typedef, &'a [Lexeme]), ReadFault>
-    ensures { Gives (λ x. (x.0, x.1.now)) result (part source.now depth grammar.type_form lexemes.now) }
+    ensures { Gives (λ x. (x.0, x.1.now)) result
+        (part source.now depth grammar.type_form lexemes.now) }
 {
     if starts(&[Terminal::Enum], lexemes) {
         return enumeration(alloc, source, lexemes);
@@ -269,7 +280,8 @@ pub fn typedef<'a>(
     lexemes: &'a [Lexeme],
     depth: usize,
 ) -> Result<(Typedef, &'a [Lexeme]), ReadFault>
-    ensures { Gives (λ x. (x.0, x.1.now)) result (part source.now depth grammar.typedef lexemes.now) }
+    ensures { Gives (λ x. (x.0, x.1.now)) result
+        (part source.now depth grammar.typedef lexemes.now) }
 {
     let (start, rest) = expect(Terminal::Typedef, lexemes)?;
     let (found, rest) = type_form(alloc, source, rest, depth)?;
@@ -284,7 +296,8 @@ fn method_header<'a>(
     lexemes: &'a [Lexeme],
     depth: usize,
 ) -> Result<(MethodHeader, &'a [Lexeme]), ReadFault>
-    ensures { Gives (λ x. (x.0, x.1.now)) result (part source.now depth grammar.method_header lexemes.now) }
+    ensures { Gives (λ x. (x.0, x.1.now)) result
+        (part source.now depth grammar.method_header lexemes.now) }
 {
     let first = Terminal::Method;
     let ((start, (result, name)), rest) = header(alloc, source, first, lexemes, depth)?;
@@ -308,7 +321,8 @@ fn method_headers<'a>(
     lexemes: &'a [Lexeme],
     depth: usize,
 ) -> Result<(Items<MethodHeader>, &'a [Lexeme]), ReadFault>
-    ensures { Gives (λ x. (x.0, x.1.now)) result (part source.now depth grammar.method_headers lexemes.now) }
+    ensures { Gives (λ x. (x.0, x.1.now)) result
+        (part source.now depth grammar.method_headers lexemes.now) }
 {
     let mut found = Items::new(alloc);
     let mut rest = lexemes;
@@ -331,7 +345,8 @@ pub fn interface<'a>(
     lexemes: &'a [Lexeme],
     depth: usize,
 ) -> Result<(Interface, &'a [Lexeme]), ReadFault>
-    ensures { Gives (λ x. (x.0, x.1.now)) result (part source.now depth grammar.interface lexemes.now) }
+    ensures { Gives (λ x. (x.0, x.1.now)) result
+        (part source.now depth grammar.interface lexemes.now) }
 {
     let (start, rest) = expect(Terminal::Interface, lexemes)?;
     let (name, rest) = name(alloc, source, Terminal::Upper, rest)?;

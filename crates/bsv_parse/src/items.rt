@@ -31,7 +31,8 @@ fn item<'a>(
     lexemes: &'a [Lexeme],
     depth: usize,
 ) -> Result<(Item, &'a [Lexeme]), ReadFault>
-    ensures { Gives (λ x. (x.0, x.1.now)) result (within source.now depth grammar.item lexemes.now) }
+    ensures { Gives (λ x. (x.0, x.1.now)) result
+        (within source.now depth grammar.item lexemes.now) }
 {
     if starts(&[Terminal::Import], lexemes) {
         let (found, rest) = import(alloc, source, lexemes)?;
@@ -61,7 +62,8 @@ fn items<'a>(
     lexemes: &'a [Lexeme],
     depth: usize,
 ) -> Result<(Items<Item>, &'a [Lexeme]), ReadFault>
-    ensures { Gives (λ x. (x.0, x.1.now)) result (within source.now depth grammar.items lexemes.now) }
+    ensures { Gives (λ x. (x.0, x.1.now)) result
+        (within source.now depth grammar.items lexemes.now) }
 {
     let mut found = Items::new(alloc);
     let mut rest = lexemes;
@@ -84,7 +86,8 @@ fn package_whole<'a>(
     lexemes: &'a [Lexeme],
     depth: usize,
 ) -> Result<(Package, &'a [Lexeme]), ReadFault>
-    ensures { Gives (λ x. (x.0, x.1.now)) result (within source.now depth grammar.package_whole lexemes.now) }
+    ensures { Gives (λ x. (x.0, x.1.now)) result
+        (within source.now depth grammar.package_whole lexemes.now) }
 {
     let (start, rest) = expect(Terminal::Package, lexemes)?;
     let (name, rest) = name(alloc, source, Terminal::Upper, rest)?;
@@ -114,7 +117,8 @@ fn bare<'a>(
     lexemes: &'a [Lexeme],
     depth: usize,
 ) -> Result<(Package, &'a [Lexeme]), ReadFault>
-    ensures { Gives (λ x. (x.0, x.1.now)) result (within source.now depth grammar.bare lexemes.now) }
+    ensures { Gives (λ x. (x.0, x.1.now)) result
+        (within source.now depth grammar.bare lexemes.now) }
 {
     let mut found = Items::new(alloc);
     let (first, mut rest) = item(alloc, source, lexemes, depth)?;
@@ -138,7 +142,8 @@ pub fn file<'a>(
     lexemes: &'a [Lexeme],
     depth: usize,
 ) -> Result<(Package, &'a [Lexeme]), ReadFault>
-    ensures { Gives (λ x. (x.0, x.1.now)) result (within source.now depth grammar.file lexemes.now) }
+    ensures { Gives (λ x. (x.0, x.1.now)) result
+        (within source.now depth grammar.file lexemes.now) }
 {
     if starts(&[Terminal::Package], lexemes) {
         return package_whole(alloc, source, lexemes, depth);

@@ -109,7 +109,8 @@ fn nested<'a>(
     lexemes: &'a [Lexeme],
     depth: usize,
 ) -> Result<(ModuleStmt, &'a [Lexeme]), ReadFault>
-    ensures { Gives (λ x. (x.0, x.1.now)) result (within source.now depth grammar.nested lexemes.now) }
+    ensures { Gives (λ x. (x.0, x.1.now)) result
+        (within source.now depth grammar.nested lexemes.now) }
 {
     mstmt(alloc, source, lexemes, depth)
 }
@@ -148,7 +149,8 @@ fn mstmts<'a>(
     lexemes: &'a [Lexeme],
     depth: usize,
 ) -> Result<(Items<ModuleStmt>, &'a [Lexeme]), ReadFault>
-    ensures { Gives (λ x. (x.0, x.1.now)) result (within source.now depth grammar.mstmts lexemes.now) }
+    ensures { Gives (λ x. (x.0, x.1.now)) result
+        (within source.now depth grammar.mstmts lexemes.now) }
 {
     repeated(alloc, source, lexemes, depth)
 }
@@ -162,7 +164,8 @@ fn block<'a>(
     lexemes: &'a [Lexeme],
     depth: usize,
 ) -> Result<(ModuleStmt, &'a [Lexeme]), ReadFault>
-    ensures { Gives (λ x. (x.0, x.1.now)) result (within source.now depth grammar.block lexemes.now) }
+    ensures { Gives (λ x. (x.0, x.1.now)) result
+        (within source.now depth grammar.block lexemes.now) }
 {
     let (open, rest) = expect(Terminal::Begin, lexemes)?;
     let (found, rest) = mstmts(alloc, source, rest, depth)?;
@@ -178,7 +181,8 @@ fn ruled<'a>(
     lexemes: &'a [Lexeme],
     depth: usize,
 ) -> Result<(ModuleStmt, &'a [Lexeme]), ReadFault>
-    ensures { Gives (λ x. (x.0, x.1.now)) result (within source.now depth grammar.ruled lexemes.now) }
+    ensures { Gives (λ x. (x.0, x.1.now)) result
+        (within source.now depth grammar.ruled lexemes.now) }
 {
     let (found, rest) = rule(alloc, source, lexemes, depth)?;
     Ok((ModuleStmt::Rule(found.span, found), rest))
@@ -213,7 +217,8 @@ fn branch<'a>(
     lexemes: &'a [Lexeme],
     depth: usize,
 ) -> Result<(ModuleBranch, &'a [Lexeme]), ReadFault>
-    ensures { Gives (λ x. (x.0, x.1.now)) result (within source.now depth grammar.branch lexemes.now) }
+    ensures { Gives (λ x. (x.0, x.1.now)) result
+        (within source.now depth grammar.branch lexemes.now) }
 {
     let (start, rest) = expect(Terminal::If, lexemes)?;
     let (condition, rest) = asked(alloc, source, rest, depth)?;
@@ -237,7 +242,8 @@ fn else_part<'a>(
     lexemes: &'a [Lexeme],
     depth: usize,
 ) -> Result<(ModuleElse, &'a [Lexeme]), ReadFault>
-    ensures { Gives (λ x. (x.0, x.1.now)) result (within source.now depth grammar.else_part lexemes.now) }
+    ensures { Gives (λ x. (x.0, x.1.now)) result
+        (within source.now depth grammar.else_part lexemes.now) }
 {
     let (_, rest) = expect(Terminal::Else, lexemes)?;
     if starts(&[Terminal::If], rest) {
@@ -258,8 +264,10 @@ fn else_parts<'a>(
     lexemes: &'a [Lexeme],
     depth: usize,
 ) -> Result<(ModuleBranches, &'a [Lexeme]), ReadFault>
-    ensures { Gives (λ x. (x.0, x.1.now)) result (turns false (word.Else ∷ []) trees.is_open trees.with_else
-        (within source.now depth grammar.else_part) (length lexemes.now) (trees.one_branch first) lexemes.now) }
+    ensures { Gives (λ x. (x.0, x.1.now)) result
+        (turns false (word.Else ∷ []) trees.is_open trees.with_else
+        (within source.now depth grammar.else_part) (length lexemes.now)
+        (trees.one_branch first) lexemes.now) }
 {
     let mut span = first.span;
     let mut branches = Items::new(alloc);
@@ -309,7 +317,8 @@ fn all_branches<'a>(
     lexemes: &'a [Lexeme],
     depth: usize,
 ) -> Result<(ModuleBranches, &'a [Lexeme]), ReadFault>
-    ensures { Gives (λ x. (x.0, x.1.now)) result (within source.now depth grammar.branches lexemes.now) }
+    ensures { Gives (λ x. (x.0, x.1.now)) result
+        (within source.now depth grammar.branches lexemes.now) }
 {
     let (first, rest) = branch(alloc, source, lexemes, depth)?;
     else_parts(alloc, source, first, rest, depth)
@@ -324,7 +333,8 @@ fn if_stmt<'a>(
     lexemes: &'a [Lexeme],
     depth: usize,
 ) -> Result<(ModuleStmt, &'a [Lexeme]), ReadFault>
-    ensures { Gives (λ x. (x.0, x.1.now)) result (within source.now depth grammar.if_stmt lexemes.now) }
+    ensures { Gives (λ x. (x.0, x.1.now)) result
+        (within source.now depth grammar.if_stmt lexemes.now) }
 {
     let (found, rest) = all_branches(alloc, source, lexemes, depth)?;
     Ok((if_of(alloc, found)?, rest))
@@ -339,7 +349,8 @@ fn arm_or_if<'a>(
     lexemes: &'a [Lexeme],
     depth: usize,
 ) -> Result<(ModuleStmt, &'a [Lexeme]), ReadFault>
-    ensures { Gives (λ x. (x.0, x.1.now)) result (within source.now depth grammar.arm_or_if lexemes.now) }
+    ensures { Gives (λ x. (x.0, x.1.now)) result
+        (within source.now depth grammar.arm_or_if lexemes.now) }
 {
     if starts(&[Terminal::If], lexemes) {
         return if_stmt(alloc, source, lexemes, depth);
@@ -356,7 +367,8 @@ fn inner_for<'a>(
     lexemes: &'a [Lexeme],
     depth: usize,
 ) -> Result<(ModuleStmt, &'a [Lexeme]), ReadFault>
-    ensures { Gives (λ x. (x.0, x.1.now)) result (within source.now depth grammar.inner_for lexemes.now) }
+    ensures { Gives (λ x. (x.0, x.1.now)) result
+        (within source.now depth grammar.inner_for lexemes.now) }
 {
     let (head, rest) = head(alloc, source, lexemes, depth)?;
     let head = Boxed::new(alloc, head)?;
@@ -373,7 +385,8 @@ fn for_body<'a>(
     lexemes: &'a [Lexeme],
     depth: usize,
 ) -> Result<(ModuleStmt, &'a [Lexeme]), ReadFault>
-    ensures { Gives (λ x. (x.0, x.1.now)) result (within source.now depth grammar.for_body lexemes.now) }
+    ensures { Gives (λ x. (x.0, x.1.now)) result
+        (within source.now depth grammar.for_body lexemes.now) }
 {
     if starts(&[Terminal::For], lexemes) {
         return inner_for(alloc, source, lexemes, depth);
@@ -390,7 +403,8 @@ fn for_stmt<'a>(
     lexemes: &'a [Lexeme],
     depth: usize,
 ) -> Result<(ModuleStmt, &'a [Lexeme]), ReadFault>
-    ensures { Gives (λ x. (x.0, x.1.now)) result (within source.now depth grammar.for_stmt lexemes.now) }
+    ensures { Gives (λ x. (x.0, x.1.now)) result
+        (within source.now depth grammar.for_stmt lexemes.now) }
 {
     let (head, rest) = head(alloc, source, lexemes, depth)?;
     let head = Boxed::new(alloc, head)?;
@@ -406,7 +420,8 @@ fn methodical<'a>(
     lexemes: &'a [Lexeme],
     depth: usize,
 ) -> Result<(ModuleStmt, &'a [Lexeme]), ReadFault>
-    ensures { Gives (λ x. (x.0, x.1.now)) result (within source.now depth grammar.methodical lexemes.now) }
+    ensures { Gives (λ x. (x.0, x.1.now)) result
+        (within source.now depth grammar.methodical lexemes.now) }
 {
     let (found, rest) = method(alloc, source, lexemes, depth)?;
     Ok((ModuleStmt::Method(found.span, found), rest))
@@ -421,7 +436,8 @@ fn mstmt_body<'a>(
     lexemes: &'a [Lexeme],
     depth: usize,
 ) -> Result<(ModuleStmt, &'a [Lexeme]), ReadFault>
-    ensures { Gives (λ x. (x.0, x.1.now)) result (within source.now depth grammar.mstmt_body lexemes.now) }
+    ensures { Gives (λ x. (x.0, x.1.now)) result
+        (within source.now depth grammar.mstmt_body lexemes.now) }
 {
     if starts(&[Terminal::If], lexemes) {
         return if_stmt(alloc, source, lexemes, depth);
@@ -443,7 +459,8 @@ fn module_params<'a>(
     lexemes: &'a [Lexeme],
     depth: usize,
 ) -> Result<(Items<Param>, &'a [Lexeme]), ReadFault>
-    ensures { Gives (λ x. (x.0, x.1.now)) result (part source.now depth definitions.module_params lexemes.now) }
+    ensures { Gives (λ x. (x.0, x.1.now)) result
+        (part source.now depth definitions.module_params lexemes.now) }
 {
     if !starts(&[Terminal::Hash], lexemes) {
         return Ok((Items::new(alloc), lexemes));
@@ -463,7 +480,8 @@ fn given_type<'a>(
     lexemes: &'a [Lexeme],
     depth: usize,
 ) -> Result<(WrittenType, &'a [Lexeme]), ReadFault>
-    ensures { Gives (λ x. (x.0, x.1.now)) result (part source.now depth definitions.given_type lexemes.now) }
+    ensures { Gives (λ x. (x.0, x.1.now)) result
+        (part source.now depth definitions.given_type lexemes.now) }
 {
     let (_, rest) = expect(Terminal::OpenParen, lexemes)?;
     let (found, rest) = written(alloc, source, rest, depth)?;
@@ -480,7 +498,8 @@ pub fn module_whole<'a>(
     lexemes: &'a [Lexeme],
     depth: usize,
 ) -> Result<(Module, &'a [Lexeme]), ReadFault>
-    ensures { Gives (λ x. (x.0, x.1.now)) result (within source.now depth grammar.module_whole lexemes.now) }
+    ensures { Gives (λ x. (x.0, x.1.now)) result
+        (within source.now depth grammar.module_whole lexemes.now) }
 {
     let (attributes, rest) = groups(alloc, source, lexemes)?;
     let (start, rest) = expect(Terminal::Module, rest)?;

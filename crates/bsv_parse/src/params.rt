@@ -39,7 +39,8 @@ fn next_param<'a>(
     lexemes: &'a [Lexeme],
     depth: usize,
 ) -> Result<(Param, &'a [Lexeme]), ReadFault>
-    ensures { Gives (λ x. (x.0, x.1.now)) result (part source.now depth grammar.next_param lexemes.now) }
+    ensures { Gives (λ x. (x.0, x.1.now)) result
+        (part source.now depth grammar.next_param lexemes.now) }
 {
     let (_, rest) = expect(Terminal::Comma, lexemes)?;
     param(alloc, source, rest, depth)
@@ -53,7 +54,8 @@ pub fn params<'a>(
     lexemes: &'a [Lexeme],
     depth: usize,
 ) -> Result<(Items<Param>, &'a [Lexeme]), ReadFault>
-    ensures { Gives (λ x. (x.0, x.1.now)) result (part source.now depth grammar.params lexemes.now) }
+    ensures { Gives (λ x. (x.0, x.1.now)) result
+        (part source.now depth grammar.params lexemes.now) }
 {
     let mut found = Items::new(alloc);
     let (first, mut rest) = param(alloc, source, lexemes, depth)?;
@@ -77,7 +79,8 @@ pub fn bracketed_params<'a>(
     lexemes: &'a [Lexeme],
     depth: usize,
 ) -> Result<(Items<Param>, &'a [Lexeme]), ReadFault>
-    ensures { Gives (λ x. (x.0, x.1.now)) result (part source.now depth grammar.bracketed_params lexemes.now) }
+    ensures { Gives (λ x. (x.0, x.1.now)) result
+        (part source.now depth grammar.bracketed_params lexemes.now) }
 {
     let (_, rest) = expect(Terminal::OpenParen, lexemes)?;
     if !starts(&[Terminal::Upper, Terminal::Int], rest) {
@@ -97,7 +100,8 @@ pub fn optional_params<'a>(
     lexemes: &'a [Lexeme],
     depth: usize,
 ) -> Result<(Items<Param>, &'a [Lexeme]), ReadFault>
-    ensures { Gives (λ x. (x.0, x.1.now)) result (part source.now depth grammar.optional_params lexemes.now) }
+    ensures { Gives (λ x. (x.0, x.1.now)) result
+        (part source.now depth grammar.optional_params lexemes.now) }
 {
     if !starts(&[Terminal::OpenParen], lexemes) {
         return Ok((Items::new(alloc), lexemes));

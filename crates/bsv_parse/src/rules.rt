@@ -19,7 +19,8 @@ fn rule_condition<'a>(
     lexemes: &'a [Lexeme],
     depth: usize,
 ) -> Result<(Option<Expr>, &'a [Lexeme]), ReadFault>
-    ensures { Gives (λ x. (x.0, x.1.now)) result (part source.now depth grammar.rule_condition lexemes.now) }
+    ensures { Gives (λ x. (x.0, x.1.now)) result
+        (part source.now depth grammar.rule_condition lexemes.now) }
 {
     if !starts(&[Terminal::If, Terminal::OpenParen], lexemes) {
         return Ok((None, lexemes));
@@ -74,7 +75,8 @@ pub fn header<'a>(
     lexemes: &'a [Lexeme],
     depth: usize,
 ) -> Result<((Span, (WrittenType, Ident)), &'a [Lexeme]), ReadFault>
-    ensures { Gives (λ x. (x.0, x.1.now)) result (part source.now depth (grammar.header first) lexemes.now) }
+    ensures { Gives (λ x. (x.0, x.1.now)) result
+        (part source.now depth (grammar.header first) lexemes.now) }
 {
     let (start, rest) = expect(first, lexemes)?;
     let (written, rest) = written(alloc, source, rest, depth)?;
@@ -90,7 +92,8 @@ fn method_condition<'a>(
     lexemes: &'a [Lexeme],
     depth: usize,
 ) -> Result<(Option<Expr>, &'a [Lexeme]), ReadFault>
-    ensures { Gives (λ x. (x.0, x.1.now)) result (part source.now depth grammar.method_condition lexemes.now) }
+    ensures { Gives (λ x. (x.0, x.1.now)) result
+        (part source.now depth grammar.method_condition lexemes.now) }
 {
     if !starts(&[Terminal::If], lexemes) {
         return Ok((None, lexemes));
@@ -108,7 +111,8 @@ pub fn method<'a>(
     lexemes: &'a [Lexeme],
     depth: usize,
 ) -> Result<(Method, &'a [Lexeme]), ReadFault>
-    ensures { Gives (λ x. (x.0, x.1.now)) result (part source.now depth grammar.method lexemes.now) }
+    ensures { Gives (λ x. (x.0, x.1.now)) result
+        (part source.now depth grammar.method lexemes.now) }
 {
     let first = Terminal::Method;
     let ((start, front), rest) = header(alloc, source, first, lexemes, depth)?;
@@ -140,7 +144,8 @@ pub fn function<'a>(
     lexemes: &'a [Lexeme],
     depth: usize,
 ) -> Result<(Function, &'a [Lexeme]), ReadFault>
-    ensures { Gives (λ x. (x.0, x.1.now)) result (part source.now depth grammar.function lexemes.now) }
+    ensures { Gives (λ x. (x.0, x.1.now)) result
+        (part source.now depth grammar.function lexemes.now) }
 {
     let first = Terminal::Function;
     let ((start, front), rest) = header(alloc, source, first, lexemes, depth)?;

@@ -52,7 +52,8 @@ pub fn word<'a>(
     wanted: &[u8],
     lexemes: &'a [Lexeme],
 ) -> Result<(Span, &'a [Lexeme]), ReadFault>
-    ensures { Gives (λ x. (x.0, x.1.now)) result (take_leaf source.now (terminal ∷ []) (grammar.told_as wanted.now) lexemes.now) }
+    ensures { Gives (λ x. (x.0, x.1.now)) result
+        (take_leaf source.now (terminal ∷ []) (grammar.told_as wanted.now) lexemes.now) }
 {
     match lexemes {
         [next, rest @ ..] if same_terminal(next.terminal, terminal) => {
@@ -123,7 +124,8 @@ pub fn optional_arguments<'a>(
     lexemes: &'a [Lexeme],
     depth: usize,
 ) -> Result<(Option<(Items<Expr>, Span)>, &'a [Lexeme]), ReadFault>
-    ensures { Gives (λ x. (x.0, x.1.now)) result (part source.now depth grammar.optional_arguments lexemes.now) }
+    ensures { Gives (λ x. (x.0, x.1.now)) result
+        (part source.now depth grammar.optional_arguments lexemes.now) }
 {
     if !starts(&[Terminal::OpenParen], lexemes) {
         return Ok((None, lexemes));
@@ -140,7 +142,8 @@ fn called<'a>(
     lexemes: &'a [Lexeme],
     depth: usize,
 ) -> Result<((Ident, Option<(Items<Expr>, Span)>), &'a [Lexeme]), ReadFault>
-    ensures { Gives (λ x. (x.0, x.1.now)) result (part source.now depth grammar.called lexemes.now) }
+    ensures { Gives (λ x. (x.0, x.1.now)) result
+        (part source.now depth grammar.called lexemes.now) }
 {
     let (_, rest) = expect(Terminal::Dot, lexemes)?;
     let (method, rest) = name(alloc, source, Terminal::Lower, rest)?;
@@ -172,7 +175,8 @@ fn write<'a>(
     lexemes: &'a [Lexeme],
     depth: usize,
 ) -> Result<(Stmt, &'a [Lexeme]), ReadFault>
-    ensures { Gives (λ x. (x.0, x.1.now)) result (part source.now depth (grammar.write place) lexemes.now) }
+    ensures { Gives (λ x. (x.0, x.1.now)) result
+        (part source.now depth (grammar.write place) lexemes.now) }
 {
     let place = Boxed::new(alloc, place)?;
     let (_, rest) = expect(Terminal::LessEqual, lexemes)?;
@@ -190,7 +194,8 @@ fn call_end<'a>(
     lexemes: &'a [Lexeme],
     depth: usize,
 ) -> Result<(Stmt, &'a [Lexeme]), ReadFault>
-    ensures { Gives (λ x. (x.0, x.1.now)) result (part source.now depth (grammar.call_end place) lexemes.now) }
+    ensures { Gives (λ x. (x.0, x.1.now)) result
+        (part source.now depth (grammar.call_end place) lexemes.now) }
 {
     let place = Boxed::new(alloc, place)?;
     let (found, rest) = called(alloc, source, lexemes, depth)?;
@@ -211,7 +216,8 @@ fn assign<'a>(
     lexemes: &'a [Lexeme],
     depth: usize,
 ) -> Result<(Stmt, &'a [Lexeme]), ReadFault>
-    ensures { Gives (λ x. (x.0, x.1.now)) result (part source.now depth (grammar.assign place) lexemes.now) }
+    ensures { Gives (λ x. (x.0, x.1.now)) result
+        (part source.now depth (grammar.assign place) lexemes.now) }
 {
     let Place::Name(span, name) = place else {
         return Err(refusal(lexemes));
@@ -230,7 +236,8 @@ fn used<'a>(
     lexemes: &'a [Lexeme],
     depth: usize,
 ) -> Result<(Stmt, &'a [Lexeme]), ReadFault>
-    ensures { Gives (λ x. (x.0, x.1.now)) result (part source.now depth (grammar.used place) lexemes.now) }
+    ensures { Gives (λ x. (x.0, x.1.now)) result
+        (part source.now depth (grammar.used place) lexemes.now) }
 {
     if starts(&[Terminal::LessEqual], lexemes) {
         return write(alloc, source, place, lexemes, depth);
@@ -249,7 +256,8 @@ fn name_led<'a>(
     lexemes: &'a [Lexeme],
     depth: usize,
 ) -> Result<(Stmt, &'a [Lexeme]), ReadFault>
-    ensures { Gives (λ x. (x.0, x.1.now)) result (part source.now depth grammar.name_led lexemes.now) }
+    ensures { Gives (λ x. (x.0, x.1.now)) result
+        (part source.now depth grammar.name_led lexemes.now) }
 {
     let (place, rest) = place(alloc, source, lexemes, depth)?;
     used(alloc, source, place, rest, depth)
@@ -263,7 +271,8 @@ pub fn declared<'a>(
     lexemes: &'a [Lexeme],
     depth: usize,
 ) -> Result<(DeclaredType, &'a [Lexeme]), ReadFault>
-    ensures { Gives (λ x. (x.0, x.1.now)) result (part source.now depth grammar.declared lexemes.now) }
+    ensures { Gives (λ x. (x.0, x.1.now)) result
+        (part source.now depth grammar.declared lexemes.now) }
 {
     if starts(&[Terminal::Let], lexemes) {
         let (span, rest) = expect(Terminal::Let, lexemes)?;
@@ -299,7 +308,8 @@ fn given<'a>(
     lexemes: &'a [Lexeme],
     depth: usize,
 ) -> Result<(Stmt, &'a [Lexeme]), ReadFault>
-    ensures { Gives (λ x. (x.0, x.1.now)) result (part source.now depth (grammar.given (declared, name)) lexemes.now) }
+    ensures { Gives (λ x. (x.0, x.1.now)) result
+        (part source.now depth (grammar.given (declared, name)) lexemes.now) }
 {
     let start = declared.span();
     let declared = Boxed::new(alloc, declared)?;
@@ -328,7 +338,8 @@ fn type_led<'a>(
     lexemes: &'a [Lexeme],
     depth: usize,
 ) -> Result<(Stmt, &'a [Lexeme]), ReadFault>
-    ensures { Gives (λ x. (x.0, x.1.now)) result (part source.now depth grammar.type_led lexemes.now) }
+    ensures { Gives (λ x. (x.0, x.1.now)) result
+        (part source.now depth grammar.type_led lexemes.now) }
 {
     let (declared, rest) = declared(alloc, source, lexemes, depth)?;
     let (name, rest) = name(alloc, source, Terminal::Lower, rest)?;
@@ -343,7 +354,8 @@ fn returned<'a>(
     lexemes: &'a [Lexeme],
     depth: usize,
 ) -> Result<(Stmt, &'a [Lexeme]), ReadFault>
-    ensures { Gives (λ x. (x.0, x.1.now)) result (part source.now depth grammar.returned lexemes.now) }
+    ensures { Gives (λ x. (x.0, x.1.now)) result
+        (part source.now depth grammar.returned lexemes.now) }
 {
     let (start, rest) = expect(Terminal::Return, lexemes)?;
     let ((value, end), rest) = ended(alloc, source, rest, depth)?;
@@ -358,7 +370,8 @@ fn no_action<'a>(
     lexemes: &'a [Lexeme],
     depth: usize,
 ) -> Result<(Stmt, &'a [Lexeme]), ReadFault>
-    ensures { Gives (λ x. (x.0, x.1.now)) result (part source.now depth grammar.no_action lexemes.now) }
+    ensures { Gives (λ x. (x.0, x.1.now)) result
+        (part source.now depth grammar.no_action lexemes.now) }
 {
     let (start, rest) = expect(Terminal::NoAction, lexemes)?;
     let (end, rest) = expect(Terminal::Semicolon, rest)?;
@@ -373,7 +386,8 @@ pub fn simple<'a>(
     lexemes: &'a [Lexeme],
     depth: usize,
 ) -> Result<(Stmt, &'a [Lexeme]), ReadFault>
-    ensures { Gives (λ x. (x.0, x.1.now)) result (part source.now depth grammar.simple lexemes.now) }
+    ensures { Gives (λ x. (x.0, x.1.now)) result
+        (part source.now depth grammar.simple lexemes.now) }
 {
     if starts(&[Terminal::Lower], lexemes) {
         return name_led(alloc, source, lexemes, depth);
@@ -395,7 +409,8 @@ fn assignment<'a>(
     lexemes: &'a [Lexeme],
     depth: usize,
 ) -> Result<((Ident, Expr), &'a [Lexeme]), ReadFault>
-    ensures { Gives (λ x. (x.0, x.1.now)) result (part source.now depth grammar.assignment lexemes.now) }
+    ensures { Gives (λ x. (x.0, x.1.now)) result
+        (part source.now depth grammar.assignment lexemes.now) }
 {
     let (variable, rest) = name(alloc, source, Terminal::Lower, lexemes)?;
     let (_, rest) = expect(Terminal::Equal, rest)?;
@@ -412,7 +427,8 @@ fn heading<'a>(
     lexemes: &'a [Lexeme],
     depth: usize,
 ) -> Result<(((Ident, Expr), (Expr, (Ident, Expr))), &'a [Lexeme]), ReadFault>
-    ensures { Gives (λ x. (x.0, x.1.now)) result (part source.now depth grammar.heading lexemes.now) }
+    ensures { Gives (λ x. (x.0, x.1.now)) result
+        (part source.now depth grammar.heading lexemes.now) }
 {
     let (_, rest) = word(source, Terminal::Upper, b"Integer", lexemes)?;
     let (first, rest) = assignment(alloc, source, rest, depth)?;
@@ -471,7 +487,8 @@ fn matched<'a>(
     lexemes: &'a [Lexeme],
     depth: usize,
 ) -> Result<(Option<Ident>, &'a [Lexeme]), ReadFault>
-    ensures { Gives (λ x. (x.0, x.1.now)) result (part source.now depth grammar.matched lexemes.now) }
+    ensures { Gives (λ x. (x.0, x.1.now)) result
+        (part source.now depth grammar.matched lexemes.now) }
 {
     if !starts(&[Terminal::Matches], lexemes) {
         return Ok((None, lexemes));
@@ -492,7 +509,8 @@ pub fn condition<'a>(
     lexemes: &'a [Lexeme],
     depth: usize,
 ) -> Result<(Condition, &'a [Lexeme]), ReadFault>
-    ensures { Gives (λ x. (x.0, x.1.now)) result (part source.now depth grammar.condition lexemes.now) }
+    ensures { Gives (λ x. (x.0, x.1.now)) result
+        (part source.now depth grammar.condition lexemes.now) }
 {
     let (subject, rest) = expr(alloc, source, lexemes, depth, false)?;
     let (found, rest) = matched(alloc, source, rest, depth)?;

@@ -146,7 +146,8 @@ fn valued<'a>(
     lexemes: &'a [Lexeme],
     depth: usize,
 ) -> Result<((Expr, Span), &'a [Lexeme]), ReadFault>
-    ensures { Gives (λ x. (x.0, x.1.now)) result (part source.now depth grammar.valued lexemes.now) }
+    ensures { Gives (λ x. (x.0, x.1.now)) result
+        (part source.now depth grammar.valued lexemes.now) }
 {
     let (_, rest) = expect(Terminal::Equal, lexemes)?;
     let (value, rest) = expr(alloc, source, rest, depth, false)?;
@@ -162,7 +163,8 @@ fn indexed<'a>(
     lexemes: &'a [Lexeme],
     depth: usize,
 ) -> Result<(Expr, &'a [Lexeme]), ReadFault>
-    ensures { Gives (λ x. (x.0, x.1.now)) result (part source.now depth grammar.indexed lexemes.now) }
+    ensures { Gives (λ x. (x.0, x.1.now)) result
+        (part source.now depth grammar.indexed lexemes.now) }
 {
     let (_, rest) = expect(Terminal::OpenBracket, lexemes)?;
     let (at, rest) = expr(alloc, source, rest, depth, false)?;
@@ -178,7 +180,8 @@ fn given_behind<'a>(
     lexemes: &'a [Lexeme],
     depth: usize,
 ) -> Result<(Given, &'a [Lexeme]), ReadFault>
-    ensures { Gives (λ x. (x.0, x.1.now)) result (part source.now depth grammar.given_behind lexemes.now) }
+    ensures { Gives (λ x. (x.0, x.1.now)) result
+        (part source.now depth grammar.given_behind lexemes.now) }
 {
     if starts(&[Terminal::LeftArrow], lexemes) {
         let ((make, close), rest) = made(alloc, source, lexemes, depth)?;
@@ -217,7 +220,8 @@ fn defined<'a>(
     lexemes: &'a [Lexeme],
     depth: usize,
 ) -> Result<(ModuleStmt, &'a [Lexeme]), ReadFault>
-    ensures { Gives (λ x. (x.0, x.1.now)) result (part source.now depth grammar.defined lexemes.now) }
+    ensures { Gives (λ x. (x.0, x.1.now)) result
+        (part source.now depth grammar.defined lexemes.now) }
 {
     let (start, rest) = expect(Terminal::Let, lexemes)?;
     let (name, rest) = name(alloc, source, Terminal::Lower, rest)?;
@@ -234,7 +238,8 @@ fn changed_behind<'a>(
     lexemes: &'a [Lexeme],
     depth: usize,
 ) -> Result<(Changed, &'a [Lexeme]), ReadFault>
-    ensures { Gives (λ x. (x.0, x.1.now)) result (part source.now depth grammar.changed_behind lexemes.now) }
+    ensures { Gives (λ x. (x.0, x.1.now)) result
+        (part source.now depth grammar.changed_behind lexemes.now) }
 {
     if starts(&[Terminal::OpenBracket], lexemes) {
         let (at, rest) = indexed(alloc, source, lexemes, depth)?;
@@ -253,7 +258,8 @@ fn rewritten<'a>(
     lexemes: &'a [Lexeme],
     depth: usize,
 ) -> Result<(ModuleStmt, &'a [Lexeme]), ReadFault>
-    ensures { Gives (λ x. (x.0, x.1.now)) result (part source.now depth grammar.rewritten lexemes.now) }
+    ensures { Gives (λ x. (x.0, x.1.now)) result
+        (part source.now depth grammar.rewritten lexemes.now) }
 {
     let (name, rest) = name(alloc, source, Terminal::Lower, lexemes)?;
     let (found, rest) = changed_behind(alloc, source, rest, depth)?;
@@ -268,7 +274,8 @@ pub fn simple<'a>(
     lexemes: &'a [Lexeme],
     depth: usize,
 ) -> Result<(ModuleStmt, &'a [Lexeme]), ReadFault>
-    ensures { Gives (λ x. (x.0, x.1.now)) result (part source.now depth grammar.simple lexemes.now) }
+    ensures { Gives (λ x. (x.0, x.1.now)) result
+        (part source.now depth grammar.simple lexemes.now) }
 {
     if starts(&[Terminal::Upper, Terminal::Int], lexemes) {
         return typed(alloc, source, lexemes, depth);

@@ -183,7 +183,8 @@ pub fn stmts<'a>(
     lexemes: &'a [Lexeme],
     depth: usize,
 ) -> Result<(Items<Stmt>, &'a [Lexeme]), ReadFault>
-    ensures { Gives (λ x. (x.0, x.1.now)) result (within source.now depth grammar.stmts lexemes.now) }
+    ensures { Gives (λ x. (x.0, x.1.now)) result
+        (within source.now depth grammar.stmts lexemes.now) }
 {
     let mut found = Items::new(alloc);
     let mut rest = lexemes;
@@ -207,7 +208,8 @@ fn block<'a>(
     lexemes: &'a [Lexeme],
     depth: usize,
 ) -> Result<(Stmt, &'a [Lexeme]), ReadFault>
-    ensures { Gives (λ x. (x.0, x.1.now)) result (within source.now depth grammar.block lexemes.now) }
+    ensures { Gives (λ x. (x.0, x.1.now)) result
+        (within source.now depth grammar.block lexemes.now) }
 {
     let (open, rest) = expect(Terminal::Begin, lexemes)?;
     let (found, rest) = stmts(alloc, source, rest, depth)?;
@@ -241,7 +243,8 @@ fn branch<'a>(
     lexemes: &'a [Lexeme],
     depth: usize,
 ) -> Result<(Branch, &'a [Lexeme]), ReadFault>
-    ensures { Gives (λ x. (x.0, x.1.now)) result (within source.now depth grammar.branch lexemes.now) }
+    ensures { Gives (λ x. (x.0, x.1.now)) result
+        (within source.now depth grammar.branch lexemes.now) }
 {
     let (start, rest) = expect(Terminal::If, lexemes)?;
     let (_, rest) = expect(Terminal::OpenParen, rest)?;
@@ -267,7 +270,8 @@ fn else_part<'a>(
     lexemes: &'a [Lexeme],
     depth: usize,
 ) -> Result<(ElsePart, &'a [Lexeme]), ReadFault>
-    ensures { Gives (λ x. (x.0, x.1.now)) result (within source.now depth grammar.else_part lexemes.now) }
+    ensures { Gives (λ x. (x.0, x.1.now)) result
+        (within source.now depth grammar.else_part lexemes.now) }
 {
     let (_, rest) = expect(Terminal::Else, lexemes)?;
     if starts(&[Terminal::If], rest) {
@@ -287,7 +291,8 @@ fn all_branches<'a>(
     lexemes: &'a [Lexeme],
     depth: usize,
 ) -> Result<(Branches, &'a [Lexeme]), ReadFault>
-    ensures { Gives (λ x. (x.0, x.1.now)) result (within source.now depth grammar.branches lexemes.now) }
+    ensures { Gives (λ x. (x.0, x.1.now)) result
+        (within source.now depth grammar.branches lexemes.now) }
 {
     let (first, mut rest) = branch(alloc, source, lexemes, depth)?;
     let mut found = Branches {
@@ -315,7 +320,8 @@ fn if_stmt<'a>(
     lexemes: &'a [Lexeme],
     depth: usize,
 ) -> Result<(Stmt, &'a [Lexeme]), ReadFault>
-    ensures { Gives (λ x. (x.0, x.1.now)) result (within source.now depth grammar.if_stmt lexemes.now) }
+    ensures { Gives (λ x. (x.0, x.1.now)) result
+        (within source.now depth grammar.if_stmt lexemes.now) }
 {
     let (found, rest) = all_branches(alloc, source, lexemes, depth)?;
     Ok((if_of(alloc, found)?, rest))
@@ -330,7 +336,8 @@ fn arm_or_if<'a>(
     lexemes: &'a [Lexeme],
     depth: usize,
 ) -> Result<(Stmt, &'a [Lexeme]), ReadFault>
-    ensures { Gives (λ x. (x.0, x.1.now)) result (within source.now depth grammar.arm_or_if lexemes.now) }
+    ensures { Gives (λ x. (x.0, x.1.now)) result
+        (within source.now depth grammar.arm_or_if lexemes.now) }
 {
     if starts(&[Terminal::If], lexemes) {
         return if_stmt(alloc, source, lexemes, depth);
@@ -347,7 +354,8 @@ fn inner_for<'a>(
     lexemes: &'a [Lexeme],
     depth: usize,
 ) -> Result<(Stmt, &'a [Lexeme]), ReadFault>
-    ensures { Gives (λ x. (x.0, x.1.now)) result (within source.now depth grammar.inner_for lexemes.now) }
+    ensures { Gives (λ x. (x.0, x.1.now)) result
+        (within source.now depth grammar.inner_for lexemes.now) }
 {
     let (head, rest) = head(alloc, source, lexemes, depth)?;
     let head = Boxed::new(alloc, head)?;
@@ -364,7 +372,8 @@ fn for_body<'a>(
     lexemes: &'a [Lexeme],
     depth: usize,
 ) -> Result<(Stmt, &'a [Lexeme]), ReadFault>
-    ensures { Gives (λ x. (x.0, x.1.now)) result (within source.now depth grammar.for_body lexemes.now) }
+    ensures { Gives (λ x. (x.0, x.1.now)) result
+        (within source.now depth grammar.for_body lexemes.now) }
 {
     if starts(&[Terminal::For], lexemes) {
         return inner_for(alloc, source, lexemes, depth);
@@ -381,7 +390,8 @@ fn for_stmt<'a>(
     lexemes: &'a [Lexeme],
     depth: usize,
 ) -> Result<(Stmt, &'a [Lexeme]), ReadFault>
-    ensures { Gives (λ x. (x.0, x.1.now)) result (within source.now depth grammar.for_stmt lexemes.now) }
+    ensures { Gives (λ x. (x.0, x.1.now)) result
+        (within source.now depth grammar.for_stmt lexemes.now) }
 {
     let (head, rest) = head(alloc, source, lexemes, depth)?;
     let head = Boxed::new(alloc, head)?;
@@ -398,7 +408,8 @@ fn case_arm<'a>(
     lexemes: &'a [Lexeme],
     depth: usize,
 ) -> Result<(CaseArm, &'a [Lexeme]), ReadFault>
-    ensures { Gives (λ x. (x.0, x.1.now)) result (within source.now depth grammar.case_arm lexemes.now) }
+    ensures { Gives (λ x. (x.0, x.1.now)) result
+        (within source.now depth grammar.case_arm lexemes.now) }
 {
     let (labels, rest) = exprs(alloc, source, lexemes, depth)?;
     let (_, rest) = expect(Terminal::Colon, rest)?;
@@ -415,7 +426,8 @@ fn case_arms<'a>(
     lexemes: &'a [Lexeme],
     depth: usize,
 ) -> Result<(Items<CaseArm>, &'a [Lexeme]), ReadFault>
-    ensures { Gives (λ x. (x.0, x.1.now)) result (within source.now depth grammar.case_arms lexemes.now) }
+    ensures { Gives (λ x. (x.0, x.1.now)) result
+        (within source.now depth grammar.case_arms lexemes.now) }
 {
     let mut found = Items::new(alloc);
     let mut rest = lexemes;
@@ -439,7 +451,8 @@ fn default_arm<'a>(
     lexemes: &'a [Lexeme],
     depth: usize,
 ) -> Result<(Option<Stmt>, &'a [Lexeme]), ReadFault>
-    ensures { Gives (λ x. (x.0, x.1.now)) result (within source.now depth grammar.default_arm lexemes.now) }
+    ensures { Gives (λ x. (x.0, x.1.now)) result
+        (within source.now depth grammar.default_arm lexemes.now) }
 {
     if !starts(&[Terminal::Default], lexemes) {
         return Ok((None, lexemes));
@@ -459,7 +472,8 @@ fn case_inside<'a>(
     lexemes: &'a [Lexeme],
     depth: usize,
 ) -> Result<(Cases, &'a [Lexeme]), ReadFault>
-    ensures { Gives (λ x. (x.0, x.1.now)) result (within source.now depth grammar.case_inside lexemes.now) }
+    ensures { Gives (λ x. (x.0, x.1.now)) result
+        (within source.now depth grammar.case_inside lexemes.now) }
 {
     let (_, rest) = expect(Terminal::OpenParen, lexemes)?;
     let (subject, rest) = expr(alloc, source, rest, depth, false)?;
@@ -484,7 +498,8 @@ fn case_stmt<'a>(
     lexemes: &'a [Lexeme],
     depth: usize,
 ) -> Result<(Stmt, &'a [Lexeme]), ReadFault>
-    ensures { Gives (λ x. (x.0, x.1.now)) result (within source.now depth grammar.case_stmt lexemes.now) }
+    ensures { Gives (λ x. (x.0, x.1.now)) result
+        (within source.now depth grammar.case_stmt lexemes.now) }
 {
     let (open, rest) = expect(Terminal::Case, lexemes)?;
     let (found, rest) = case_inside(alloc, source, rest, depth)?;
@@ -503,7 +518,8 @@ fn stmt_body<'a>(
     lexemes: &'a [Lexeme],
     depth: usize,
 ) -> Result<(Stmt, &'a [Lexeme]), ReadFault>
-    ensures { Gives (λ x. (x.0, x.1.now)) result (within source.now depth grammar.stmt_body lexemes.now) }
+    ensures { Gives (λ x. (x.0, x.1.now)) result
+        (within source.now depth grammar.stmt_body lexemes.now) }
 {
     if starts(&[Terminal::If], lexemes) {
         return if_stmt(alloc, source, lexemes, depth);

@@ -16,7 +16,8 @@ fn size<'a>(
     source: &[u8],
     lexemes: &'a [Lexeme],
 ) -> Result<((Span, Literal), &'a [Lexeme]), ReadFault>
-    ensures { Gives (λ x. (x.0, x.1.now)) result (reading.take_leaf source.now (word.Number ∷ []) grammar.size_told lexemes.now) }
+    ensures { Gives (λ x. (x.0, x.1.now)) result
+        (reading.take_leaf source.now (word.Number ∷ []) grammar.size_told lexemes.now) }
 {
     match lexemes {
         [next, rest @ ..] if same_terminal(next.terminal, Terminal::Number) => {
@@ -74,7 +75,8 @@ fn argument<'a>(
     lexemes: &'a [Lexeme],
     depth: usize,
 ) -> Result<(TypeArgument, &'a [Lexeme]), ReadFault>
-    ensures { Gives (λ x. (x.0, x.1.now)) result (part source.now depth grammar.argument lexemes.now) }
+    ensures { Gives (λ x. (x.0, x.1.now)) result
+        (part source.now depth grammar.argument lexemes.now) }
 {
     if starts(&[Terminal::Number], lexemes) {
         let ((span, value), rest) = size(source, lexemes)?;
@@ -93,7 +95,8 @@ fn applied<'a>(
     lexemes: &'a [Lexeme],
     depth: usize,
 ) -> Result<(Option<(TypeArgument, Span)>, &'a [Lexeme]), ReadFault>
-    ensures { Gives (λ x. (x.0, x.1.now)) result (part source.now depth grammar.applied lexemes.now) }
+    ensures { Gives (λ x. (x.0, x.1.now)) result
+        (part source.now depth grammar.applied lexemes.now) }
 {
     if !starts(&[Terminal::Hash], lexemes) {
         return Ok((None, lexemes));

@@ -89,7 +89,8 @@ pub fn given(space: Space) -> &'static [&'static [u8]]
 
 /// A scope of these names, in their order.
 fn scope_of(alloc: Global, names: &[&[u8]]) -> Result<Scope<()>, OutOfMemory>
-    ensures { IfOk result (λ scope. entries scope ≡ spec.defined_all (map (λ name. name.now) names.now)) }
+    ensures { IfOk result (λ scope. entries scope
+        ≡ spec.defined_all (map (λ name. name.now) names.now)) }
 {
     let mut scope = Scope::new(alloc);
     for text in names {
@@ -111,10 +112,14 @@ impl Definitions {
     /// The names that the language gives, and no other.
     #[tactic(auto, using(crate::proofs::Tables::all_given))]
     pub fn given(alloc: Global) -> Result<Definitions, OutOfMemory>
-        ensures types { IfOk result (λ definitions. names_of space.Types definitions ≡ given_names space.Types) }
-        ensures labels { IfOk result (λ definitions. names_of space.Labels definitions ≡ given_names space.Labels) }
-        ensures functions { IfOk result (λ definitions. names_of space.Functions definitions ≡ given_names space.Functions) }
-        ensures modules { IfOk result (λ definitions. names_of space.Modules definitions ≡ given_names space.Modules) }
+        ensures types { IfOk result (λ definitions. names_of space.Types definitions
+            ≡ given_names space.Types) }
+        ensures labels { IfOk result (λ definitions. names_of space.Labels definitions
+            ≡ given_names space.Labels) }
+        ensures functions { IfOk result (λ definitions. names_of space.Functions definitions
+            ≡ given_names space.Functions) }
+        ensures modules { IfOk result (λ definitions. names_of space.Modules definitions
+            ≡ given_names space.Modules) }
     {
         Ok(Definitions {
             types: scope_of(alloc, given(Space::Types))?,
@@ -127,10 +132,13 @@ impl Definitions {
     /// Defines the name in the space, behind the names that it has, and says whether it was new there.
     #[tactic(auto, using(crate::proofs::Names::defined))]
     pub fn define(&mut self, space: Space, name: Name) -> Result<bool, AllocError>
-        ensures is_new { IfOk result (λ is_new. is_new ≡ not (is_listed name (names_of space self.old))) }
-        ensures defined { OnOk result (names_of space self.new ≡ with_new_name name (names_of space self.old)) }
+        ensures is_new { IfOk result (λ is_new. is_new
+            ≡ not (is_listed name (names_of space self.old))) }
+        ensures defined { OnOk result (names_of space self.new
+            ≡ with_new_name name (names_of space self.old)) }
         ensures kept { OnErr result (names_of space self.new ≡ names_of space self.old) }
-        ensures others { (other : Space) → other ≢ space → names_of other self.new ≡ names_of other self.old }
+        ensures others { (other : Space) → other ≢ space
+            → names_of other self.new ≡ names_of other self.old }
     {
         match space {
             Space::Types => self.types.define(name, ()),

@@ -67,8 +67,10 @@ impl<V: Drop> Scope<V> {
     /// definition stays.
     #[tactic(auto, using(crate::proofs::Entries::define))]
     pub fn define(&mut self, name: Name, value: V) -> Result<bool, AllocError>
-        ensures is_new { IfOk result (λ is_new. is_new ≡ not (spec.is_defined name (entries self.old))) }
-        ensures defined { OnOk result (entries self.new ≡ spec.with_new name value (entries self.old)) }
+        ensures is_new { IfOk result (λ is_new. is_new
+            ≡ not (spec.is_defined name (entries self.old))) }
+        ensures defined { OnOk result (entries self.new
+            ≡ spec.with_new name value (entries self.old)) }
         ensures kept { OnErr result (entries self.new ≡ entries self.old) }
     {
         if self.is_defined(&name) {

@@ -46,7 +46,8 @@ impl<V: Drop> Scopes<V> {
     #[tactic(auto, using(crate::proofs::Layers::layers))]
     pub fn define(&mut self, name: Name, value: V) -> Result<bool, AllocError>
         ensures is_new { IfOk result (λ is_new. is_new ≡ spec.is_new_in name (scopes self.old)) }
-        ensures defined { OnOk result (scopes self.new ≡ spec.defined_in name value (scopes self.old)) }
+        ensures defined { OnOk result (scopes self.new
+            ≡ spec.defined_in name value (scopes self.old)) }
         ensures kept { OnErr result (scopes self.new ≡ scopes self.old) }
     {
         let Some(mut innermost) = self.scopes.pop() else {
@@ -61,7 +62,8 @@ impl<V: Drop> Scopes<V> {
     /// How many names the scopes have together, if a `u32` holds that number.
     #[tactic(auto, using(crate::proofs::Layers::layers))]
     pub fn count(&self) -> Option<u32>
-        ensures { MatchOption result (2 ^ 32 ≤ spec.in_scope (scopes self.now)) (λ n. n ≡ spec.in_scope (scopes self.now)) }
+        ensures { MatchOption result (2 ^ 32 ≤ spec.in_scope (scopes self.now))
+            (λ n. n ≡ spec.in_scope (scopes self.now)) }
     {
         let mut count: u32 = 0;
         let mut rest = self.scopes.as_slice();

@@ -100,7 +100,8 @@ fn report_clocks<F: Files, O: Sink>(
     requires room { 0 < length buffer.old }
     requires current { IsSome (F.reading files.old).current }
     ensures done { OnOk result ((trace : List ℕ) → rest (F.reading files.old) ≡ Some trace
-        → IsClean trace × HasReport machine.now (O.writing out.old) (clocks_of trace) (O.writing out.new)) }
+        → IsClean trace × HasReport machine.now (O.writing out.old) (clocks_of trace)
+        (O.writing out.new)) }
     ensures bad { (number : ℕ) → result ≡ Err (Stop.BadLine number) → (trace : List ℕ)
         → rest (F.reading files.old) ≡ Some trace
         → HasBadLine trace × (number ≡ clocks_of trace + 1)
@@ -113,7 +114,8 @@ fn report_clocks<F: Files, O: Sink>(
     ensures own { IsOwn result }
     ensures no_memory { result ≡ Err Stop.OutOfMemory → ⊥ }
     ensures prefix { (trace : List ℕ) → rest (F.reading files.old) ≡ Some trace
-        → AppendsPrefix (report_so_far machine.now (clocks_of trace)) (O.writing out.old) (O.writing out.new) }
+        → AppendsPrefix (report_so_far machine.now (clocks_of trace)) (O.writing out.old)
+        (O.writing out.new) }
     ensures file { current_name (F.reading files.new) ≡ current_name (F.reading files.old) }
     ensures within { (trace : List ℕ) → rest (F.reading files.old) ≡ Some trace
         → bytes_given (F.reading files.new)
@@ -146,13 +148,16 @@ fn simulate<F: Files, O: Sink>(
     out: &mut O,
 ) -> Result<(), Stop>
     requires machine { IsMachine machine.now }
-    ensures done { OnOk result ((contents : List ℕ → List ℕ) → (F.reading files.old).contents ≡ Some contents
+    ensures done { OnOk result ((contents : List ℕ → List ℕ)
+        → (F.reading files.old).contents ≡ Some contents
         → IsClean (contents trace.now)
-        × HasReport machine.now (O.writing out.old) (clocks_of (contents trace.now)) (O.writing out.new)) }
+        × HasReport machine.now (O.writing out.old) (clocks_of (contents trace.now))
+        (O.writing out.new)) }
     ensures bad { (number : ℕ) → result ≡ Err (Stop.BadLine number) → (contents : List ℕ → List ℕ)
         → (F.reading files.old).contents ≡ Some contents
         → HasBadLine (contents trace.now) × (number ≡ clocks_of (contents trace.now) + 1)
-        × HasReport machine.now (O.writing out.old) (clocks_of (contents trace.now)) (O.writing out.new) }
+        × HasReport machine.now (O.writing out.old) (clocks_of (contents trace.now))
+        (O.writing out.new) }
     ensures unread { result ≡ Err Stop.TraceUnread
         → MayFault (F.reading files.old).faults (F.reading files.new).faults
         × ((F.reading files.new).blamed ≡ Some trace.now) }
@@ -165,9 +170,11 @@ fn simulate<F: Files, O: Sink>(
         (O.writing out.old) (O.writing out.new) }
     ensures within { (contents : List ℕ → List ℕ) → (F.reading files.old).contents ≡ Some contents
         → ReadsWithin trace.now contents (F.reading files.old) (F.reading files.new) }
-    ensures done_within { OnOk result ((contents : List ℕ → List ℕ) → (F.reading files.old).contents ≡ Some contents
+    ensures done_within { OnOk result ((contents : List ℕ → List ℕ)
+        → (F.reading files.old).contents ≡ Some contents
         → IsTraceWithin trace.now contents (F.reading files.new)) }
-    ensures bad_within { (number : ℕ) → result ≡ Err (Stop.BadLine number) → (contents : List ℕ → List ℕ)
+    ensures bad_within { (number : ℕ) → result ≡ Err (Stop.BadLine number)
+        → (contents : List ℕ → List ℕ)
         → (F.reading files.old).contents ≡ Some contents
         → IsTraceWithin trace.now contents (F.reading files.new) }
     ensures files_count { (F.reading files.old).faults ≤ (F.reading files.new).faults }
@@ -191,12 +198,14 @@ fn simulate<F: Files, O: Sink>(
 fn load_typed<F: Files>(alloc: Global, files: &mut F, name: &str) -> Result<Loaded, CompileFault>
     ensures loaded { IfOk result (λ l. (contents : List ℕ → List ℕ)
         → (F.reading files.old).contents ≡ Some contents → IsTyped name.now contents l) }
-    ensures refused { (r : TheRefusal) → result ≡ Err (fault.Refused r) → (contents : List ℕ → List ℕ)
+    ensures refused { (r : TheRefusal) → result ≡ Err (fault.Refused r)
+        → (contents : List ℕ → List ℕ)
         → (F.reading files.old).contents ≡ Some contents → Rejects name.now contents r }
     ensures read_fault { (blamed : List ℕ) → result ≡ Err (fault.ReadFault blamed)
         → MayFault (F.reading files.old).faults (F.reading files.new).faults
         × ((F.reading files.new).blamed ≡ Some blamed) }
-    ensures reached { (blamed : List ℕ) → result ≡ Err (fault.ReadFault blamed) → (contents : List ℕ → List ℕ)
+    ensures reached { (blamed : List ℕ) → result ≡ Err (fault.ReadFault blamed)
+        → (contents : List ℕ → List ℕ)
         → (F.reading files.old).contents ≡ Some contents → Reaches name.now contents blamed }
     ensures within { read_limit < bytes_given (F.reading files.new)
         → (F.reading files.new).current ≡ (F.reading files.old).current }
@@ -217,16 +226,21 @@ pub(crate) fn answer<F: Files, O: Sink>(
     files: &mut F,
     out: &mut O,
 ) -> Result<(), Stop>
-    ensures done { OnOk result ((contents : List ℕ → List ℕ) → (F.reading files.old).contents ≡ Some contents
+    ensures done { OnOk result ((contents : List ℕ → List ℕ)
+        → (F.reading files.old).contents ≡ Some contents
         → (m : TheMachine) × IsPlain form.entry.file.now form.entry.top.now contents m
         × IsClean (contents form.entry.trace.now)
-        × HasReport m (O.writing out.old) (clocks_of (contents form.entry.trace.now)) (O.writing out.new)) }
+        × HasReport m (O.writing out.old) (clocks_of (contents form.entry.trace.now))
+        (O.writing out.new)) }
     ensures bad { (number : ℕ) → result ≡ Err (Stop.BadLine number) → (contents : List ℕ → List ℕ)
         → (F.reading files.old).contents ≡ Some contents
         → (m : TheMachine) × IsPlain form.entry.file.now form.entry.top.now contents m
-        × HasBadLine (contents form.entry.trace.now) × (number ≡ clocks_of (contents form.entry.trace.now) + 1)
-        × HasReport m (O.writing out.old) (clocks_of (contents form.entry.trace.now)) (O.writing out.new) }
-    ensures refused { (r : TheRefusal) → result ≡ Err (Stop.Refused r) → (contents : List ℕ → List ℕ)
+        × HasBadLine (contents form.entry.trace.now)
+        × (number ≡ clocks_of (contents form.entry.trace.now) + 1)
+        × HasReport m (O.writing out.old) (clocks_of (contents form.entry.trace.now))
+        (O.writing out.new) }
+    ensures refused { (r : TheRefusal) → result ≡ Err (Stop.Refused r)
+        → (contents : List ℕ → List ℕ)
         → (F.reading files.old).contents ≡ Some contents → Rejects form.entry.file.now contents r }
     ensures not_yet { result ≡ Err Stop.NotYet → (contents : List ℕ → List ℕ)
         → (F.reading files.old).contents ≡ Some contents
@@ -254,9 +268,11 @@ pub(crate) fn answer<F: Files, O: Sink>(
         → O.writing out.new ≡ O.writing out.old }
     ensures within { (contents : List ℕ → List ℕ) → (F.reading files.old).contents ≡ Some contents
         → ReadsWithin form.entry.trace.now contents (F.reading files.old) (F.reading files.new) }
-    ensures done_within { OnOk result ((contents : List ℕ → List ℕ) → (F.reading files.old).contents ≡ Some contents
+    ensures done_within { OnOk result ((contents : List ℕ → List ℕ)
+        → (F.reading files.old).contents ≡ Some contents
         → IsTraceWithin form.entry.trace.now contents (F.reading files.new)) }
-    ensures bad_within { (number : ℕ) → result ≡ Err (Stop.BadLine number) → (contents : List ℕ → List ℕ)
+    ensures bad_within { (number : ℕ) → result ≡ Err (Stop.BadLine number)
+        → (contents : List ℕ → List ℕ)
         → (F.reading files.old).contents ≡ Some contents
         → IsTraceWithin form.entry.trace.now contents (F.reading files.new) }
     ensures files_count { (F.reading files.old).faults ≤ (F.reading files.new).faults }

@@ -17,7 +17,8 @@ use itoa::Buffer;
 fn tell<E: Sink>(err: &mut E, pieces: &[&[u8]], status: Status) -> Status
     requires { status ≡ Status.WriteFault → ⊥ }
     ensures told { (result ≡ Status.WriteFault → ⊥)
-        → (result ≡ status) × (E.writing err.new ≡ appended (joined pieces.now) (E.writing err.old)) }
+        → (result ≡ status) × (E.writing err.new
+        ≡ appended (joined pieces.now) (E.writing err.old)) }
     ensures failed { result ≡ Status.WriteFault
         → MayFault (E.writing err.old).faults (E.writing err.new).faults }
     ensures prefix { AppendsPrefix (joined pieces.now) (E.writing err.old) (E.writing err.new) }
@@ -46,10 +47,12 @@ pub(crate) fn tell_usage<E: Sink>(err: &mut E) -> Status
 /// Tells why what was loaded is refused.
 fn tell_refusal<E: Sink>(err: &mut E, refusal: &Refusal) -> Status
     ensures told { (result ≡ Status.WriteFault → ⊥)
-        → (result ≡ Status.Refused) × (E.writing err.new ≡ appended (refusal_line refusal.now) (E.writing err.old)) }
+        → (result ≡ Status.Refused) × (E.writing err.new
+        ≡ appended (refusal_line refusal.now) (E.writing err.old)) }
     ensures failed { result ≡ Status.WriteFault
         → MayFault (E.writing err.old).faults (E.writing err.new).faults }
-    ensures prefix { AppendsPrefix (refusal_line refusal.now) (E.writing err.old) (E.writing err.new) }
+    ensures prefix { AppendsPrefix (refusal_line refusal.now) (E.writing err.old)
+        (E.writing err.new) }
     ensures count { (E.writing err.old).faults ≤ (E.writing err.new).faults }
 {
     match refusal.put(err) {
@@ -62,10 +65,12 @@ fn tell_refusal<E: Sink>(err: &mut E, refusal: &Refusal) -> Status
 #[tactic(auto, unfolding(crate::specs::Answers::cannot_read_line))]
 fn tell_unread<E: Sink>(err: &mut E, name: &[u8]) -> Status
     ensures told { (result ≡ Status.WriteFault → ⊥)
-        → (result ≡ Status.ReadFault) × (E.writing err.new ≡ appended (cannot_read_line name.now) (E.writing err.old)) }
+        → (result ≡ Status.ReadFault) × (E.writing err.new
+        ≡ appended (cannot_read_line name.now) (E.writing err.old)) }
     ensures failed { result ≡ Status.WriteFault
         → MayFault (E.writing err.old).faults (E.writing err.new).faults }
-    ensures prefix { AppendsPrefix (cannot_read_line name.now) (E.writing err.old) (E.writing err.new) }
+    ensures prefix { AppendsPrefix (cannot_read_line name.now) (E.writing err.old)
+        (E.writing err.new) }
     ensures count { (E.writing err.old).faults ≤ (E.writing err.new).faults }
 {
     tell(err, &[b"cannot read ", name, b"\n"], Status::ReadFault)
@@ -75,10 +80,12 @@ fn tell_unread<E: Sink>(err: &mut E, name: &[u8]) -> Status
 #[tactic(auto, unfolding(crate::specs::Answers::trace_fault_line))]
 fn tell_bad_line<E: Sink>(err: &mut E, number: u64) -> Status
     ensures told { (result ≡ Status.WriteFault → ⊥)
-        → (result ≡ Status.TraceFault) × (E.writing err.new ≡ appended (trace_fault_line number) (E.writing err.old)) }
+        → (result ≡ Status.TraceFault) × (E.writing err.new
+        ≡ appended (trace_fault_line number) (E.writing err.old)) }
     ensures failed { result ≡ Status.WriteFault
         → MayFault (E.writing err.old).faults (E.writing err.new).faults }
-    ensures prefix { AppendsPrefix (trace_fault_line number) (E.writing err.old) (E.writing err.new) }
+    ensures prefix { AppendsPrefix (trace_fault_line number) (E.writing err.old)
+        (E.writing err.new) }
     ensures count { (E.writing err.old).faults ≤ (E.writing err.new).faults }
 {
     let mut digits = Buffer::new();

@@ -36,8 +36,10 @@ pub(crate) fn run_trace<F: Files, O: Sink>(
     ensures reached { IsReached lines.new }
 
     // All lines are clocks, and all clocks are in the report.
-    ensures clean { OnOk result ((trace : List ℕ) → rest (F.reading files.old) ≡ Some trace → IsClean trace) }
-    ensures report { OnOk result ((trace : List ℕ) (start : Writing) → rest (F.reading files.old) ≡ Some trace
+    ensures clean { OnOk result ((trace : List ℕ) → rest (F.reading files.old) ≡ Some trace
+        → IsClean trace) }
+    ensures report { OnOk result ((trace : List ℕ) (start : Writing)
+        → rest (F.reading files.old) ≡ Some trace
         → HasReport machine.now start 0 (O.writing out.old)
         → HasReport machine.now start (clocks_of trace) (O.writing out.new)) }
 
@@ -45,7 +47,8 @@ pub(crate) fn run_trace<F: Files, O: Sink>(
         → (n : ℕ) × HasReport machine.now start n (O.writing out.new)) }
 
     // A line is bad, and all clocks before it are in the report.
-    ensures bad { result ≡ Err Halt.BadLine → (trace : List ℕ) → rest (F.reading files.old) ≡ Some trace
+    ensures bad { result ≡ Err Halt.BadLine → (trace : List ℕ)
+        → rest (F.reading files.old) ≡ Some trace
         → (clocks_of trace ≡ lines.new.done) × HasBadLine trace }
     ensures bad_report { result ≡ Err Halt.BadLine → (start : Writing)
         → HasReport machine.now start 0 (O.writing out.old)

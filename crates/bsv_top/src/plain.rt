@@ -227,7 +227,8 @@ fn condition_of(
     condition: Option<&Expr>,
 ) -> Option<Option<Condition>>
     requires { length registers.now ≤ 4096 }
-    ensures { result ≡ spec.condition_of source.now registers.now (option_map (λ x. x.now) condition.entry) }
+    ensures { result ≡ spec.condition_of source.now registers.now
+        (option_map (λ x. x.now) condition.entry) }
 {
     match condition {
         None => Some(None),
@@ -359,7 +360,8 @@ fn rules_of(
 
 /// Whether a register behind this one has its name.
 fn has_name(registers: &[Register], name: &[u8]) -> bool
-    ensures { result ≡ list_any (λ (other : TheRegister). bytes_eq other.name name.now) registers.now }
+    ensures { result ≡ list_any (λ (other : TheRegister). bytes_eq other.name name.now)
+        registers.now }
 {
     for register in registers {
         if register.name.bytes() == name {
@@ -548,7 +550,8 @@ pub(crate) fn machine_of(
     loaded: &Loaded,
     top: &[u8],
 ) -> Result<Option<Machine>, OutOfMemory>
-    ensures machine { IfOk result (λ o. o ≡ machine_in top.now loaded.now.sources loaded.now.packages) }
+    ensures machine { IfOk result (λ o. o ≡ machine_in top.now loaded.now.sources
+        loaded.now.packages) }
     ensures fits { IfOk result (λ o. IfSome o IsMachine) }
 {
     let (Some(source), Some(package)) = (

@@ -47,7 +47,8 @@ pub fn run<R: Threads + Sync, F: Files, O: Sink, E: Sink>(
 
     // At every status a prefix of an answer's output and of a fault text is put.
     ensures output { (contents : List ℕ → List ℕ) → (F.reading files.old).contents ≡ Some contents
-        → OutputBegun (map string_bytes words.now) contents (O.writing out.old) (O.writing out.new) }
+        → OutputBegun (map string_bytes words.now) contents (O.writing out.old)
+        (O.writing out.new) }
     ensures text { (contents : List ℕ → List ℕ) → (F.reading files.old).contents ≡ Some contents
         → TextBegun (map string_bytes words.now) contents (E.writing err.old) (E.writing err.new) }
 
@@ -79,7 +80,8 @@ pub fn run<R: Threads + Sync, F: Files, O: Sink, E: Sink>(
         ⊎ MayFault (E.writing err.old).faults (E.writing err.new).faults }
 
     // Where a count of faults rose, the status is that of a fault.
-    ensures files_rose { (F.reading files.old).faults < (F.reading files.new).faults → IsFault result }
+    ensures files_rose { (F.reading files.old).faults < (F.reading files.new).faults
+        → IsFault result }
     ensures out_rose { (O.writing out.old).faults < (O.writing out.new).faults → IsFault result }
     ensures err_rose { (E.writing err.old).faults < (E.writing err.new).faults → IsFault result }
     ensures files_count { (F.reading files.old).faults ≤ (F.reading files.new).faults }
@@ -91,7 +93,8 @@ pub fn run<R: Threads + Sync, F: Files, O: Sink, E: Sink>(
         → NoFault (F.reading files.old).faults (F.reading files.new).faults
         → NoFault (O.writing out.old).faults (O.writing out.new).faults
         → NoFault (E.writing err.old).faults (E.writing err.new).faults
-        → (status : TheStatus) (output text : List ℕ) → Answer (map string_bytes words.now) contents status output text
+        → (status : TheStatus) (output text : List ℕ)
+        → Answer (map string_bytes words.now) contents status output text
         → result ≡ status ⊎ result ≡ Status.OutOfMemory }
 {
     let Some(form) = form_of(words) else {
@@ -131,7 +134,8 @@ pub fn one_answer()
     ensures some { (words : List (List ℕ)) (contents : List ℕ → List ℕ) → HasAnswer words contents }
     ensures one_status { (words : List (List ℕ)) (contents : List ℕ → List ℕ)
         (status other : TheStatus) (output text more said : List ℕ)
-        → Answer words contents status output text → Answer words contents other more said → status ≡ other }
+        → Answer words contents status output text → Answer words contents other more said
+        → status ≡ other }
     ensures one_output { (words : List (List ℕ)) (contents : List ℕ → List ℕ)
         (status other : TheStatus) (output text more said : List ℕ)
         → Answer words contents status output text → Answer words contents other more said

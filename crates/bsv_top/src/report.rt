@@ -23,7 +23,8 @@ fn add_state_line<S: Sink>(
     ensures prefix { AppendsPrefix (buffer.old ++ state_line (register.now, word))
         (S.writing sink.old) (S.writing sink.new) }
     ensures count { (S.writing sink.old).faults ≤ (S.writing sink.new).faults }
-    ensures counted { OnErr result (MayFault (S.writing sink.old).faults (S.writing sink.new).faults) }
+    ensures counted { OnErr result (MayFault (S.writing sink.old).faults
+        (S.writing sink.new).faults) }
 {
     let mut constant = [0u8; 40];
     let len = word.write_hex(&mut constant);
@@ -46,7 +47,8 @@ fn add_state<S: Sink>(
     ensures prefix { AppendsPrefix (buffer.old ++ state_lines machine.now state.now)
         (S.writing sink.old) (S.writing sink.new) }
     ensures count { (S.writing sink.old).faults ≤ (S.writing sink.new).faults }
-    ensures counted { OnErr result (MayFault (S.writing sink.old).faults (S.writing sink.new).faults) }
+    ensures counted { OnErr result (MayFault (S.writing sink.old).faults
+        (S.writing sink.new).faults) }
 {
     let registers = machine.registers.as_slice();
     for (place, word) in state.iter().enumerate() {
@@ -68,7 +70,8 @@ fn add_opening<S: Sink>(
     ensures prefix { AppendsPrefix (buffer.old ++ opening_text machine.now)
         (S.writing sink.old) (S.writing sink.new) }
     ensures count { (S.writing sink.old).faults ≤ (S.writing sink.new).faults }
-    ensures counted { OnErr result (MayFault (S.writing sink.old).faults (S.writing sink.new).faults) }
+    ensures counted { OnErr result (MayFault (S.writing sink.old).faults
+        (S.writing sink.new).faults) }
 {
     buffer.add(sink, b"opening\n")?;
     add_state(buffer, sink, machine, state)
@@ -81,10 +84,13 @@ pub(crate) fn write_opening<S: Sink>(
     sink: &mut S,
 ) -> Result<(), Failed>
     requires { state.now ≡ opening machine.now }
-    ensures ok { OnOk result (S.writing sink.new ≡ appended (opening_text machine.now) (S.writing sink.old)) }
-    ensures prefix { AppendsPrefix (opening_text machine.now) (S.writing sink.old) (S.writing sink.new) }
+    ensures ok { OnOk result (S.writing sink.new
+        ≡ appended (opening_text machine.now) (S.writing sink.old)) }
+    ensures prefix { AppendsPrefix (opening_text machine.now) (S.writing sink.old)
+        (S.writing sink.new) }
     ensures count { (S.writing sink.old).faults ≤ (S.writing sink.new).faults }
-    ensures counted { OnErr result (MayFault (S.writing sink.old).faults (S.writing sink.new).faults) }
+    ensures counted { OnErr result (MayFault (S.writing sink.old).faults
+        (S.writing sink.new).faults) }
 {
     let mut buffer = PutBuffer::new();
     add_opening(&mut buffer, sink, machine, state)?;
@@ -98,7 +104,8 @@ fn add_number<S: Sink>(buffer: &mut PutBuffer, sink: &mut S, number: u64) -> Res
     ensures prefix { AppendsPrefix (buffer.old ++ number_line number)
         (S.writing sink.old) (S.writing sink.new) }
     ensures count { (S.writing sink.old).faults ≤ (S.writing sink.new).faults }
-    ensures counted { OnErr result (MayFault (S.writing sink.old).faults (S.writing sink.new).faults) }
+    ensures counted { OnErr result (MayFault (S.writing sink.old).faults
+        (S.writing sink.new).faults) }
 {
     let mut digits = Buffer::new();
     buffer.add_all(sink, &[b"clock ", digits.format(number).as_bytes(), b"\n"])
@@ -115,7 +122,8 @@ fn add_fired<S: Sink>(
     ensures prefix { AppendsPrefix (buffer.old ++ fired_text (option_copied fired.entry))
         (S.writing sink.old) (S.writing sink.new) }
     ensures count { (S.writing sink.old).faults ≤ (S.writing sink.new).faults }
-    ensures counted { OnErr result (MayFault (S.writing sink.old).faults (S.writing sink.new).faults) }
+    ensures counted { OnErr result (MayFault (S.writing sink.old).faults
+        (S.writing sink.new).faults) }
 {
     match fired {
         None => buffer.add(sink, b"fired\n"),
@@ -134,12 +142,15 @@ fn add_clock<S: Sink>(
 ) -> Result<(), Failed>
     requires { length state.now ≡ length machine.now.registers }
     ensures ok { OnOk result (appended buffer.new (S.writing sink.new)
-        ≡ appended (buffer.old ++ clock_lines machine.now number (option_copied fired.entry) state.now)
+        ≡ appended (buffer.old ++ clock_lines machine.now number
+        (option_copied fired.entry) state.now)
         (S.writing sink.old)) }
-    ensures prefix { AppendsPrefix (buffer.old ++ clock_lines machine.now number (option_copied fired.entry) state.now)
+    ensures prefix { AppendsPrefix (buffer.old ++ clock_lines machine.now number
+        (option_copied fired.entry) state.now)
         (S.writing sink.old) (S.writing sink.new) }
     ensures count { (S.writing sink.old).faults ≤ (S.writing sink.new).faults }
-    ensures counted { OnErr result (MayFault (S.writing sink.old).faults (S.writing sink.new).faults) }
+    ensures counted { OnErr result (MayFault (S.writing sink.old).faults
+        (S.writing sink.new).faults) }
 {
     add_number(buffer, sink, number)?;
     add_fired(buffer, sink, fired)?;
@@ -156,11 +167,14 @@ pub(crate) fn write_clock<S: Sink>(
 ) -> Result<(), Failed>
     requires { length state.now ≡ length machine.now.registers }
     ensures ok { OnOk result (S.writing sink.new ≡ appended
-        (clock_lines machine.now number (option_copied fired.entry) state.now) (S.writing sink.old)) }
-    ensures prefix { AppendsPrefix (clock_lines machine.now number (option_copied fired.entry) state.now)
+        (clock_lines machine.now number (option_copied fired.entry) state.now)
+        (S.writing sink.old)) }
+    ensures prefix { AppendsPrefix (clock_lines machine.now number
+        (option_copied fired.entry) state.now)
         (S.writing sink.old) (S.writing sink.new) }
     ensures count { (S.writing sink.old).faults ≤ (S.writing sink.new).faults }
-    ensures counted { OnErr result (MayFault (S.writing sink.old).faults (S.writing sink.new).faults) }
+    ensures counted { OnErr result (MayFault (S.writing sink.old).faults
+        (S.writing sink.new).faults) }
 {
     let mut buffer = PutBuffer::new();
     add_clock(&mut buffer, sink, machine, number, fired, state)?;

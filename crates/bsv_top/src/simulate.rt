@@ -47,12 +47,14 @@ fn run_clock<O: Sink>(
     ensures fits { Fits machine.now state.new }
     ensures next { length next.new ≡ length state.new }
     ensures ok { OnOk result (O.writing out.new ≡ appended
-        (clock_lines machine.now number (fired_rule machine.now state.old) state.new) (O.writing out.old)) }
+        (clock_lines machine.now number (fired_rule machine.now state.old) state.new)
+        (O.writing out.old)) }
     ensures prefix { AppendsPrefix
         (clock_lines machine.now number (fired_rule machine.now state.old) state.new)
         (O.writing out.old) (O.writing out.new) }
     ensures count { (O.writing out.old).faults ≤ (O.writing out.new).faults }
-    ensures counted { OnErr result (MayFault (O.writing out.old).faults (O.writing out.new).faults) }
+    ensures counted { OnErr result (MayFault (O.writing out.old).faults
+        (O.writing out.new).faults) }
 {
     let fired = clock(machine, state, next);
     write_clock(machine, number, fired, state, out)
@@ -74,11 +76,13 @@ fn run_byte<O: Sink>(
     ensures lines { OnOk result (stepped lines.old byte ≡ Some lines.new) }
     ensures state { OnOk result (state.new ≡ state_after_clocks machine.now lines.new.done) }
     ensures next { length next.new ≡ length state.new }
-    ensures said { OnOk result ((start : Writing) → HasReport machine.now start lines.old.done (O.writing out.old)
+    ensures said { OnOk result ((start : Writing)
+        → HasReport machine.now start lines.old.done (O.writing out.old)
         → HasReport machine.now start lines.new.done (O.writing out.new)) }
     ensures bad { result ≡ Err Halt.BadLine → (stepped lines.old byte ≡ None)
         × (lines.new ≡ lines.old) × (O.writing out.new ≡ O.writing out.old) }
-    ensures failed { result ≡ Err Halt.Unwritable → (stepped lines.old byte ≡ Some (ended_line lines.old))
+    ensures failed { result ≡ Err Halt.Unwritable
+        → (stepped lines.old byte ≡ Some (ended_line lines.old))
         × ((start : Writing) → HasReport machine.now start lines.old.done (O.writing out.old)
         → HasReportPrefix machine.now start (lines.old.done + 1) (O.writing out.new))
         × MayFault (O.writing out.old).faults (O.writing out.new).faults }
@@ -113,7 +117,8 @@ pub(crate) fn run_bytes<O: Sink>(
     ensures lines { OnOk result (ReadsTo bytes.now [] lines.old lines.new) }
     ensures state { OnOk result (state.new ≡ state_after_clocks machine.now lines.new.done) }
     ensures next { length next.new ≡ length state.new }
-    ensures said { OnOk result ((start : Writing) → HasReport machine.now start lines.old.done (O.writing out.old)
+    ensures said { OnOk result ((start : Writing)
+        → HasReport machine.now start lines.old.done (O.writing out.old)
         → HasReport machine.now start lines.new.done (O.writing out.new)) }
     ensures bad { result ≡ Err Halt.BadLine → EndsBad bytes.now lines.old lines.new.done
         × ((start : Writing) → HasReport machine.now start lines.old.done (O.writing out.old)
@@ -144,13 +149,15 @@ pub(crate) fn run_last<O: Sink>(
     requires lines { IsReached lines }
     requires state { state.old ≡ state_after_clocks machine.now lines.done }
     requires next { length next.old ≡ length state.old }
-    ensures ok { OnOk result ((start : Writing) → HasReport machine.now start lines.done (O.writing out.old)
+    ensures ok { OnOk result ((start : Writing)
+        → HasReport machine.now start lines.done (O.writing out.old)
         → HasReport machine.now start (lines_in_all lines) (O.writing out.new)) }
     ensures prefix { (start : Writing) → HasReport machine.now start lines.done (O.writing out.old)
         → HasReportPrefix machine.now start (lines_in_all lines) (O.writing out.new) }
     ensures begun { OnErr result (lines.after_return ≡ true) }
     ensures count { (O.writing out.old).faults ≤ (O.writing out.new).faults }
-    ensures counted { OnErr result (MayFault (O.writing out.old).faults (O.writing out.new).faults) }
+    ensures counted { OnErr result (MayFault (O.writing out.old).faults
+        (O.writing out.new).faults) }
 {
     if lines.after_return {
         run_clock(machine, state, next, lines.done + 1, out)?;

@@ -113,7 +113,8 @@ impl Struct {
     ) -> Option<Struct>
         ensures name { IfSome result (λ s. s.name ≡ name) }
         ensures fields { IfSome result (λ s. s.fields ≡ fields) }
-        ensures width { IfSome result (λ s. widths_by enums.now structs.now (field_kinds fields) ≡ Some s.width) }
+        ensures width { IfSome result (λ s. widths_by enums.now structs.now (field_kinds fields)
+            ≡ Some s.width) }
         ensures none { result ≡ None → widths_by enums.now structs.now (field_kinds fields) ≡ None }
     {
         match counted_widths(enums, structs, fields.as_slice()) {

@@ -81,7 +81,8 @@ impl Typed {
     /// The widths of the fields of a struct behind one of them together.
     fn counted_below(&self, structure: &Struct, field: usize) -> Option<u32>
         requires { field < length structure.now.fields }
-        ensures { result ≡ widths_by self.now.enums self.now.structs (drop (field + 1) (field_kinds structure.now.fields)) }
+        ensures { result ≡ widths_by self.now.enums self.now.structs
+            (drop (field + 1) (field_kinds structure.now.fields)) }
     {
         let fields = structure.fields.as_slice();
         counted_widths(&self.enums, &self.structs, &fields[field + 1..])

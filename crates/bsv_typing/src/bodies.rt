@@ -62,7 +62,8 @@ pub fn declare(
     name: &Name,
     slot: Slot,
 ) -> Result<(), BodyFail>
-    ensures { GivesAt (λ done. shown scopes.new) result (spec.at span (spec.with_variable name.now (slot_of slot) (shown scopes.old))) }
+    ensures { GivesAt (λ done. shown scopes.new) result
+        (spec.at span (spec.with_variable name.now (slot_of slot) (shown scopes.old))) }
 {
     let Some(level) = scopes.count() else {
         return Err(BodyFail::Memory);
@@ -84,7 +85,8 @@ pub fn checked(
     expr: &Expr,
     want: Option<&Ty>,
 ) -> Result<Made, BodyFail>
-    ensures { GivesAt made result (spec.at span (spec.check (task_of task.now) (shown scopes.now) expr.now (expected want.entry))) }
+    ensures { GivesAt made result (spec.at span
+        (spec.check (task_of task.now) (shown scopes.now) expr.now (expected want.entry))) }
 {
     at(span, typing(alloc, task.context, scopes, expr, want))
 }
@@ -98,7 +100,8 @@ pub fn of_type(
     expr: &Expr,
     ty: &Ty,
 ) -> Result<Typed, BodyFail>
-    ensures { GivesAt (λ x. x) result (spec.of_kind (task_of task.now) (shown scopes.now) span expr.now (kind ty.now)) }
+    ensures { GivesAt (λ x. x) result (spec.of_kind (task_of task.now)
+        (shown scopes.now) span expr.now (kind ty.now)) }
 {
     let typed = checked(alloc, task, scopes, span, expr, Some(ty))?;
     Ok(typed.expr)
@@ -111,7 +114,8 @@ pub fn declared_type(
     span: Span,
     declared: &DeclaredType,
 ) -> Result<Option<Ty>, BodyFail>
-    ensures { GivesAt (λ ty. option_map kind ty) result (spec.declared_kind (task_of task.now) span declared.now) }
+    ensures { GivesAt (λ ty. option_map kind ty) result
+        (spec.declared_kind (task_of task.now) span declared.now) }
 {
     match declared {
         DeclaredType::Let(_) => Ok(None),
@@ -133,7 +137,8 @@ pub fn assignable<'a>(
     scopes: &'a Scopes<Variable>,
     name: &Name,
 ) -> Option<(u32, &'a Ty)>
-    ensures { option_map assigned result ≡ spec.assignable (task_of task.now) (shown scopes.now) name.now }
+    ensures { option_map assigned result ≡ spec.assignable (task_of task.now)
+        (shown scopes.now) name.now }
 {
     let variable = scopes.find(name)?;
     match &variable.slot {
@@ -152,7 +157,8 @@ fn one_instance(
     span: Span,
     name: &Name,
 ) -> Result<Instance, BodyFail>
-    ensures { GivesAt instance_of result (spec.at span (spec.one_instance (variable_in (shown scopes.now) name.now))) }
+    ensures { GivesAt instance_of result (spec.at span
+        (spec.one_instance (variable_in (shown scopes.now) name.now))) }
 {
     let Some(variable) = scopes.find(name) else {
         return Err(BodyFail::At(span));
@@ -176,7 +182,8 @@ pub fn one_of_many(
     name: &Name,
     index: Typed,
 ) -> Result<Instance, BodyFail>
-    ensures { GivesAt instance_of result (spec.at span (spec.one_of_many (variable_in (shown scopes.now) name.now) index)) }
+    ensures { GivesAt instance_of result (spec.at span
+        (spec.one_of_many (variable_in (shown scopes.now) name.now) index)) }
 {
     let Some(variable) = scopes.find(name) else {
         return Err(BodyFail::At(span));
@@ -199,7 +206,8 @@ pub fn instance_at(
     span: Span,
     place: &Place,
 ) -> Result<Instance, BodyFail>
-    ensures { GivesAt instance_of result (spec.instance_at (task_of task.now) (shown scopes.now) span place.now) }
+    ensures { GivesAt instance_of result (spec.instance_at (task_of task.now)
+        (shown scopes.now) span place.now) }
 {
     match place {
         Place::Name(_, name) => one_instance(alloc, scopes, span, &name.name),
@@ -220,7 +228,8 @@ pub fn called(
     name: &[u8],
     given: &[Expr],
 ) -> Result<MethodCall, BodyFail>
-    ensures { GivesAt called_of result (spec.called (task_of task.now) (shown scopes.now) span (instance_of instance) name.now given.now) }
+    ensures { GivesAt called_of result (spec.called (task_of task.now) (shown scopes.now) span
+        (instance_of instance) name.now given.now) }
 {
     let instance = Boxed::new(alloc, instance)?;
     let interface = instance.get().ty.copy(alloc)?;
@@ -247,7 +256,8 @@ pub fn call_at(
     span: Span,
     call: &Call,
 ) -> Result<MethodCall, BodyFail>
-    ensures { GivesAt called_of result (spec.call_at (task_of task.now) (shown scopes.now) span call.now) }
+    ensures { GivesAt called_of result (spec.call_at (task_of task.now)
+        (shown scopes.now) span call.now) }
 {
     let instance = instance_at(alloc, task, scopes, span, &call.place)?;
     let name = call.method.name.bytes();

@@ -24,7 +24,8 @@ pub fn statement(
     scopes: &mut Scopes<Variable>,
     stmt: &Stmt,
 ) -> Result<Typed, BodyFail>
-    ensures { GivesAt (λ x. (shown scopes.new, x)) result (spec.stmt_run (task_of task.now) stmt.now (shown scopes.old)) }
+    ensures { GivesAt (λ x. (shown scopes.new, x)) result
+        (spec.stmt_run (task_of task.now) stmt.now (shown scopes.old)) }
 {
     match stmt {
         Stmt::Write(span, place, value) => write(alloc, task, scopes, *span, place, value),
@@ -64,7 +65,8 @@ pub fn statements(
     scopes: &mut Scopes<Variable>,
     stmts: &[Stmt],
 ) -> Result<Items<Typed>, BodyFail>
-    ensures { GivesAt (λ xs. (shown scopes.new, xs)) result (spec.all_runs (map (spec.stmt_run (task_of task.now)) stmts.now) (shown scopes.old)) }
+    ensures { GivesAt (λ xs. (shown scopes.new, xs)) result
+        (spec.all_runs (map (spec.stmt_run (task_of task.now)) stmts.now) (shown scopes.old)) }
 {
     let mut found = Items::new(alloc);
     let mut rest = stmts;
@@ -85,7 +87,8 @@ fn block(
     scopes: &mut Scopes<Variable>,
     body: &[Stmt],
 ) -> Result<Typed, BodyFail>
-    ensures { GivesAt (λ x. (shown scopes.new, x)) result (spec.block_case (map (spec.stmt_run (task_of task.now)) body.now) (shown scopes.old)) }
+    ensures { GivesAt (λ x. (shown scopes.new, x)) result
+        (spec.block_case (map (spec.stmt_run (task_of task.now)) body.now) (shown scopes.old)) }
 {
     scopes.open(alloc)?;
     let found = statements(alloc, task, scopes, body)?;
@@ -102,7 +105,8 @@ fn inside(
     scopes: &mut Scopes<Variable>,
     arm: &Stmt,
 ) -> Result<Typed, BodyFail>
-    ensures { GivesAt (λ x. (shown scopes.new, x)) result (spec.inside (spec.stmt_run (task_of task.now) arm.now) (shown scopes.old)) }
+    ensures { GivesAt (λ x. (shown scopes.new, x)) result
+        (spec.inside (spec.stmt_run (task_of task.now) arm.now) (shown scopes.old)) }
 {
     scopes.open(alloc)?;
     let typed = statement(alloc, task, scopes, arm)?;
@@ -118,7 +122,9 @@ fn last_arm(
     scopes: &mut Scopes<Variable>,
     otherwise: &Option<Boxed<Stmt>>,
 ) -> Result<Option<Boxed<Typed>>, BodyFail>
-    ensures { GivesAt (λ x. (shown scopes.new, x)) result (spec.last_arm (option_map (spec.stmt_run (task_of task.now)) otherwise.now) (shown scopes.old)) }
+    ensures { GivesAt (λ x. (shown scopes.new, x)) result
+        (spec.last_arm (option_map (spec.stmt_run (task_of task.now)) otherwise.now)
+        (shown scopes.old)) }
 {
     match otherwise {
         Some(arm) => {
@@ -140,7 +146,9 @@ fn arm(
     opening: Opening,
     branch: &Branch,
 ) -> Result<TypedBranch, BodyFail>
-    ensures { GivesAt (λ b. (shown scopes.new, b)) result (spec.arm_case span (opening_of opening) (spec.arm_of (task_of task.now) branch.now).run (shown scopes.old)) }
+    ensures { GivesAt (λ b. (shown scopes.new, b)) result
+        (spec.arm_case span (opening_of opening) (spec.arm_of (task_of task.now) branch.now).run
+        (shown scopes.old)) }
 {
     let Opening { condition, bound } = opening;
     let condition = Boxed::new(alloc, condition)?;
@@ -162,7 +170,9 @@ fn arms(
     conditions: Vec<Opening>,
     branches: &[Branch],
 ) -> Result<Items<TypedBranch>, BodyFail>
-    ensures { GivesAt (λ bs. (shown scopes.new, bs)) result (spec.arms span (map opening_of conditions.items) (map (spec.arm_of (task_of task.now)) branches.now) (shown scopes.old)) }
+    ensures { GivesAt (λ bs. (shown scopes.new, bs)) result
+        (spec.arms span (map opening_of conditions.items)
+        (map (spec.arm_of (task_of task.now)) branches.now) (shown scopes.old)) }
 {
     let mut found = Items::new(alloc);
     let mut openings = conditions.into_iter();
@@ -188,7 +198,9 @@ fn choice(
     branches: &[Branch],
     otherwise: &Option<Boxed<Stmt>>,
 ) -> Result<Typed, BodyFail>
-    ensures { GivesAt (λ x. (shown scopes.new, x)) result (spec.if_case (task_of task.now) span (map (spec.arm_of (task_of task.now)) branches.now) (option_map (spec.stmt_run (task_of task.now)) otherwise.now) (shown scopes.old)) }
+    ensures { GivesAt (λ x. (shown scopes.new, x)) result
+        (spec.if_case (task_of task.now) span (map (spec.arm_of (task_of task.now)) branches.now)
+        (option_map (spec.stmt_run (task_of task.now)) otherwise.now) (shown scopes.old)) }
 {
     let conditions = openings(alloc, task, scopes, span, branches)?;
     let found = arms(alloc, task, scopes, span, conditions, branches)?;
@@ -207,7 +219,9 @@ fn repeat(
     written: &Head,
     body: &Stmt,
 ) -> Result<Typed, BodyFail>
-    ensures { GivesAt (λ x. (shown scopes.new, x)) result (spec.for_case (task_of task.now) span written.now (spec.stmt_run (task_of task.now) body.now) (shown scopes.old)) }
+    ensures { GivesAt (λ x. (shown scopes.new, x)) result
+        (spec.for_case (task_of task.now) span written.now
+        (spec.stmt_run (task_of task.now) body.now) (shown scopes.old)) }
 {
     let head = Boxed::new(alloc, head(alloc, task, scopes, span, written)?)?;
     let body = Boxed::new(alloc, statement(alloc, task, scopes, body)?)?;
@@ -223,7 +237,8 @@ fn behind_labels(
     scopes: &mut Scopes<Variable>,
     case: &CaseArm,
 ) -> Result<Typed, BodyFail>
-    ensures { GivesAt (λ x. (shown scopes.new, x)) result (spec.inside (spec.labelled_of (task_of task.now) case.now).run (shown scopes.old)) }
+    ensures { GivesAt (λ x. (shown scopes.new, x)) result
+        (spec.inside (spec.labelled_of (task_of task.now) case.now).run (shown scopes.old)) }
 {
     inside(alloc, task, scopes, &case.arm)
 }
@@ -238,7 +253,9 @@ fn cases(
     labels: Vec<Items<TypedExpr>>,
     arms: &[CaseArm],
 ) -> Result<Items<TypedCaseArm>, BodyFail>
-    ensures { GivesAt (λ cs. (shown scopes.new, cs)) result (spec.all_labelled labels.items (map (spec.labelled_of (task_of task.now)) arms.now) (shown scopes.old)) }
+    ensures { GivesAt (λ cs. (shown scopes.new, cs)) result
+        (spec.all_labelled labels.items (map (spec.labelled_of (task_of task.now)) arms.now)
+        (shown scopes.old)) }
 {
     let mut found = Items::new(alloc);
     let mut left = labels.into_iter();
@@ -265,7 +282,10 @@ fn case(
     arms: &[CaseArm],
     otherwise: &Option<Boxed<Stmt>>,
 ) -> Result<Typed, BodyFail>
-    ensures { GivesAt (λ x. (shown scopes.new, x)) result (spec.case_case (task_of task.now) span subject.now (map (spec.labelled_of (task_of task.now)) arms.now) (option_map (spec.stmt_run (task_of task.now)) otherwise.now) (shown scopes.old)) }
+    ensures { GivesAt (λ x. (shown scopes.new, x)) result
+        (spec.case_case (task_of task.now) span subject.now
+        (map (spec.labelled_of (task_of task.now)) arms.now)
+        (option_map (spec.stmt_run (task_of task.now)) otherwise.now) (shown scopes.old)) }
 {
     let typed = Boxed::new(alloc, checked(alloc, task, scopes, span, subject, None)?)?;
     let labels = labels_of(alloc, task, scopes, span, &typed.get().ty, arms)?;

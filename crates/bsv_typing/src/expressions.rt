@@ -8,7 +8,10 @@ ghost use Rattle.bsv_typing.specs.Operands.{check_if};
 ghost use Rattle.bsv_typing.specs.Places as places;
 ghost use Rattle.bsv_typing.specs.Typing as table;
 ghost use Rattle.bsv_typing.specs.Typing.{typed, ordered, term, instance_named};
-ghost use Rattle.bsv_typing.specs.Seen.{Gives, made, exprs, agreed, limits, env, expected, header, seen, terms_seen, all_seen, fields_seen, suffix_seen, suffixes_seen, front_of, instance_of, params_of, function_named, structure_named};
+ghost use Rattle.bsv_typing.specs.Seen.{Gives, made, exprs, agreed, limits, env, expected, header};
+ghost use Rattle.bsv_typing.specs.Seen.{seen, terms_seen, all_seen, fields_seen, suffix_seen};
+ghost use Rattle.bsv_typing.specs.Seen.{suffixes_seen, front_of, instance_of, params_of};
+ghost use Rattle.bsv_typing.specs.Seen.{function_named, structure_named};
 
 use crate::classes::{has_family, is_amount, is_number, narrows, widens};
 use crate::context::{Context, FunctionHeader, Variable};
@@ -43,7 +46,8 @@ pub fn typing(
     expr: &Expr,
     want: Option<&Ty>,
 ) -> Result<Made, Fail>
-    ensures { Gives made result (typed (env context.now variables.now) expr.now (expected want.entry)) }
+    ensures { Gives made result (typed (env context.now variables.now) expr.now
+        (expected want.entry)) }
 {
     match expr {
         Expr::Number(_, literal) => context.in_order(number(alloc, context, *literal, want)?),
@@ -119,7 +123,10 @@ fn chain(
     operands: &[Expr],
     want: Option<&Ty>,
 ) -> Result<Made, Fail>
-    ensures { Gives made result (check_if (table.is_chain level signs.now (length (terms_seen context.now variables.now operands.now))) (table.chain_operand (limits context.now) level (map table.operator signs.now) (all_seen context.now variables.now operands.now)).check (expected want.entry)) }
+    ensures { Gives made result (check_if (table.is_chain level signs.now
+        (length (terms_seen context.now variables.now operands.now)))
+        (table.chain_operand (limits context.now) level (map table.operator signs.now)
+        (all_seen context.now variables.now operands.now)).check (expected want.entry)) }
 {
     if !is_chain(level, signs, operands.len()) {
         return Err(Fail::Fault);
@@ -140,7 +147,8 @@ fn chained(
     operands: &[Expr],
     want: Option<&Ty>,
 ) -> Result<Made, Fail>
-    ensures { Gives made result ((table.chain_operand (limits context.now) level ops (all_seen context.now variables.now operands.now)).check (expected want.entry)) }
+    ensures { Gives made result ((table.chain_operand (limits context.now) level ops
+        (all_seen context.now variables.now operands.now)).check (expected want.entry)) }
 {
     match level {
         Level::Product | Level::Sum => numbers(alloc, context, variables, operands, ops, want),
@@ -163,7 +171,8 @@ fn unary(
     operand: &Expr,
     want: Option<&Ty>,
 ) -> Result<Made, Fail>
-    ensures { Gives made result ((table.unary_operand (limits context.now) operator (seen context.now variables.now operand.now)).check (expected want.entry)) }
+    ensures { Gives made result ((table.unary_operand (limits context.now) operator
+        (seen context.now variables.now operand.now)).check (expected want.entry)) }
 {
     let alone = slice::from_ref(operand);
     match operator {
@@ -204,7 +213,8 @@ fn all_as(
     operands: &[Expr],
     ty: &Ty,
 ) -> Result<Items<Typed>, Fail>
-    ensures { Gives exprs result (sharing.all_as (kind ty.now) (all_seen context.now variables.now operands.now)) }
+    ensures { Gives exprs result (sharing.all_as (kind ty.now)
+        (all_seen context.now variables.now operands.now)) }
 {
     let mut found = Items::new(alloc);
     let mut rest = operands;
@@ -227,7 +237,9 @@ fn around(
     operand: &Expr,
     after: &[Expr],
 ) -> Result<(Ty, Items<Typed>), Fail>
-    ensures { Gives agreed result (sharing.around (all_seen context.now variables.now front.now) (seen context.now variables.now operand.now ∷ all_seen context.now variables.now after.now)) }
+    ensures { Gives agreed result (sharing.around (all_seen context.now variables.now front.now)
+        (seen context.now variables.now operand.now ∷ all_seen context.now variables.now
+        after.now)) }
 {
     let Made { ty, expr } = typing(alloc, context, variables, operand, None)?;
     let operand = Boxed::new(alloc, expr)?;
@@ -247,7 +259,8 @@ fn by_first(
     variables: &Scopes<Variable>,
     operands: &[Expr],
 ) -> Result<(Ty, Items<Typed>), Fail>
-    ensures { Gives agreed result (sharing.by_first (all_seen context.now variables.now operands.now)) }
+    ensures { Gives agreed result (sharing.by_first
+        (all_seen context.now variables.now operands.now)) }
 {
     let (front, rest) = split_open(context, variables, operands);
     match rest.split_first() {
@@ -266,7 +279,8 @@ fn agree_with_result(
     operands: &[Expr],
     want: Option<&Ty>,
 ) -> Result<(Ty, Items<Typed>), Fail>
-    ensures { Gives agreed result (sharing.agree_with_result (all_seen context.now variables.now operands.now) (expected want.entry)) }
+    ensures { Gives agreed result (sharing.agree_with_result
+        (all_seen context.now variables.now operands.now) (expected want.entry)) }
 {
     if let Some(ty) = want {
         let found = all_as(alloc, context, variables, operands, ty)?;
@@ -289,7 +303,8 @@ fn agree(
     variables: &Scopes<Variable>,
     operands: &[Expr],
 ) -> Result<(Ty, Items<Typed>), Fail>
-    ensures { Gives agreed result (sharing.agree (all_seen context.now variables.now operands.now)) }
+    ensures { Gives agreed result (sharing.agree
+        (all_seen context.now variables.now operands.now)) }
 {
     if are_open(context, variables, operands) {
         let found = all_as(alloc, context, variables, operands, &Ty::Integer)?;
@@ -310,7 +325,9 @@ fn truths(
     ops: Items<Op>,
     want: Option<&Ty>,
 ) -> Result<Made, Fail>
-    ensures { Gives made result (ordered (limits context.now) (spec.truth_case ops (all_seen context.now variables.now operands.now)) (expected want.entry)) }
+    ensures { Gives made result (ordered (limits context.now)
+        (spec.truth_case ops (all_seen context.now variables.now operands.now))
+        (expected want.entry)) }
 {
     let found = all_as(alloc, context, variables, operands, &Ty::Bool)?;
     let typed = applied(alloc, Ty::Bool, ops, found)?;
@@ -328,7 +345,9 @@ fn numbers(
     ops: Items<Op>,
     want: Option<&Ty>,
 ) -> Result<Made, Fail>
-    ensures { Gives made result (ordered (limits context.now) (spec.number_op_case ops (all_seen context.now variables.now operands.now)) (expected want.entry)) }
+    ensures { Gives made result (ordered (limits context.now)
+        (spec.number_op_case ops (all_seen context.now variables.now operands.now))
+        (expected want.entry)) }
 {
     let (ty, found) = agree_with_result(alloc, context, variables, operands, want)?;
     if is_number(&ty) {
@@ -349,7 +368,9 @@ fn bits(
     ops: Items<Op>,
     want: Option<&Ty>,
 ) -> Result<Made, Fail>
-    ensures { Gives made result (ordered (limits context.now) (spec.bits_op_case ops (all_seen context.now variables.now operands.now)) (expected want.entry)) }
+    ensures { Gives made result (ordered (limits context.now)
+        (spec.bits_op_case ops (all_seen context.now variables.now operands.now))
+        (expected want.entry)) }
 {
     let (ty, found) = agree_with_result(alloc, context, variables, operands, want)?;
     if has_family(&ty) {
@@ -413,7 +434,9 @@ fn shift(
     ops: Items<Op>,
     want: Option<&Ty>,
 ) -> Result<Made, Fail>
-    ensures { Gives made result (ordered (limits context.now) (spec.shift_case ops (all_seen context.now variables.now operands.now)) (expected want.entry)) }
+    ensures { Gives made result (ordered (limits context.now)
+        (spec.shift_case ops (all_seen context.now variables.now operands.now))
+        (expected want.entry)) }
 {
     let Some((left, rights)) = operands.split_first() else {
         return Err(Fail::Fault);
@@ -439,7 +462,9 @@ fn order(
     ops: Items<Op>,
     want: Option<&Ty>,
 ) -> Result<Made, Fail>
-    ensures { Gives made result (ordered (limits context.now) (spec.order_case ops (all_seen context.now variables.now operands.now)) (expected want.entry)) }
+    ensures { Gives made result (ordered (limits context.now)
+        (spec.order_case ops (all_seen context.now variables.now operands.now))
+        (expected want.entry)) }
 {
     let Some((_, rest)) = operands.split_first() else {
         return Err(Fail::Fault);
@@ -469,7 +494,9 @@ fn equality(
     ops: Items<Op>,
     want: Option<&Ty>,
 ) -> Result<Made, Fail>
-    ensures { Gives made result (ordered (limits context.now) (spec.equality_case ops (all_seen context.now variables.now operands.now)) (expected want.entry)) }
+    ensures { Gives made result (ordered (limits context.now)
+        (spec.equality_case ops (all_seen context.now variables.now operands.now))
+        (expected want.entry)) }
 {
     let Some((_, rest)) = operands.split_first() else {
         return Err(Fail::Fault);
@@ -496,7 +523,12 @@ fn choice(
     values: &[Expr],
     want: Option<&Ty>,
 ) -> Result<Made, Fail>
-    ensures { Gives made result (check_if (table.is_choice (length (terms_seen context.now variables.now conditions.now)) (length (terms_seen context.now variables.now values.now))) (table.choice_operand (limits context.now) (all_seen context.now variables.now conditions.now) (all_seen context.now variables.now values.now)).check (expected want.entry)) }
+    ensures { Gives made result (check_if (table.is_choice
+        (length (terms_seen context.now variables.now conditions.now))
+        (length (terms_seen context.now variables.now values.now)))
+        (table.choice_operand (limits context.now)
+        (all_seen context.now variables.now conditions.now)
+        (all_seen context.now variables.now values.now)).check (expected want.entry)) }
 {
     if !is_choice(conditions.len(), values.len()) {
         return Err(Fail::Fault);
@@ -542,7 +574,8 @@ fn concat(
     parts: &[Expr],
     want: Option<&Ty>,
 ) -> Result<Made, Fail>
-    ensures { Gives made result (ordered (limits context.now) (spec.concat_case (all_seen context.now variables.now parts.now)) (expected want.entry)) }
+    ensures { Gives made result (ordered (limits context.now)
+        (spec.concat_case (all_seen context.now variables.now parts.now)) (expected want.entry)) }
 {
     let (width, found) = joined(alloc, context, variables, parts)?;
     let ops = one(alloc, Op::Concat)?;
@@ -560,7 +593,9 @@ fn valid(
     payload: &Expr,
     want: Option<&Ty>,
 ) -> Result<Made, Fail>
-    ensures { Gives made result (ordered (limits context.now) (spec.valid_case (limits context.now) (seen context.now variables.now payload.now)) (expected want.entry)) }
+    ensures { Gives made result (ordered (limits context.now)
+        (spec.valid_case (limits context.now) (seen context.now variables.now payload.now))
+        (expected want.entry)) }
 {
     match want {
         Some(Ty::Maybe(held)) => {
@@ -590,7 +625,9 @@ fn call(
     given: &[Expr],
     want: Option<&Ty>,
 ) -> Result<Made, Fail>
-    ensures { Gives made result (table.call_case (limits context.now) (function_named context.now name.now) name.now (all_seen context.now variables.now given.now) (expected want.entry)) }
+    ensures { Gives made result (table.call_case (limits context.now)
+        (function_named context.now name.now) name.now
+        (all_seen context.now variables.now given.now) (expected want.entry)) }
 {
     match given_function(name) {
         Some(function) => given_call(alloc, context, variables, function, given, want),
@@ -609,7 +646,8 @@ fn given_call(
     given: &[Expr],
     want: Option<&Ty>,
 ) -> Result<Made, Fail>
-    ensures { Gives made result (table.given_case (limits context.now) function (all_seen context.now variables.now given.now) (expected want.entry)) }
+    ensures { Gives made result (table.given_case (limits context.now) function
+        (all_seen context.now variables.now given.now) (expected want.entry)) }
 {
     let Some((first, rest)) = given.split_first() else {
         return Err(Fail::Fault);
@@ -637,7 +675,8 @@ fn call_of_one(
     operand: &Expr,
     want: Option<&Ty>,
 ) -> Result<Made, Fail>
-    ensures { Gives made result (table.one_case (limits context.now) function (seen context.now variables.now operand.now) (expected want.entry)) }
+    ensures { Gives made result (table.one_case (limits context.now) function
+        (seen context.now variables.now operand.now) (expected want.entry)) }
 {
     match function {
         GivenFunction::Truncate => truncate(alloc, context, variables, operand, want),
@@ -666,7 +705,8 @@ fn truncate(
     operand: &Expr,
     want: Option<&Ty>,
 ) -> Result<Made, Fail>
-    ensures { Gives made result (spec.resized_case op.Truncate spec.is_narrower (seen context.now variables.now operand.now) (expected want.entry)) }
+    ensures { Gives made result (spec.resized_case op.Truncate spec.is_narrower
+        (seen context.now variables.now operand.now) (expected want.entry)) }
 {
     let Some(ty) = want else {
         return Err(Fail::Fault);
@@ -691,7 +731,8 @@ fn extend(
     operand: &Expr,
     want: Option<&Ty>,
 ) -> Result<Made, Fail>
-    ensures { Gives made result (spec.resized_case extension nat_le (seen context.now variables.now operand.now) (expected want.entry)) }
+    ensures { Gives made result (spec.resized_case extension nat_le
+        (seen context.now variables.now operand.now) (expected want.entry)) }
 {
     let Some(ty) = want else {
         return Err(Fail::Fault);
@@ -715,7 +756,8 @@ fn unpack(
     operand: &Expr,
     want: Option<&Ty>,
 ) -> Result<Made, Fail>
-    ensures { Gives made result (spec.unpack_case (limits context.now) (seen context.now variables.now operand.now) (expected want.entry)) }
+    ensures { Gives made result (spec.unpack_case (limits context.now)
+        (seen context.now variables.now operand.now) (expected want.entry)) }
 {
     let Some(ty) = want else {
         return Err(Fail::Fault);
@@ -738,7 +780,8 @@ fn from_integer(
     operand: &Expr,
     want: Option<&Ty>,
 ) -> Result<Made, Fail>
-    ensures { Gives made result (spec.from_integer_case (seen context.now variables.now operand.now) (expected want.entry)) }
+    ensures { Gives made result (spec.from_integer_case (seen context.now variables.now operand.now)
+        (expected want.entry)) }
 {
     let Some(ty) = want else {
         return Err(Fail::Fault);
@@ -761,7 +804,8 @@ fn pack(
     operand: &Expr,
     want: Option<&Ty>,
 ) -> Result<Made, Fail>
-    ensures { Gives made result (spec.pack_case (limits context.now) (seen context.now variables.now operand.now) (expected want.entry)) }
+    ensures { Gives made result (spec.pack_case (limits context.now)
+        (seen context.now variables.now operand.now) (expected want.entry)) }
 {
     let typed = typing(alloc, context, variables, operand, None)?;
     let Some(width) = context.width(&typed.ty) else {
@@ -781,7 +825,8 @@ fn is_valid(
     operand: &Expr,
     want: Option<&Ty>,
 ) -> Result<Made, Fail>
-    ensures { Gives made result (spec.is_valid_case (seen context.now variables.now operand.now) (expected want.entry)) }
+    ensures { Gives made result (spec.is_valid_case (seen context.now variables.now operand.now)
+        (expected want.entry)) }
 {
     let typed = typing(alloc, context, variables, operand, None)?;
     match payload(&typed.ty) {
@@ -803,7 +848,8 @@ fn valid_value(
     operand: &Expr,
     want: Option<&Ty>,
 ) -> Result<Made, Fail>
-    ensures { Gives made result (spec.valid_value_case (seen context.now variables.now operand.now) (expected want.entry)) }
+    ensures { Gives made result (spec.valid_value_case (seen context.now variables.now operand.now)
+        (expected want.entry)) }
 {
     let typed = Boxed::new(alloc, typing(alloc, context, variables, operand, None)?)?;
     let Some(held) = payload(&typed.get().ty) else {
@@ -825,7 +871,8 @@ fn from_maybe(
     operand: &Expr,
     want: Option<&Ty>,
 ) -> Result<Made, Fail>
-    ensures { Gives made result (spec.from_maybe_case (seen context.now variables.now default.now) (seen context.now variables.now operand.now) (expected want.entry)) }
+    ensures { Gives made result (spec.from_maybe_case (seen context.now variables.now default.now)
+        (seen context.now variables.now operand.now) (expected want.entry)) }
 {
     let typed = Boxed::new(alloc, typing(alloc, context, variables, operand, None)?)?;
     let Some(held) = payload(&typed.get().ty) else {
@@ -851,7 +898,8 @@ fn function_call(
     given: &[Expr],
     want: Option<&Ty>,
 ) -> Result<Made, Fail>
-    ensures { Gives made result (spec.function_case (function_named context.now name.now) (all_seen context.now variables.now given.now) (expected want.entry)) }
+    ensures { Gives made result (spec.function_case (function_named context.now name.now)
+        (all_seen context.now variables.now given.now) (expected want.entry)) }
 {
     match context.function(name) {
         Some(function) => call_of_header(alloc, context, variables, function, given, want),
@@ -870,7 +918,8 @@ fn call_of_header(
     given: &[Expr],
     want: Option<&Ty>,
 ) -> Result<Made, Fail>
-    ensures { Gives made result (spec.function_case (Some (header function.now)) (all_seen context.now variables.now given.now) (expected want.entry)) }
+    ensures { Gives made result (spec.function_case (Some (header function.now))
+        (all_seen context.now variables.now given.now) (expected want.entry)) }
 {
     let params = Params::Types(function.params.as_slice());
     let operands = arguments(alloc, context, variables, given, params)?;
@@ -888,7 +937,8 @@ pub(crate) fn arguments(
     given: &[Expr],
     params: Params<'_>,
 ) -> Result<Items<Typed>, Fail>
-    ensures { Gives exprs result (spec.arguments (params_of params.entry) (all_seen context.now variables.now given.now)) }
+    ensures { Gives exprs result (spec.arguments (params_of params.entry)
+        (all_seen context.now variables.now given.now)) }
 {
     let mut found = Items::new(alloc);
     let mut rest = given;
@@ -919,7 +969,9 @@ fn construct(
     given: &[FieldValue],
     want: Option<&Ty>,
 ) -> Result<Made, Fail>
-    ensures { Gives made result (ordered (limits context.now) (spec.construct_case (limits context.now) (structure_named context.now name.now) (fields_seen context.now variables.now given.now)) (expected want.entry)) }
+    ensures { Gives made result (ordered (limits context.now)
+        (spec.construct_case (limits context.now) (structure_named context.now name.now)
+        (fields_seen context.now variables.now given.now)) (expected want.entry)) }
 {
     let Some(structure) = context.structure(name) else {
         return Err(Fail::Fault);
@@ -944,7 +996,8 @@ fn field_values(
     given: &[FieldValue],
     ty: &Ty,
 ) -> Result<(Items<u32>, Items<Typed>), Fail>
-    ensures { Gives (λ r. r) result (spec.field_values (limits context.now) (kind ty.now) [] (fields_seen context.now variables.now given.now)) }
+    ensures { Gives (λ r. r) result (spec.field_values (limits context.now) (kind ty.now) []
+        (fields_seen context.now variables.now given.now)) }
 {
     let mut numbers = Items::new(alloc);
     let mut found = Items::new(alloc);
@@ -997,7 +1050,8 @@ pub fn handed_instance(
     variables: &Scopes<Variable>,
     expr: &Expr,
 ) -> Result<Instance, Fail>
-    ensures { Gives instance_of result (instance_named (term (env context.now variables.now) expr.now)) }
+    ensures { Gives instance_of result (instance_named
+        (term (env context.now variables.now) expr.now)) }
 {
     match front(alloc, context, variables, expr)? {
         Front::Instance(instance) => Ok(instance),
@@ -1014,7 +1068,9 @@ fn postfix(
     primary: &Expr,
     suffixes: &[Suffix],
 ) -> Result<Front, Fail>
-    ensures { Gives front_of result (table.postfix_front (term (env context.now variables.now) primary.now) (suffixes_seen context.now variables.now suffixes.now)) }
+    ensures { Gives front_of result (table.postfix_front
+        (term (env context.now variables.now) primary.now)
+        (suffixes_seen context.now variables.now suffixes.now)) }
 {
     let mut found = front(alloc, context, variables, primary)?;
     let mut rest = suffixes;
@@ -1034,7 +1090,8 @@ fn behind(
     suffix: &Suffix,
     front: Front,
 ) -> Result<Front, Fail>
-    ensures { Gives front_of result (suffix_seen context.now variables.now suffix.now (front_of front)) }
+    ensures { Gives front_of result (suffix_seen context.now variables.now suffix.now
+        (front_of front)) }
 {
     match suffix {
         Suffix::Member(_, name) => {
@@ -1070,7 +1127,8 @@ fn method_behind(
     given: &[Expr],
     front: Front,
 ) -> Result<Front, Fail>
-    ensures { Gives front_of result (places.method_behind (limits context.now) name.now (all_seen context.now variables.now given.now) (front_of front)) }
+    ensures { Gives front_of result (places.method_behind (limits context.now) name.now
+        (all_seen context.now variables.now given.now) (front_of front)) }
 {
     let Front::Instance(instance) = front else {
         return Err(Fail::Fault);
@@ -1096,7 +1154,8 @@ fn index_behind(
     place: &Expr,
     front: Front,
 ) -> Result<Front, Fail>
-    ensures { Gives front_of result (places.index_behind (limits context.now) (seen context.now variables.now place.now) (front_of front)) }
+    ensures { Gives front_of result (places.index_behind (limits context.now)
+        (seen context.now variables.now place.now) (front_of front)) }
 {
     match front {
         Front::Array(level, ty) => {
@@ -1122,7 +1181,8 @@ fn bit_of(
     place: &Expr,
     typed: Made,
 ) -> Result<Front, Fail>
-    ensures { Gives front_of result (places.bit_of (seen context.now variables.now place.now) (made typed)) }
+    ensures { Gives front_of result (places.bit_of (seen context.now variables.now place.now)
+        (made typed)) }
 {
     let typed = Boxed::new(alloc, typed)?;
     if bit_width(&typed.get().ty).is_none() {

@@ -36,7 +36,8 @@ fn unsized_number(
     number: u128,
     want: Option<&Ty>,
 ) -> Result<Made, Fail>
-    ensures { Gives made result (spec.number_case (limits context.now) number (expected want.entry)) }
+    ensures { Gives made result (spec.number_case (limits context.now) number
+        (expected want.entry)) }
 {
     let ty = wanted_or_integer(alloc, want)?;
     if fits(context, number, &ty) {
@@ -78,7 +79,8 @@ pub(crate) fn number(
     written: Literal,
     want: Option<&Ty>,
 ) -> Result<Made, Fail>
-    ensures { Gives made result (table.literal_case (limits context.now) written (expected want.entry)) }
+    ensures { Gives made result (table.literal_case (limits context.now) written
+        (expected want.entry)) }
 {
     match written.size {
         None => unsized_number(alloc, context, written.value, want),
@@ -100,7 +102,8 @@ pub(crate) fn negated(
     number: u128,
     want: Option<&Ty>,
 ) -> Result<Made, Fail>
-    ensures { Gives made result (spec.negated_case (limits context.now) number (expected want.entry)) }
+    ensures { Gives made result (spec.negated_case (limits context.now) number
+        (expected want.entry)) }
 {
     let ty = wanted_or_integer(alloc, want)?;
     if !fits_negated(context, number, &ty) {
@@ -119,7 +122,8 @@ pub(crate) fn label(
     name: &Name,
     want: Option<&Ty>,
 ) -> Result<Made, Fail>
-    ensures { Gives made result (table.label_case (label_named context.now name.now) name.now (expected want.entry)) }
+    ensures { Gives made result (table.label_case (label_named context.now name.now) name.now
+        (expected want.entry)) }
 {
     if name.bytes() == b"True".as_slice() {
         return as_wanted(want, literal(alloc, Ty::Bool, 1)?);
@@ -159,7 +163,8 @@ fn maybe_of(alloc: Global, ty: &Ty) -> Result<Ty, AllocError>
 
 /// `tagged Valid e`, of a typed e of the type.
 pub(crate) fn tagged(alloc: Global, ty: &Ty, payload: Typed) -> Result<Made, AllocError>
-    ensures { IfOk result (λ m. made m ≡ applied (maybe (kind ty.now)) (op.Valid ∷ []) (payload ∷ [])) }
+    ensures { IfOk result (λ m. made m ≡ applied (maybe (kind ty.now)) (op.Valid ∷ [])
+        (payload ∷ [])) }
 {
     let ty = maybe_of(alloc, ty)?;
     applied_to_one(alloc, ty, Op::Valid, payload)
@@ -172,7 +177,8 @@ pub(crate) fn front_value(
     front: Front,
     want: Option<&Ty>,
 ) -> Result<Made, Fail>
-    ensures { Gives made result (ordered (limits context.now) (table.front_case (limits context.now) (Some (front_of front))) (expected want.entry)) }
+    ensures { Gives made result (ordered (limits context.now)
+        (table.front_case (limits context.now) (Some (front_of front))) (expected want.entry)) }
 {
     let typed = value_at(alloc, context, front)?;
     context.in_order(as_wanted(want, typed)?)

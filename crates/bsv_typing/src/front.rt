@@ -5,7 +5,9 @@ ghost use Rattle.bsv_typing.specs.Forms as forms;
 ghost use Rattle.bsv_typing.specs.Forms.{field_from, field_named};
 ghost use Rattle.bsv_typing.specs.Places as spec;
 ghost use Rattle.bsv_typing.specs.Typing.{ordered_front};
-ghost use Rattle.bsv_typing.specs.Seen.{Gives, limits, made, instance_of, front_of, field_of, variable, header, method_of, variable_named, function_named};
+ghost use Rattle.bsv_typing.specs.Seen.{Gives, limits, made, instance_of, front_of, field_of};
+ghost use Rattle.bsv_typing.specs.Seen.{variable, header, method_of, variable_named};
+ghost use Rattle.bsv_typing.specs.Seen.{function_named};
 
 use crate::classes::is_interface;
 use crate::context::{Context, FunctionHeader, Slot, Variable};
@@ -53,7 +55,8 @@ pub(crate) fn method_call(
     ty: Ty,
     operands: Items<Expr>,
 ) -> Result<Made, Fail>
-    ensures { Gives made result (Some (spec.method_call (instance_of instance) number (kind ty) operands)) }
+    ensures { Gives made result (Some (spec.method_call (instance_of instance) number
+        (kind ty) operands)) }
 {
     let number = place_number(number)?;
     let own = ty.copy(alloc)?;
@@ -132,7 +135,8 @@ pub(crate) fn in_order_front(context: &Context, front: Front) -> Result<Front, F
 /// A variable where its name stands.
 #[tactic(auto, using(crate::proofs::Lists::types_back))]
 fn variable_front(alloc: Global, found: &Variable) -> Result<Front, AllocError>
-    ensures { IfOk result (λ f. front_of f ≡ spec.variable_front (variable found.now).0 (variable found.now).1) }
+    ensures { IfOk result (λ f. front_of f ≡ spec.variable_front (variable found.now).0
+        (variable found.now).1) }
 {
     let level = found.level;
     match &found.slot {
@@ -174,7 +178,8 @@ pub(crate) fn name_front(
     variables: &Scopes<Variable>,
     name: &Name,
 ) -> Result<Front, Fail>
-    ensures { Gives front_of result (spec.name_front (variable_named variables.now name.now) (function_named context.now name.now)) }
+    ensures { Gives front_of result (spec.name_front (variable_named variables.now name.now)
+        (function_named context.now name.now)) }
 {
     if let Some(variable) = variables.find(name) {
         return Ok(variable_front(alloc, variable)?);
@@ -235,7 +240,8 @@ fn member_of_instance(
     name: &[u8],
     instance: Instance,
 ) -> Result<Front, Fail>
-    ensures { Gives front_of result (spec.member_behind (limits context.now) name.now (spec.instance (instance_of instance))) }
+    ensures { Gives front_of result (spec.member_behind (limits context.now) name.now
+        (spec.instance (instance_of instance))) }
 {
     let ty = instance.ty.copy(alloc)?;
     match method_named(context, &ty, name) {
@@ -255,7 +261,8 @@ pub(crate) fn member_behind(
     name: &[u8],
     front: Front,
 ) -> Result<Front, Fail>
-    ensures { Gives front_of result (spec.member_behind (limits context.now) name.now (front_of front)) }
+    ensures { Gives front_of result (spec.member_behind (limits context.now) name.now
+        (front_of front)) }
 {
     match front {
         Front::Instance(instance) => member_of_instance(alloc, context, name, instance),
@@ -324,7 +331,8 @@ pub(crate) fn slice_behind(
     low: Option<u128>,
     front: Front,
 ) -> Result<Front, Fail>
-    ensures { Gives front_of result (spec.slice_behind (limits context.now) high low (front_of front)) }
+    ensures { Gives front_of result (spec.slice_behind (limits context.now) high low
+        (front_of front)) }
 {
     let (Some(high), Some(low)) = (high, low) else {
         return Err(Fail::Fault);

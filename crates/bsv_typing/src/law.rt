@@ -10,7 +10,8 @@ ghost use Rattle.bsv_typing.specs.Typing.{typed};
 
 /// What an expression is typed as is in order, and has the type that was expected.
 pub fn typing_is_right()
-    ensures { (env : Env) (w : World) (frame : Frame) → Fits env w frame → (e : Expr) → Right w frame (typed env e) }
+    ensures { (env : Env) (w : World) (frame : Frame) → Fits env w frame → (e : Expr)
+        → Right w frame (typed env e) }
 {}
 
 /// What statements are typed as is in order, and returns where they do; where nothing can be returned,

@@ -49,7 +49,8 @@ pub struct FoundMethod<'a> {
 impl<'a> Params<'a> {
     /// The first type, and the others.
     pub(crate) fn split_first(self) -> Option<(&'a Ty, Params<'a>)>
-        ensures { MatchOption result (params_of self.entry ≡ []) (λ r. params_of self.entry ≡ kind r.0.now ∷ params_of r.1) }
+        ensures { MatchOption result (params_of self.entry ≡ [])
+            (λ r. params_of self.entry ≡ kind r.0.now ∷ params_of r.1) }
     {
         match self {
             Params::Types(types) => {
@@ -119,7 +120,8 @@ impl<'a> FoundMethod<'a> {
 
     /// Whether it does and gives this.
     pub fn does(&self, result_of: &MethodResult) -> bool
-        ensures { result ≡ spec.same_effect (spec.effect result_of.now) (method_of self.now).1.effect }
+        ensures { result ≡ spec.same_effect (spec.effect result_of.now)
+            (method_of self.now).1.effect }
     {
         match (result_of, self.effect) {
             (MethodResult::Action, MethodEffect::Action) => true,
@@ -164,7 +166,8 @@ fn declared_at(headers: &[MethodHeader], number: usize) -> Option<FoundMethod<'_
 /// The declared method of the name.
 #[tactic(auto, using(crate::proofs::Placed::placed))]
 fn declared_method<'a>(methods: &'a Methods, name: &[u8]) -> Option<FoundMethod<'a>>
-    ensures { option_map method_of result ≡ method_from 0 name.now (map spec.header_signature methods.now) }
+    ensures { option_map method_of result ≡ method_from 0 name.now
+        (map spec.header_signature methods.now) }
 {
     match methods.place(name) {
         None => None,
@@ -197,7 +200,8 @@ fn taking<'a>(number: usize, name: &'a [u8], ty: &'a Ty) -> FoundMethod<'a>
 }
 
 fn reg_method<'a>(ty: &'a Ty, name: &[u8]) -> Option<FoundMethod<'a>>
-    ensures { option_map method_of result ≡ method_from 0 name.now (spec.part_methods part_type.Reg (kind ty.now)) }
+    ensures { option_map method_of result ≡ method_from 0 name.now
+        (spec.part_methods part_type.Reg (kind ty.now)) }
 {
     if name == b"_read".as_slice() {
         Some(plain(0, b"_read", MethodEffect::Value(ty)))
@@ -209,7 +213,8 @@ fn reg_method<'a>(ty: &'a Ty, name: &[u8]) -> Option<FoundMethod<'a>>
 }
 
 fn wire_method<'a>(ty: &'a Ty, name: &[u8]) -> Option<FoundMethod<'a>>
-    ensures { option_map method_of result ≡ method_from 0 name.now (spec.part_methods part_type.Wire (kind ty.now)) }
+    ensures { option_map method_of result ≡ method_from 0 name.now
+        (spec.part_methods part_type.Wire (kind ty.now)) }
 {
     if name == b"_write".as_slice() {
         Some(taking(0, b"_write", ty))
@@ -221,7 +226,8 @@ fn wire_method<'a>(ty: &'a Ty, name: &[u8]) -> Option<FoundMethod<'a>>
 }
 
 fn rwire_method<'a>(ty: &'a Ty, name: &[u8]) -> Option<FoundMethod<'a>>
-    ensures { option_map method_of result ≡ method_from 0 name.now (spec.part_methods part_type.RWire (kind ty.now)) }
+    ensures { option_map method_of result ≡ method_from 0 name.now
+        (spec.part_methods part_type.RWire (kind ty.now)) }
 {
     if name == b"wset".as_slice() {
         Some(taking(0, b"wset", ty))
@@ -233,7 +239,8 @@ fn rwire_method<'a>(ty: &'a Ty, name: &[u8]) -> Option<FoundMethod<'a>>
 }
 
 fn fifo_method<'a>(ty: &'a Ty, name: &[u8]) -> Option<FoundMethod<'a>>
-    ensures { option_map method_of result ≡ method_from 0 name.now (spec.part_methods part_type.Fifo (kind ty.now)) }
+    ensures { option_map method_of result ≡ method_from 0 name.now
+        (spec.part_methods part_type.Fifo (kind ty.now)) }
 {
     if name == b"enq".as_slice() {
         Some(taking(0, b"enq", ty))
@@ -249,7 +256,8 @@ fn fifo_method<'a>(ty: &'a Ty, name: &[u8]) -> Option<FoundMethod<'a>>
 }
 
 fn fifof_method<'a>(ty: &'a Ty, name: &[u8]) -> Option<FoundMethod<'a>>
-    ensures { option_map method_of result ≡ method_from 0 name.now (spec.part_methods part_type.Fifof (kind ty.now)) }
+    ensures { option_map method_of result ≡ method_from 0 name.now
+        (spec.part_methods part_type.Fifof (kind ty.now)) }
 {
     if name == b"enq".as_slice() {
         Some(taking(0, b"enq", ty))
@@ -269,7 +277,8 @@ fn fifof_method<'a>(ty: &'a Ty, name: &[u8]) -> Option<FoundMethod<'a>>
 }
 
 fn pulse_wire_method(name: &[u8]) -> Option<FoundMethod<'static>>
-    ensures { option_map method_of result ≡ method_from 0 name.now (spec.bare_methods part_type.PulseWire) }
+    ensures { option_map method_of result ≡ method_from 0 name.now
+        (spec.bare_methods part_type.PulseWire) }
 {
     if name == b"send".as_slice() {
         Some(plain(0, b"send", MethodEffect::Action))
@@ -282,7 +291,8 @@ fn pulse_wire_method(name: &[u8]) -> Option<FoundMethod<'static>>
 
 /// The method of the name of an interface with a T that the language gives.
 fn part_method<'a>(part: PartTy, ty: &'a Ty, name: &[u8]) -> Option<FoundMethod<'a>>
-    ensures { option_map method_of result ≡ method_from 0 name.now (spec.part_methods part (kind ty.now)) }
+    ensures { option_map method_of result ≡ method_from 0 name.now
+        (spec.part_methods part (kind ty.now)) }
 {
     match part {
         PartTy::Reg => reg_method(ty, name),
@@ -297,7 +307,8 @@ fn part_method<'a>(part: PartTy, ty: &'a Ty, name: &[u8]) -> Option<FoundMethod<
 /// The method of the name of an interface.
 #[tactic(auto, unfolding(crate::specs::Places::method_named))]
 pub fn method_named<'a>(context: &'a Context, ty: &'a Ty, name: &[u8]) -> Option<FoundMethod<'a>>
-    ensures { option_map method_of result ≡ method_named (limits context.now) (kind ty.now) name.now }
+    ensures { option_map method_of result ≡ method_named (limits context.now)
+        (kind ty.now) name.now }
 {
     match ty {
         Ty::Interface(number) => match context.interfaces.get(*number as usize) {

@@ -142,10 +142,16 @@ pub(crate) fn split_open<'a>(
     variables: &Scopes<Variable>,
     exprs: &'a [Expr],
 ) -> (&'a [Expr], &'a [Expr])
-    ensures front { all_seen context.now variables.now result.0.now ≡ take (spec.open_front (all_seen context.now variables.now exprs.now)) (all_seen context.now variables.now exprs.now) }
-    ensures rest { all_seen context.now variables.now result.1.now ≡ drop (spec.open_front (all_seen context.now variables.now exprs.now)) (all_seen context.now variables.now exprs.now) }
-    ensures front_within { greatest (map expr_depth result.0.now) ≤ greatest (map expr_depth exprs.now) }
-    ensures rest_within { greatest (map expr_depth result.1.now) ≤ greatest (map expr_depth exprs.now) }
+    ensures front { all_seen context.now variables.now result.0.now
+        ≡ take (spec.open_front (all_seen context.now variables.now exprs.now))
+        (all_seen context.now variables.now exprs.now) }
+    ensures rest { all_seen context.now variables.now result.1.now
+        ≡ drop (spec.open_front (all_seen context.now variables.now exprs.now))
+        (all_seen context.now variables.now exprs.now) }
+    ensures front_within { greatest (map expr_depth result.0.now) ≤ greatest
+        (map expr_depth exprs.now) }
+    ensures rest_within { greatest (map expr_depth result.1.now) ≤ greatest
+        (map expr_depth exprs.now) }
 {
     exprs.split_at(open_front(context, variables, exprs))
 }

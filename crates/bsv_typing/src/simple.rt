@@ -99,7 +99,8 @@ pub(crate) fn write(
     place: &Place,
     value: &Expr,
 ) -> Result<Typed, BodyFail>
-    ensures { GivesAt (λ x. (shown scopes.now, x)) result (spec.write_case (task_of task.now) span place.now value.now (shown scopes.now)) }
+    ensures { GivesAt (λ x. (shown scopes.now, x)) result
+        (spec.write_case (task_of task.now) span place.now value.now (shown scopes.now)) }
 {
     let instance = instance_at(alloc, task, scopes, span, place)?;
     if !(task.acts && is_written(&instance.ty)) {
@@ -118,7 +119,8 @@ pub(crate) fn act(
     span: Span,
     call: &Call,
 ) -> Result<Typed, BodyFail>
-    ensures { GivesAt (λ x. (shown scopes.now, x)) result (spec.act_case (task_of task.now) span call.now (shown scopes.now)) }
+    ensures { GivesAt (λ x. (shown scopes.now, x)) result
+        (spec.act_case (task_of task.now) span call.now (shown scopes.now)) }
 {
     let found = call_at(alloc, task, scopes, span, call)?;
     if task.acts && is_action(&found.effect) {
@@ -131,7 +133,8 @@ pub(crate) fn act(
 /// The statement that binds what a call gives.
 #[tactic(auto, using(crate::proofs::Lists::types_back))]
 fn bound(alloc: Global, ty: &Ty, call: MethodCall) -> Result<Typed, AllocError>
-    ensures { IfOk result (λ x. x ≡ Bind (type_of (kind ty.now)) (place_of (instance_of call.instance)) call.method call.arguments) }
+    ensures { IfOk result (λ x. x ≡ Bind (type_of (kind ty.now))
+        (place_of (instance_of call.instance)) call.method call.arguments) }
 {
     let own = ty.copy(alloc)?;
     let place = place_of(call.instance);
@@ -148,7 +151,8 @@ pub(crate) fn bind(
     name: &Name,
     call: &Call,
 ) -> Result<Typed, BodyFail>
-    ensures { GivesAt (λ x. (shown scopes.new, x)) result (spec.bind_case (task_of task.now) span declared.now name.now call.now (shown scopes.old)) }
+    ensures { GivesAt (λ x. (shown scopes.new, x)) result
+        (spec.bind_case (task_of task.now) span declared.now name.now call.now (shown scopes.old)) }
 {
     let want = declared_type(alloc, task, span, declared)?;
     let found = Boxed::new(alloc, call_at(alloc, task, scopes, span, call)?)?;
@@ -173,7 +177,8 @@ pub(crate) fn declaration(
     span: Span,
     given: &Declaration,
 ) -> Result<Typed, BodyFail>
-    ensures { GivesAt (λ x. (shown scopes.new, x)) result (spec.declare_case (task_of task.now) span given.now (shown scopes.old)) }
+    ensures { GivesAt (λ x. (shown scopes.new, x)) result
+        (spec.declare_case (task_of task.now) span given.now (shown scopes.old)) }
 {
     let want = declared_type(alloc, task, span, &given.declared)?;
     let Made { ty, expr } = checked(alloc, task, scopes, span, &given.value, want.as_ref())?;
@@ -192,7 +197,8 @@ pub(crate) fn assign(
     name: &Name,
     value: &Expr,
 ) -> Result<Typed, BodyFail>
-    ensures { GivesAt (λ x. (shown scopes.now, x)) result (spec.assign_case (task_of task.now) span name.now value.now (shown scopes.now)) }
+    ensures { GivesAt (λ x. (shown scopes.now, x)) result
+        (spec.assign_case (task_of task.now) span name.now value.now (shown scopes.now)) }
 {
     let Some((level, ty)) = assignable(task, scopes, name) else {
         return Err(BodyFail::At(span));
@@ -208,7 +214,8 @@ pub(crate) fn give_back(
     span: Span,
     value: &Expr,
 ) -> Result<Typed, BodyFail>
-    ensures { GivesAt (λ x. (shown scopes.now, x)) result (spec.return_case (task_of task.now) span value.now (shown scopes.now)) }
+    ensures { GivesAt (λ x. (shown scopes.now, x)) result
+        (spec.return_case (task_of task.now) span value.now (shown scopes.now)) }
 {
     match task.result {
         Some(ty) => Ok(Typed::Return(of_type(alloc, task, scopes, span, value, ty)?)),
@@ -224,7 +231,8 @@ fn asked(
     span: Span,
     condition: &Condition,
 ) -> Result<Opening, BodyFail>
-    ensures { GivesAt opening_of result (spec.opening (task_of task.now) (shown scopes.now) span condition.now) }
+    ensures { GivesAt opening_of result (spec.opening (task_of task.now)
+        (shown scopes.now) span condition.now) }
 {
     match condition {
         Condition::Test(_, test) => {
@@ -257,7 +265,8 @@ fn asked_of(
     span: Span,
     branch: &Branch,
 ) -> Result<Opening, BodyFail>
-    ensures { GivesAt opening_of result (spec.opening (task_of task.now) (shown scopes.now) span (spec.arm_of (task_of task.now) branch.now).condition) }
+    ensures { GivesAt opening_of result (spec.opening (task_of task.now) (shown scopes.now) span
+        (spec.arm_of (task_of task.now) branch.now).condition) }
 {
     asked(alloc, task, scopes, span, &branch.condition)
 }
@@ -271,7 +280,9 @@ pub(crate) fn openings(
     span: Span,
     branches: &[Branch],
 ) -> Result<Vec<Opening>, BodyFail>
-    ensures { GivesAt (λ os. map opening_of os.items) result (spec.openings (task_of task.now) (shown scopes.now) span (map (spec.arm_of (task_of task.now)) branches.now)) }
+    ensures { GivesAt (λ os. map opening_of os.items) result
+        (spec.openings (task_of task.now) (shown scopes.now) span
+        (map (spec.arm_of (task_of task.now)) branches.now)) }
 {
     let mut found = Vec::new(alloc);
     let mut rest = branches;
@@ -290,7 +301,8 @@ pub(crate) fn open_arm(
     scopes: &mut Scopes<Variable>,
     bound: Option<(Name, Ty)>,
 ) -> Result<(), BodyFail>
-    ensures { GivesAt (λ done. shown scopes.new) result (spec.at span (spec.in_arm (option_map bound_of bound) (shown scopes.old))) }
+    ensures { GivesAt (λ done. shown scopes.new) result
+        (spec.at span (spec.in_arm (option_map bound_of bound) (shown scopes.old))) }
 {
     scopes.open(alloc)?;
     match bound {
@@ -307,7 +319,8 @@ fn step(
     span: Span,
     given: &Head,
 ) -> Result<(u32, TypedExpr), BodyFail>
-    ensures { GivesAt (λ r. r) result (spec.step_of (task_of task.now) (shown scopes.now) span given.now) }
+    ensures { GivesAt (λ r. r) result (spec.step_of (task_of task.now)
+        (shown scopes.now) span given.now) }
 {
     let Some((level, ty)) = assignable(task, scopes, &given.stepped.name) else {
         return Err(BodyFail::At(span));
@@ -324,7 +337,8 @@ fn turn(
     span: Span,
     given: &Head,
 ) -> Result<(TypedExpr, u32, TypedExpr), BodyFail>
-    ensures { GivesAt (λ r. r) result (spec.turn_of (task_of task.now) (shown scopes.now) span given.now) }
+    ensures { GivesAt (λ r. r) result (spec.turn_of (task_of task.now)
+        (shown scopes.now) span given.now) }
 {
     let condition = of_type(alloc, task, scopes, span, &given.condition, &Ty::Bool)?;
     let (stepped, value) = step(alloc, task, scopes, span, given)?;
@@ -339,7 +353,8 @@ fn start(
     span: Span,
     given: &Head,
 ) -> Result<TypedExpr, BodyFail>
-    ensures { GivesAt (λ x. (shown scopes.new, x)) result (spec.start_of (task_of task.now) span given.now (shown scopes.old)) }
+    ensures { GivesAt (λ x. (shown scopes.new, x)) result
+        (spec.start_of (task_of task.now) span given.now (shown scopes.old)) }
 {
     let name = &given.variable.name;
     if !is_lower(name.bytes()) {
@@ -360,7 +375,8 @@ pub fn head(
     span: Span,
     given: &Head,
 ) -> Result<TypedHead, BodyFail>
-    ensures { GivesAt (λ h. (shown scopes.new, h)) result (spec.in_head (task_of task.now) span given.now (shown scopes.old)) }
+    ensures { GivesAt (λ h. (shown scopes.new, h)) result
+        (spec.in_head (task_of task.now) span given.now (shown scopes.old)) }
 {
     let variable = Name::new(alloc, given.variable.name.bytes())?;
     let first = start(alloc, task, scopes, span, given)?;
@@ -384,7 +400,8 @@ fn all_labels(
     ty: &Ty,
     labels: &[Expr],
 ) -> Result<Items<TypedExpr>, BodyFail>
-    ensures { GivesAt (λ xs. xs) result (spec.all_labels (task_of task.now) (shown scopes.now) span (kind ty.now) labels.now) }
+    ensures { GivesAt (λ xs. xs) result (spec.all_labels (task_of task.now) (shown scopes.now) span
+        (kind ty.now) labels.now) }
 {
     let mut found = Items::new(alloc);
     let mut rest = labels;
@@ -405,7 +422,8 @@ fn labels_of_arm(
     ty: &Ty,
     case: &CaseArm,
 ) -> Result<Items<TypedExpr>, BodyFail>
-    ensures { GivesAt (λ xs. xs) result (spec.all_labels (task_of task.now) (shown scopes.now) span (kind ty.now) (spec.labelled_of (task_of task.now) case.now).labels) }
+    ensures { GivesAt (λ xs. xs) result (spec.all_labels (task_of task.now) (shown scopes.now) span
+        (kind ty.now) (spec.labelled_of (task_of task.now) case.now).labels) }
 {
     all_labels(alloc, task, scopes, span, ty, case.labels.as_slice())
 }
@@ -420,7 +438,9 @@ pub(crate) fn labels_of(
     ty: &Ty,
     arms: &[CaseArm],
 ) -> Result<Vec<Items<TypedExpr>>, BodyFail>
-    ensures { GivesAt (λ xs. xs.items) result (spec.labels_of (task_of task.now) (shown scopes.now) span (kind ty.now) (map (spec.labelled_of (task_of task.now)) arms.now)) }
+    ensures { GivesAt (λ xs. xs.items) result
+        (spec.labels_of (task_of task.now) (shown scopes.now) span (kind ty.now)
+        (map (spec.labelled_of (task_of task.now)) arms.now)) }
 {
     let mut found = Vec::new(alloc);
     let mut rest = arms;

@@ -80,7 +80,8 @@ fn has_bits_over(
     part: PartTy,
     ty: &Ty,
 ) -> Result<bool, AllocError>
-    ensures { IfOk result (λ b. b ≡ has_bits (limits context.now) (spec.widest part (kind ty.now))) }
+    ensures { IfOk result (λ b. b ≡ has_bits (limits context.now)
+        (spec.widest part (kind ty.now))) }
 {
     let widest = widest(alloc, part, ty)?;
     Ok(context.has_bits(&widest))
@@ -141,7 +142,8 @@ pub fn written_type(alloc: Global, context: &Context, ty: &WrittenType) -> Resul
 
 /// A method that gives a value of the type.
 fn value_effect(alloc: Global, context: &Context, ty: &WrittenType) -> Result<MethodResult, Fail>
-    ensures { Gives effect result (spec.value_effect (limits context.now) (written (type_names context.now) ty.now)) }
+    ensures { Gives effect result (spec.value_effect (limits context.now)
+        (written (type_names context.now) ty.now)) }
 {
     let given = written_type(alloc, context, ty)?;
     Ok(MethodResult::Value(with_bits(context, given)?))
@@ -153,7 +155,8 @@ fn action_effect(
     context: &Context,
     held: &TypeArgument,
 ) -> Result<MethodResult, Fail>
-    ensures { Gives effect result (spec.action_effect (limits context.now) (argument (type_names context.now) held.now)) }
+    ensures { Gives effect result (spec.action_effect (limits context.now)
+        (argument (type_names context.now) held.now)) }
 {
     match held {
         TypeArgument::Written(_, ty) => {
