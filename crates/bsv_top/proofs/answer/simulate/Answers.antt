@@ -1,4 +1,4 @@
-use Rattle.std.proofs.Common.{ℕ, List, Some, ap, refl, ◌∙◌, subst, arith}
+use Rattle.std.proofs.Common.{ℕ, List, Some, length, ap, refl, ◌∙◌, subst, arith}
 use Rattle.std.proofs.lemmas.Result.{on_ok_weaker}
 use Rattle.bsv_io.specs.Faults.{MayFault}
 use Rattle.bsv_io.specs.Reading.{Reading, bytes_given, current_name}
@@ -63,26 +63,26 @@ returns-in-Err-clause-within g c =
 
 pub returns-clause-within : goal.returns-clause-within
 returns-clause-within g c = λ contents told. run
-    (trace_within c.args.trace.now contents (g.F.Files.reading c.choose.new.self) (g.F.Files.reading c.report_clocks.new.files) _ c.report_clocks.ensures.file
+    (trace_within c.args.trace.now contents (g.F.Files.reading c.choose.new.self) (g.F.Files.reading c.report_clocks.new.files) (length c.deref_mut-3.result.now) c.report_clocks.ensures.file
     (ap current_name c.in_default.ensures.ok ∙ ap (λ (n : List ℕ). Some n) (c.in_ok-name.ensures ∙ c.as_bytes.ensures.value))
-    (ap (λ (r : Reading). bytes_given r) c.in_default.ensures.ok) c.in_ok-buffer.ensures.len
+    (ap (λ (r : Reading). bytes_given r) c.in_default.ensures.ok) (omega (arith, c.in_ok-buffer.ensures.len))
     (c.report_clocks.ensures.within (contents c.args.trace.now)
     (rest_chosen (g.F.Files.reading c.args.files.now) (g.F.Files.reading c.choose.new.self) c.args.trace.now _ contents c.in_default.ensures.ok (c.in_ok-name.ensures ∙ c.as_bytes.ensures.value) told)))
 
 pub returns-clause-done_within : goal.returns-clause-done_within
 returns-clause-done_within g c =
     on_ok_weaker c.report_clocks.result
-    (λ h contents told. trace_within c.args.trace.now contents (g.F.Files.reading c.choose.new.self) (g.F.Files.reading c.report_clocks.new.files) _ c.report_clocks.ensures.file
+    (λ h contents told. trace_within c.args.trace.now contents (g.F.Files.reading c.choose.new.self) (g.F.Files.reading c.report_clocks.new.files) (length c.deref_mut-3.result.now) c.report_clocks.ensures.file
     (ap current_name c.in_default.ensures.ok ∙ ap (λ (n : List ℕ). Some n) (c.in_ok-name.ensures ∙ c.as_bytes.ensures.value))
-    (ap (λ (r : Reading). bytes_given r) c.in_default.ensures.ok) c.in_ok-buffer.ensures.len
+    (ap (λ (r : Reading). bytes_given r) c.in_default.ensures.ok) (omega (arith, c.in_ok-buffer.ensures.len))
     (c.report_clocks.ensures.within (contents c.args.trace.now)
     (rest_chosen (g.F.Files.reading c.args.files.now) (g.F.Files.reading c.choose.new.self) c.args.trace.now _ contents c.in_default.ensures.ok (c.in_ok-name.ensures ∙ c.as_bytes.ensures.value) told)))
     c.report_clocks.ensures.done
 
 pub returns-clause-bad_within : goal.returns-clause-bad_within
 returns-clause-bad_within g c =
-    λ number h contents told. trace_within c.args.trace.now contents (g.F.Files.reading c.choose.new.self) (g.F.Files.reading c.report_clocks.new.files) _ c.report_clocks.ensures.file
+    λ number h contents told. trace_within c.args.trace.now contents (g.F.Files.reading c.choose.new.self) (g.F.Files.reading c.report_clocks.new.files) (length c.deref_mut-3.result.now) c.report_clocks.ensures.file
     (ap current_name c.in_default.ensures.ok ∙ ap (λ (n : List ℕ). Some n) (c.in_ok-name.ensures ∙ c.as_bytes.ensures.value))
-    (ap (λ (r : Reading). bytes_given r) c.in_default.ensures.ok) c.in_ok-buffer.ensures.len
+    (ap (λ (r : Reading). bytes_given r) c.in_default.ensures.ok) (omega (arith, c.in_ok-buffer.ensures.len))
     (c.report_clocks.ensures.within (contents c.args.trace.now)
     (rest_chosen (g.F.Files.reading c.args.files.now) (g.F.Files.reading c.choose.new.self) c.args.trace.now _ contents c.in_default.ensures.ok (c.in_ok-name.ensures ∙ c.as_bytes.ensures.value) told))
