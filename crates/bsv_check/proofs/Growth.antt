@@ -7,7 +7,7 @@ use Rattle.std.proofs.lemmas.List.{length-append}
 use Rattle.bsv_types.specs.declared.types.PartTy.TheVariants as part_type
 use Rattle.bsv_types.specs.declared.definitions.Enum.{Enum}
 use Rattle.bsv_types.specs.declared.definitions.Struct.{Struct}
-use Rattle.bsv_types.specs.Kinds.{Kind, bit, uint, int, bool, enum, struct, maybe, integer, interface, part, bare}
+use Rattle.bsv_types.specs.Kinds.{Kind, bit, down, uint, int, bool, enum, struct, maybe, integer, interface, part, bare}
 use Rattle.bsv_types.specs.Shapes.{Shapes, plus, width_by, widths_by, has_range, is_bits, has_bits, is_value, is_instance}
 use Rattle.bsv_types.specs.Methods.{Effect, value, action, action_value}
 use Rattle.bsv_types.specs.Programs.{effect_right}
@@ -38,6 +38,7 @@ module _ (s z : Shapes) (more : Grows s z) where
 
   pub width_kept : (k : Kind) (n : ℕ) → width_in s k ≡ Some n → width_in z k ≡ Some n
   width_kept (bit m) n e = e
+  width_kept (down m) n e = absurd cc
   width_kept (uint m) n e = e
   width_kept (int m) n e = e
   width_kept bool n e = e
@@ -70,6 +71,7 @@ module _ (s z : Shapes) (more : Grows s z) where
 
   pub bits_kept : (limit above : ℕ) (k : Kind) → limit ≤ above → is_bits s limit k ≡ true → is_bits z above k ≡ true
   bits_kept limit above (bit m) le e = e
+  bits_kept limit above (down m) le e = absurd cc
   bits_kept limit above (uint m) le e = e
   bits_kept limit above (int m) le e = e
   bits_kept limit above bool le e = e
@@ -94,6 +96,7 @@ module _ (s z : Shapes) (more : Grows s z) where
   pub value_kept : (k : Kind) → is_value s k ≡ true → is_value z k ≡ true
   value_kept integer e = e
   value_kept (bit m) e = has_bits_kept (bit m) e
+  value_kept (down m) e = has_bits_kept (down m) e
   value_kept (uint m) e = has_bits_kept (uint m) e
   value_kept (int m) e = has_bits_kept (int m) e
   value_kept bool e = e
@@ -119,6 +122,7 @@ module _ (s z : Shapes) (more : Grows s z) where
   instance_kept (bare part_type.Fifo) e = absurd cc
   instance_kept (bare part_type.Fifof) e = absurd cc
   instance_kept (bit m) e = absurd cc
+  instance_kept (down m) e = absurd cc
   instance_kept (uint m) e = absurd cc
   instance_kept (int m) e = absurd cc
   instance_kept bool e = absurd cc

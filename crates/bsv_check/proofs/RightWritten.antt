@@ -7,12 +7,12 @@ use Rattle.bsv_ast.specs.declared.types.TypeArgument.{TypeArgument}
 use Rattle.bsv_ast.specs.declared.types.TypeArgument.TheOpen.{WrittenType-F}
 use Rattle.bsv_types.specs.declared.types.PartTy.TheVariants as part_type
 use Rattle.bsv_types.specs.declared.types.PartTy.{PartTy}
-use Rattle.bsv_types.specs.Kinds.{Kind, bit, uint, int, bool, enum, struct, maybe, integer, interface, part, bare}
+use Rattle.bsv_types.specs.Kinds.{Kind, bit, down, uint, int, bool, enum, struct, maybe, integer, interface, part, bare}
 use Rattle.bsv_types.specs.Shapes as ranged
-use Rattle.bsv_types.specs.Shapes.{Shapes, width_by, counted, is_value, is_instance}
+use Rattle.bsv_types.specs.Shapes.{Shapes, counted, is_value, is_instance}
 use Rattle.bsv_types.specs.Expressions.{one}
 use Rattle.bsv_types.specs.Operators.{◌>>=◌}
-use Rattle.bsv_typing.specs.Env.{Limits, has_bits}
+use Rattle.bsv_typing.specs.Env.{Limits, packed, has_bits}
 use Rattle.bsv_typing.specs.Written.{TypeNames, with_bits, Argument, of_type, number, plain_type, sized_type, widest, part_over, type_over, applied_type, written_step, argument_step, written, argument}
 use Rattle.bsv_typing.specs.Laws.{slot_right}
 use Rattle.bsv_check.proofs.Entries.{any_left, any_right}
@@ -31,13 +31,14 @@ pub record Names (names : TypeNames) : Type 0 where
 pub has_bits_is : (g : Limits) (k : Kind) → g.strict ≡ true → has_bits g k ≡ true → ranged.has_bits g.shapes k ≡ true
 unfolding has_bits
 has_bits_is g k strict e = by g.strict strict e where
-  by : (b : Bool) → b ≡ true → cond b (ranged.has_bits g.shapes k) (is_some (width_by g.shapes.enums g.shapes.structs k)) ≡ true → ranged.has_bits g.shapes k ≡ true
+  by : (b : Bool) → b ≡ true → cond b (ranged.has_bits g.shapes k) (is_some (packed g k)) ≡ true → ranged.has_bits g.shapes k ≡ true
   by true is e = e
   by false is e = absurd cc
 
 pub bits_value : (s : Shapes) (k : Kind) → ranged.has_bits s k ≡ true → is_value s k ≡ true
 bits_value s integer e = refl
 bits_value s (bit m) e = e
+bits_value s (down m) e = absurd cc
 bits_value s (uint m) e = e
 bits_value s (int m) e = e
 bits_value s bool e = e

@@ -13,7 +13,7 @@ use Rattle.bsv_types.specs.declared.definitions.Struct.{Struct}
 use Rattle.bsv_types.specs.declared.definitions.Interface.{Interface}
 use Rattle.bsv_types.specs.declared.definitions.Function.{Function}
 use Rattle.bsv_types.specs.declared.modules.Module.{Module}
-use Rattle.bsv_types.specs.Kinds.{Kind, bit, uint, int, bool, enum, struct, maybe, integer, interface, part, bare, kind}
+use Rattle.bsv_types.specs.Kinds.{Kind, bit, down, uint, int, bool, enum, struct, maybe, integer, interface, part, bare, kind}
 use Rattle.bsv_types.specs.Widths.{IsLeast, HasWidth, HaveWidth, WidthWithin, bits, unsigned, signed, truth, labels, fields, tagged, nothing, beside, field_kinds}
 use Rattle.bsv_types.specs.Shapes.{Shapes, plus, width_by, widths_by, is_width, is_bits, is_enum_width}
 use Rattle.bsv_types.specs.Programs.{each_at, enum_right, struct_right, shapes_right, begins_empty, is_right}
@@ -165,6 +165,7 @@ pub record Carries (es : List Enum) (ss : List Struct) : Type 0 where
 
 pub told : (es : List Enum) (ss : List Struct) → Carries es ss → (k : Kind) (w : ℕ) → w ≤ 128 → HasWidth es ss k w → width_by es ss k ≡ Some w
 told es ss c (bit n) w few bits = refl
+told es ss c (down n) w few x = elim x [ ]
 told es ss c (uint n) w few unsigned = refl
 told es ss c (int n) w few signed = refl
 told es ss c bool w few truth = refl

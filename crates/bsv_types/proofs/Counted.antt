@@ -21,7 +21,7 @@ pub widths_turn : (a b : ℕ) (o : Option ℕ) → plus (Some a) (plus (Some b) 
 widths_turn a b None = refl
 widths_turn a b (Some n) = let same : counted (a + counted (b + n)) ≡ counted (counted (a + b) + n) = omega arith in ap Some same
 
-widths_done : (n : ℕ) → n ≤ 4294967295 → plus (Some n) (Some 0) ≡ Some n
+pub widths_done : (n : ℕ) → n ≤ 4294967295 → plus (Some n) (Some 0) ≡ Some n
 widths_done n few = let same : counted (n + 0) ≡ n = omega arith in ap Some same
 
 pub ruleset sums = (widths_start, widths_turn)

@@ -2,7 +2,7 @@
 use Rattle.std.proofs.Common.{◌≡◌, ◌∙◌, Some, None, ap, sym, subst, true, IsTrue, ◌↔◌}
 use Rattle.bsv_types.specs.declared.types.Ty.{Ty, fold-roll-Ty, ind-Ty, roll-Ty, map-Ty}
 use Rattle.bsv_types.specs.declared.types.Ty.TheOpen.{Ty-F}
-use Rattle.bsv_types.specs.Kinds.{Kind, bit, uint, int, bool, enum, struct, maybe, integer, interface, part, bare, kind, kind_step, type_of, same_kind}
+use Rattle.bsv_types.specs.Kinds.{Kind, bit, down, uint, int, bool, enum, struct, maybe, integer, interface, part, bare, kind, kind_step, type_of, same_kind}
 use Rattle.bsv_types.proofs.Same.{same_is, same_self}
 
 abbrev Back : Ty → Type 0
@@ -14,6 +14,7 @@ rolled x = fold-roll-Ty Kind kind_step x
 by_variant : (y : Ty-F ((t : Ty) × Back t)) → Back (roll-Ty (map-Ty ((t : Ty) × Back t) Ty (λ e. e.0) y))
 unfolding roll-Ty
 by_variant (Ty-F.Bit n) = ap type_of (rolled (Ty-F.Bit n))
+by_variant (Ty-F.Down n) = ap type_of (rolled (Ty-F.Down n))
 by_variant (Ty-F.UInt n) = ap type_of (rolled (Ty-F.UInt n))
 by_variant (Ty-F.Int n) = ap type_of (rolled (Ty-F.Int n))
 by_variant Ty-F.Bool = ap type_of (rolled Ty-F.Bool)

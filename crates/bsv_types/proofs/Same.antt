@@ -3,7 +3,7 @@ use Rattle.std.proofs.Common.{◌≡◌, ◌∙◌, Bool, true, false, ◌&&◌,
 use Rattle.std.proofs.lemmas.Bool.{eqb-true, eq-eqb}
 use Rattle.bsv_types.specs.declared.types.PartTy.{PartTy}
 use Rattle.bsv_types.specs.declared.types.PartTy.TheVariants as part_type
-use Rattle.bsv_types.specs.Kinds.{Kind, bit, uint, int, bool, enum, struct, maybe, integer, interface, part, bare, same_part, same_kind}
+use Rattle.bsv_types.specs.Kinds.{Kind, bit, down, uint, int, bool, enum, struct, maybe, integer, interface, part, bare, same_part, same_kind}
 
 pub both : (a b : Bool) → (a && b) ≡ true → (a ≡ true) × (b ≡ true)
 both true b e = (refl, e)
@@ -28,6 +28,7 @@ same_part_self part_type.Fifof = refl
 
 pub same_is : (j k : Kind) → same_kind j k ≡ true → j ≡ k
 same_is (bit m) (bit n) e = ap bit (eqb-true m n e)
+same_is (down m) (down n) e = ap down (eqb-true m n e)
 same_is (uint m) (uint n) e = ap uint (eqb-true m n e)
 same_is (int m) (int n) e = ap int (eqb-true m n e)
 same_is bool bool e = refl
@@ -42,6 +43,7 @@ same_is _ _ e = absurd cc
 
 pub same_self : (k : Kind) → same_kind k k ≡ true
 same_self (bit n) = eq-eqb n n refl
+same_self (down n) = eq-eqb n n refl
 same_self (uint n) = eq-eqb n n refl
 same_self (int n) = eq-eqb n n refl
 same_self bool = refl

@@ -1,5 +1,5 @@
 -- Types as plain data, and the classes of types that the typing speaks of (Bluespec reference guide, "Types").
-use Rattle.std.specs.Prelude.{ℕ, Bool, true, false, ◌&&◌, ◌==◌, Option, Some, None}
+use Rattle.std.specs.Prelude.{ℕ, Bool, true, false, ◌&&◌, ◌==◌, nat_le, Option, Some, None}
 use Rattle.bsv_types.specs.declared.types.PartTy.{PartTy}
 use Rattle.bsv_types.specs.declared.types.PartTy.TheVariants as part_type
 use Rattle.bsv_types.specs.declared.types.Ty.{Ty, fold-Ty, roll-Ty}
@@ -7,6 +7,8 @@ use Rattle.bsv_types.specs.declared.types.Ty.TheOpen.{Ty-F}
 
 pub data Kind : Type 0 where
   bit : ℕ → Kind
+  -- a Bit whose width is so many bits below 0: a range that counts down has it where widths are left aside
+  down : ℕ → Kind
   uint : ℕ → Kind
   int : ℕ → Kind
   bool : Kind
@@ -25,6 +27,7 @@ part_of p (Some k) = part p k
 
 abbrev pub kind_step : Ty-F Kind → Kind
 kind_step (Ty-F.Bit n) = bit n
+kind_step (Ty-F.Down n) = down n
 kind_step (Ty-F.UInt n) = uint n
 kind_step (Ty-F.Int n) = int n
 kind_step Ty-F.Bool = bool
@@ -42,6 +45,7 @@ kind = fold-Ty Kind kind_step
 -- the type of the code that a type is
 abbrev pub type_of : Kind → Ty
 type_of (bit n) = roll-Ty (Ty-F.Bit n)
+type_of (down n) = roll-Ty (Ty-F.Down n)
 type_of (uint n) = roll-Ty (Ty-F.UInt n)
 type_of (int n) = roll-Ty (Ty-F.Int n)
 type_of bool = roll-Ty Ty-F.Bool
@@ -65,6 +69,7 @@ same_part _ _ = false
 -- two types are one
 abbrev pub same_kind : Kind → Kind → Bool
 same_kind (bit m) (bit n) = m == n
+same_kind (down m) (down n) = m == n
 same_kind (uint m) (uint n) = m == n
 same_kind (int m) (int n) = m == n
 same_kind bool bool = true
@@ -84,9 +89,15 @@ is_interface (part p k) = true
 is_interface (bare p) = true
 is_interface _ = false
 
+abbrev pub is_bit : Kind → Bool
+is_bit (bit n) = true
+is_bit (down n) = true
+is_bit _ = false
+
 -- Bit, UInt or Int
 abbrev pub has_family : Kind → Bool
 has_family (bit n) = true
+has_family (down n) = true
 has_family (uint n) = true
 has_family (int n) = true
 has_family _ = false
@@ -99,13 +110,16 @@ is_number k = has_family k
 -- what a shift may shift by
 abbrev pub is_amount : Kind → Bool
 is_amount (bit n) = true
+is_amount (down n) = true
 is_amount (uint n) = true
 is_amount integer = true
 is_amount _ = false
 
--- both Bit, both UInt or both Int, and their widths pass the test
-abbrev pub family_widths : (ℕ → ℕ → Bool) → Kind → Kind → Bool
-family_widths p (bit m) (bit n) = p m n
-family_widths p (uint m) (uint n) = p m n
-family_widths p (int m) (int n) = p m n
-family_widths p _ _ = false
+-- both Bit, both UInt or both Int, and the first is no wider than the second
+abbrev pub no_wider : Kind → Kind → Bool
+no_wider (bit m) (bit n) = nat_le m n
+no_wider (down m) (bit n) = true
+no_wider (down m) (down n) = nat_le n m
+no_wider (uint m) (uint n) = nat_le m n
+no_wider (int m) (int n) = nat_le m n
+no_wider _ _ = false

@@ -4,7 +4,7 @@ use Rattle.std.specs.Prelude.{ℕ, ◌+◌, ◌-◌, ◌==◌, nat_le, nat_lt, B
 use Rattle.std.specs.List.{list_any}
 use Rattle.bsv_types.specs.declared.operators.Op.{Op}
 use Rattle.bsv_types.specs.declared.operators.Op.TheVariants as op
-use Rattle.bsv_types.specs.Kinds.{Kind, bit, bool, struct, maybe, integer, kind, same_kind, has_family, is_number, is_amount, family_widths}
+use Rattle.bsv_types.specs.Kinds.{Kind, bit, bool, struct, maybe, integer, kind, same_kind, is_bit, has_family, is_number, is_amount, no_wider}
 use Rattle.bsv_types.specs.Shapes.{Shapes, width_by, widths_by, is_width, has_bits, is_value}
 
 infixl 10 ◌>>=◌
@@ -25,10 +25,6 @@ abbrev pub same_kinds : List Kind → List Kind → Bool
 same_kinds [] [] = true
 same_kinds (j ∷ js) (k ∷ ks) = same_kind j k && same_kinds js ks
 same_kinds _ _ = false
-
-abbrev pub is_bit : Kind → Bool
-is_bit (bit n) = true
-is_bit _ = false
 
 abbrev pub is_maybe : Kind → Bool
 is_maybe (maybe k) = true
@@ -103,9 +99,9 @@ abbrev pub from_one : Shapes → Op → Kind → Kind → Bool
 from_one s op.Negate k t = same_kind k t && is_number t
 from_one s op.Complement k t = same_kind k t && has_family t
 from_one s op.Not k t = same_kind k bool && same_kind t bool
-from_one s op.Truncate k t = family_widths (λ m n. nat_le n m) k t
-from_one s op.ZeroExtend k t = family_widths (λ m n. nat_le m n) k t
-from_one s op.SignExtend k t = family_widths (λ m n. nat_le m n) k t
+from_one s op.Truncate k t = no_wider t k
+from_one s op.ZeroExtend k t = no_wider k t
+from_one s op.SignExtend k t = no_wider k t
 from_one s op.Pack k t = has_bits s k && is_packed s k t
 from_one s op.Unpack k t = has_bits s t && is_packed s t k
 from_one s op.FromInteger k t = same_kind k integer && has_family t

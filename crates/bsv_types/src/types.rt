@@ -26,6 +26,9 @@ pub enum PartTy {
 pub enum Ty {
     /// `Bit#(n)`
     Bit(u32),
+    /// A Bit whose width is so many bits below 0, 1 or more: that of a range that counts down. It has
+    /// no values; only a typing that leaves widths aside has it.
+    Down(u32),
     /// `UInt#(n)`
     UInt(u32),
     /// `Int#(n)`
@@ -69,6 +72,7 @@ impl Ty {
     {
         Ok(match self {
             Ty::Bit(width) => Ty::Bit(*width),
+            Ty::Down(below) => Ty::Down(*below),
             Ty::UInt(width) => Ty::UInt(*width),
             Ty::Int(width) => Ty::Int(*width),
             Ty::Bool => Ty::Bool,
@@ -96,6 +100,7 @@ impl Ty {
     {
         match (self, other) {
             (Ty::Bit(one), Ty::Bit(two)) => *one == *two,
+            (Ty::Down(one), Ty::Down(two)) => *one == *two,
             (Ty::UInt(one), Ty::UInt(two)) => *one == *two,
             (Ty::Int(one), Ty::Int(two)) => *one == *two,
             (Ty::Bool, Ty::Bool) => true,

@@ -23,7 +23,7 @@ pub fn counted_width(enums: &Items<Enum>, structs: &Items<Struct>, ty: &Ty) -> O
             let payload = counted_width(enums, structs, payload.get())?;
             Some(payload.saturating_add(1))
         }
-        Ty::Integer | Ty::Interface(_) | Ty::Part(_, _) => None,
+        Ty::Down(_) | Ty::Integer | Ty::Interface(_) | Ty::Part(_, _) => None,
     }
 }
 

@@ -4,7 +4,6 @@ pub mod Keywords
 pub mod Agreeing
 pub mod Layers
 pub mod Lists
-pub mod Parts
 pub mod Powers
 pub mod RightArms
 pub mod RightBlocks

@@ -20,7 +20,7 @@ use Rattle.bsv_typing.specs.Forms.{payload}
 use Rattle.bsv_typing.specs.Bodies.{Scopes, Task, Run, all_runs, inside, in_arm, branch, last_arm, labelled, block_case}
 use Rattle.bsv_typing.specs.Laws.{ScopesFit, frame_of, typed_task}
 use Rattle.bsv_typing.proofs.Bound.{some_is, both_true}
-use Rattle.bsv_typing.proofs.RightPlaces.{bits_value}
+use Rattle.bsv_typing.proofs.RightGiven.{bits_value}
 use Rattle.bsv_typing.proofs.RightScopes.{frame_opened, opened_fit, defined_right}
 use Rattle.bsv_typing.proofs.RightCalls.{ok_is, went}
 use Rattle.bsv_typing.proofs.RightStatements.{if_right_true, value_slot_right, typed_run, GoodRun, ended}

@@ -30,8 +30,8 @@ use Rattle.bsv_typing.specs.Laws.{FitsWorld, ScopesFit, frame_of, Typed}
 use Rattle.bsv_typing.proofs.Bound.{some_is, tested_step, both_true, HasKind}
 use Rattle.bsv_typing.proofs.Typings.{Each}
 use Rattle.bsv_typing.proofs.RightOperands.{strictly, strict_value, EachGood}
-use Rattle.bsv_typing.proofs.RightGiven.{arguments_right, same_kinds_self}
-use Rattle.bsv_typing.proofs.RightPlaces.{method_is, bits_value}
+use Rattle.bsv_typing.proofs.RightGiven.{bits_value, arguments_right, same_kinds_self}
+use Rattle.bsv_typing.proofs.RightPlaces.{method_is}
 use Rattle.bsv_typing.proofs.RightSuffixes.{place_one, place_each, one_is, many_is}
 use Rattle.bsv_typing.proofs.RightExpressions.{ground_is, expressions_good}
 use Rattle.bsv_typing.proofs.RightScopes.{scopes_fit}

@@ -8,13 +8,14 @@ use Rattle.bsv_types.specs.declared.operators.Op.{Op}
 use Rattle.bsv_types.specs.declared.operators.Op.TheVariants as op
 use Rattle.bsv_types.specs.declared.expressions.Expr.{Expr}
 use Rattle.bsv_types.specs.Kinds.{Kind, bit, uint, int, bool, integer, same_kind, is_number, has_family, is_amount}
-use Rattle.bsv_types.specs.Shapes.{is_value, widths_by, is_width, plus}
+use Rattle.bsv_types.specs.Shapes.{is_value, counted, widths_by, is_width, plus}
 use Rattle.bsv_types.specs.Operators.{gives, is_kind, all_bit}
 use Rattle.bsv_types.specs.Expressions.{World, Frame, typing, holds, all_of}
+use Rattle.bsv_types.proofs.Counted.{widths_start, widths_turn, widths_done}
 use Rattle.bsv_types.proofs.Same.{both, same_self}
 use Rattle.bsv_typing.specs.Operands.{Made, Operand, Agreed, all_as, agree, agree_with_result, wanted}
-use Rattle.bsv_typing.specs.Env.{literal, applied, chosen, fits, fits_negated}
-use Rattle.bsv_typing.specs.Forms.{if_kind, if_true, number_case, sized_case, truth_case, number_op_case, bits_op_case, negated_case, amount, amounts, shift_case, order_case, equality_case, choice_case, bit_width, joined, concat_case}
+use Rattle.bsv_typing.specs.Env.{literal, applied, chosen, beside, fits, fits_negated}
+use Rattle.bsv_typing.specs.Forms.{if_kind, if_true, number_case, sized_case, truth_case, number_op_case, bits_op_case, negated_case, amount, amounts, shift_case, order_case, equality_case, choice_case, joined, concat_case}
 use Rattle.bsv_typing.specs.Laws.{Typed}
 use Rattle.bsv_typing.proofs.Bound.{some_is, taken, tested, both_true, HasKind}
 use Rattle.bsv_typing.proofs.Typings.{Each, value_typed, literal_typed, apply_typed, choice_typed}
@@ -212,25 +213,28 @@ module _ (w : World) (frame : Frame) where
       let right = both_true _ _ (both_true _ _ same (all_of_right bool t.0 conditions.0)) (all_of_right r.0 r.1 a.0.0) in
       subst (λ z. Formed w frame z × HasKind want z.kind) (some_is (chosen r.0 t.0 r.1) m b.2) ((λ value. choice_typed w frame r.0 t.0 r.1 value right), a.1)
 
-  bit_width_is : (k : Kind) (n : ℕ) → bit_width k ≡ Some n → bit n ≡ k
-  bit_width_is (bit i) n e = cc
-  bit_width_is _ n e = absurd cc
+  -- a Bit with values, beside others
+  beside_is : (a : ℕ) (k j : Kind) → is_value w.shapes k ≡ true → beside (bit a) k ≡ Some j → (n : ℕ) × (k ≡ bit n) × (bit (counted (a + n)) ≡ j)
+  beside_is a (bit n) j value e = (n, refl, some_is (bit (counted (a + n))) j e)
+  beside_is a _ j value e = absurd cc
 
-  -- bits of these types, side by side
-  abbrev pub Joined : ℕ × List Expr → Type 0
-  Joined r = (ks : List Kind) × Each w frame r.1 ks × (all_bit ks ≡ true) × (widths_by w.shapes.enums w.shapes.structs ks ≡ Some r.0)
+  -- bits of these types, side by side, behind so many others
+  abbrev pub Joined : ℕ → Kind × List Expr → Type 0
+  Joined a r = (n : ℕ) × (ks : List Kind) × (bit n ≡ r.0) × Each w frame r.1 ks × (all_bit ks ≡ true) × (plus (Some a) (widths_by w.shapes.enums w.shapes.structs ks) ≡ Some n)
 
-  joined_right : (xs : List Operand) (r : ℕ × List Expr) → EachGood w frame xs → joined xs ≡ Some r → Joined r
+  joined_right : (a : ℕ) (xs : List Operand) (r : Kind × List Expr) → a ≤ 4294967295 → EachGood w frame xs → joined (bit a) xs ≡ Some r → Joined a r
   unfolding joined
-  joined_right [] r good e = subst Joined (some_is (0, []) r e) ([], refl, refl, refl)
-  joined_right (x ∷ xs) r good e =
+  joined_right a [] r few good e = subst (Joined a) (some_is (bit a, []) r e) (a, [], refl, refl, refl, widths_done a few)
+  joined_right a (x ∷ xs) r few good e =
       let t = taken (x.check None) _ r e in
-      let n = taken (bit_width t.0.kind) _ r t.2 in
-      let q = taken (joined xs) _ r n.2 in
+      let b = taken (beside (bit a) t.0.kind) _ r t.2 in
+      let q = taken (joined b.0 xs) _ r b.2 in
       let first = (good.0 None t.0 t.1).0 in
-      let more = joined_right xs q.0 good.1 q.1 in
-      subst Joined (some_is _ r q.2)
-      (bit n.0 ∷ more.0, each_more w frame t.0.expr q.0.1 (bit n.0) more.0 (first ∙ ap Some (sym (bit_width_is t.0.kind n.0 n.1))) more.1, more.2, ap (plus (Some n.0)) more.3)
+      let h = beside_is a t.0.kind b.0 (value_typed w frame t.0.expr t.0.kind first) b.1 in
+      let small : counted (a + h.0) ≤ 4294967295 = omega arith in
+      let more = joined_right (counted (a + h.0)) xs q.0 small good.1 (ap (λ k. joined k xs) h.2 ∙ q.1) in
+      subst (Joined a) (some_is (q.0.0, t.0.expr ∷ q.0.1) r q.2)
+      (more.0, bit h.0 ∷ more.1, more.2, each_more w frame t.0.expr q.0.1 (bit h.0) more.1 (first ∙ ap Some h.1) more.3, more.4, widths_turn a h.0 (widths_by w.shapes.enums w.shapes.structs more.1) ∙ more.5)
 
   concat_gives : (ks : List Kind) (n : ℕ) → all_bit ks ≡ true → widths_by w.shapes.enums w.shapes.structs ks ≡ Some n → is_value w.shapes (bit n) ≡ true → gives w.shapes (op.Concat ∷ []) ks (bit n) ≡ true
   concat_gives [] n bits width value =
@@ -242,8 +246,11 @@ module _ (w : World) (frame : Frame) where
   pub concat_right : (xs : List Operand) → EachGood w frame xs → FormedAs w frame (concat_case xs)
   unfolding concat_case
   concat_right xs good want m e =
-      let t = taken (joined xs) _ m e in
+      let t = taken (joined (bit 0) xs) _ m e in
       let r = t.0 in
-      let j = joined_right xs r good t.1 in
-      wanted_formed w frame want (applied (bit r.0) (op.Concat ∷ []) r.1) m t.2
-      (λ value. apply_typed w frame (bit r.0) (op.Concat ∷ []) r.1 j.0 value j.1 (concat_gives j.0 r.0 j.2 j.3 value))
+      let few : 0 ≤ 4294967295 = omega arith in
+      let j = joined_right 0 xs r few good t.1 in
+      let width = sym (widths_start w.shapes.enums w.shapes.structs j.1) ∙ j.5 in
+      wanted_formed w frame want (applied r.0 (op.Concat ∷ []) r.1) m t.2
+      (subst (λ k. Formed w frame (applied k (op.Concat ∷ []) r.1)) j.2
+      (λ value. apply_typed w frame (bit j.0) (op.Concat ∷ []) r.1 j.1 value j.3 (concat_gives j.1 j.0 j.4 width value)))

@@ -1,22 +1,22 @@
 -- What labels, values of Maybe and calls of functions give is in order.
-use Rattle.std.proofs.Common.{◌≡◌, ◌∙◌, ℕ, ◌^◌, Bool, true, false, cond, ◌&&◌, List, [], ◌∷◌, Option, Some, None, refl, sym, ap, subst}
-use Rattle.std.specs.Prelude.{nat_lt, nat_le, slice_get, codes}
+use Rattle.std.proofs.Common.{◌≡◌, ◌∙◌, ℕ, ◌+◌, ◌^◌, Bool, true, false, cond, ◌&&◌, List, [], ◌∷◌, Option, Some, None, refl, sym, ap, subst}
+use Rattle.std.specs.Prelude.{nat_lt, slice_get, codes}
 use Rattle.std.specs.Str.{bytes_eq}
 use Rattle.std.proofs.lemmas.Bool.{eq-eqb}
 use Rattle.bsv_ast.specs.declared.text.Literal.{Literal}
 use Rattle.bsv_types.specs.declared.operators.Op.{Op}
 use Rattle.bsv_types.specs.declared.operators.Op.TheVariants as op
 use Rattle.bsv_types.specs.declared.expressions.Expr.{Expr}
-use Rattle.bsv_types.specs.Kinds.{Kind, bit, bool, enum, maybe, integer, has_family, family_widths}
-use Rattle.bsv_types.specs.Shapes.{Shapes, is_value, has_bits, width_by, is_width}
+use Rattle.bsv_types.specs.Kinds.{Kind, bit, down, bool, enum, maybe, integer, has_family, no_wider}
+use Rattle.bsv_types.specs.Shapes.{Shapes, is_value, has_bits, has_range, counted, plus, width_by, is_width}
 use Rattle.bsv_types.specs.Operators.{◌>>=◌, gives, is_kind, when, chained, same_kinds, is_packed}
 use Rattle.bsv_types.specs.Expressions.{World, Frame, typing, is_call, label_count}
-use Rattle.bsv_types.proofs.Same.{same_self}
+use Rattle.bsv_types.proofs.Same.{both, same_self}
 use Rattle.bsv_typing.specs.declared.given.GivenFunction.{GivenFunction}
 use Rattle.bsv_typing.specs.declared.given.GivenFunction.TheVariants as given
 use Rattle.bsv_typing.specs.Operands.{Made, Operand, wanted}
-use Rattle.bsv_typing.specs.Env.{literal, applied, called}
-use Rattle.bsv_typing.specs.Forms.{resized_case, is_narrower, width_of, pack_case, unpack_case, from_integer_case, valid_case, invalid_case, payload, is_valid_case, valid_value_case, from_maybe_case, arguments, function_case, sized_case}
+use Rattle.bsv_typing.specs.Env.{literal, applied, called, beside, packed}
+use Rattle.bsv_typing.specs.Forms.{resized_case, no_narrower, pack_case, unpack_case, from_integer_case, valid_case, invalid_case, payload, is_valid_case, valid_value_case, from_maybe_case, arguments, function_case, sized_case}
 use Rattle.bsv_typing.specs.Typing.{literal_case, label_case, given_function, one_case, two_case, given_case, call_case}
 use Rattle.bsv_typing.proofs.Bound.{some_is, taken, tested, tested_step, checked, both_true, HasKind, wanted_is}
 use Rattle.bsv_typing.proofs.Typings.{Each, value_typed, call_typed}
@@ -32,8 +32,26 @@ bits_of : (s : Shapes) (k : Kind) (n : ℕ) → is_value s k ≡ true → width_
 bits_of s integer n value width = absurd cc
 bits_of s _ n value width = value
 
-packed : (s : Shapes) (k : Kind) (n : ℕ) → is_value s k ≡ true → width_by s.enums s.structs k ≡ Some n → (has_bits s k && is_packed s k (bit n)) ≡ true
-packed s k n value width = both_true _ _ (bits_of s k n value width) (subst (λ o. is_width o n ≡ true) (sym width) (eq-eqb n n refl))
+pub bits_value : (s : Shapes) (k : Kind) → has_bits s k ≡ true → is_value s k ≡ true
+bits_value s integer e = refl
+bits_value s _ e = e
+
+-- the Bit type of a type of values has its width
+packed_is : (w : World) (k j : Kind) → is_value w.shapes k ≡ true → packed (strictly w) k ≡ Some j → (n : ℕ) × (bit n ≡ j) × (width_by w.shapes.enums w.shapes.structs k ≡ Some n)
+packed_is w (down n) j value e = absurd cc
+packed_is w (maybe k) j value e =
+    let t = taken (packed (strictly w) k) (beside (bit 1)) j e in
+    let held = bits_value w.shapes k (both (has_bits w.shapes k) (has_range (width_by w.shapes.enums w.shapes.structs (maybe k))) value).0 in
+    let h = packed_is w k t.0 held t.1 in
+    (counted (1 + h.0), some_is (bit (counted (1 + h.0))) j (ap (beside (bit 1)) h.1 ∙ t.2), ap (plus (Some 1)) h.2)
+packed_is w k j value e =
+    let t = taken (width_by w.shapes.enums w.shapes.structs k) (λ n. Some (bit n)) j e in
+    (t.0, some_is (bit t.0) j t.2, t.1)
+
+packs : (w : World) (k j : Kind) → is_value w.shapes k ≡ true → packed (strictly w) k ≡ Some j → (has_bits w.shapes k && is_packed w.shapes k j) ≡ true
+packs w k j value e =
+    let h = packed_is w k j value e in
+    both_true _ _ (bits_of w.shapes k h.0 value h.2) (subst (λ i. is_packed w.shapes k i ≡ true) h.1 (subst (λ o. is_width o h.0 ≡ true) (sym h.2) (eq-eqb h.0 h.0 refl)))
 
 pub same_kinds_self : (ks : List Kind) → same_kinds ks ks ≡ true
 same_kinds_self [] = refl
@@ -81,7 +99,7 @@ module _ (w : World) (frame : Frame) where
       subst (λ z. Formed w frame z × (z.kind ≡ maybe k)) (some_is _ m t.2) (one_formed (maybe k) k op.Valid t.0.expr (as_kind x k t.0 good t.1) (same_self k), refl)
   valid_right x good None m e =
       let t = taken (x.check None) _ m e in
-      let n = taken (width_of (strictly w) t.0.kind) _ m t.2 in
+      let n = taken (packed (strictly w) t.0.kind) _ m t.2 in
       subst (λ z. Formed w frame z × HasKind None z.kind) (some_is _ m n.2) (one_formed (maybe t.0.kind) t.0.kind op.Valid t.0.expr (good None t.0 t.1).0 (same_self t.0.kind), tt)
   valid_right x good _ m e = absurd cc
 
@@ -123,30 +141,30 @@ module _ (w : World) (frame : Frame) where
 
   -- ---- from one type to another
 
-  resized_right : (o : Op) (p : ℕ → ℕ → Bool) (x : Operand) → Good w frame x → ((j k : Kind) → family_widths p j k ≡ true → gives w.shapes (o ∷ []) (j ∷ []) k ≡ true) → FormedAs w frame (resized_case o p x)
+  resized_right : (o : Op) (p : Kind → Kind → Bool) (x : Operand) → Good w frame x → ((j k : Kind) → p j k ≡ true → gives w.shapes (o ∷ []) (j ∷ []) k ≡ true) → FormedAs w frame (resized_case o p x)
   unfolding resized_case
   resized_right o p x good give None m e = absurd cc
   resized_right o p x good give (Some k) m e =
       let t = taken (x.check None) _ m e in
-      let h = tested (family_widths p t.0.kind k) (applied k (o ∷ []) (t.0.expr ∷ [])) m t.2 in
+      let h = tested (p t.0.kind k) (applied k (o ∷ []) (t.0.expr ∷ [])) m t.2 in
       subst (λ z. Formed w frame z × (z.kind ≡ k)) h.1 (one_formed k t.0.kind o t.0.expr (good None t.0 t.1).0 (give t.0.kind k h.0), refl)
 
   pack_right : (x : Operand) → Good w frame x → FormedAs w frame (pack_case (strictly w) x)
   unfolding pack_case
   pack_right x good want m e =
       let t = taken (x.check None) _ m e in
-      let n = taken (width_of (strictly w) t.0.kind) _ m t.2 in
+      let b = taken (packed (strictly w) t.0.kind) _ m t.2 in
       let typed = (good None t.0 t.1).0 in
-      wanted_formed w frame want _ m n.2 (one_formed (bit n.0) t.0.kind op.Pack t.0.expr typed (packed w.shapes t.0.kind n.0 (value_typed w frame t.0.expr t.0.kind typed) n.1))
+      wanted_formed w frame want _ m b.2 (one_formed b.0 t.0.kind op.Pack t.0.expr typed (packs w t.0.kind b.0 (value_typed w frame t.0.expr t.0.kind typed) b.1))
 
   unpack_right : (x : Operand) → Good w frame x → FormedAs w frame (unpack_case (strictly w) x)
   unfolding unpack_case
   unpack_right x good None m e = absurd cc
   unpack_right x good (Some k) m e =
-      let n = taken (width_of (strictly w) k) _ m e in
-      let t = taken (x.check (Some (bit n.0))) _ m n.2 in
+      let b = taken (packed (strictly w) k) _ m e in
+      let t = taken (x.check (Some b.0)) _ m b.2 in
       subst (λ z. Formed w frame z × (z.kind ≡ k)) (some_is _ m t.2)
-      ((λ value. one_formed k (bit n.0) op.Unpack t.0.expr (as_kind x (bit n.0) t.0 good t.1) (packed w.shapes k n.0 value n.1) value), refl)
+      ((λ value. one_formed k b.0 op.Unpack t.0.expr (as_kind x b.0 t.0 good t.1) (packs w k b.0 value b.1) value), refl)
 
   from_integer_right : (x : Operand) → Good w frame x → FormedAs w frame (from_integer_case x)
   unfolding from_integer_case
@@ -189,9 +207,9 @@ module _ (w : World) (frame : Frame) where
 
   one_right : (f : GivenFunction) (x : Operand) → Good w frame x → FormedAs w frame (one_case (strictly w) f x)
   unfolding one_case
-  one_right given.Truncate x good = resized_right op.Truncate is_narrower x good (λ j k e. e)
-  one_right given.ZeroExtend x good = resized_right op.ZeroExtend nat_le x good (λ j k e. e)
-  one_right given.SignExtend x good = resized_right op.SignExtend nat_le x good (λ j k e. e)
+  one_right given.Truncate x good = resized_right op.Truncate no_narrower x good (λ j k e. e)
+  one_right given.ZeroExtend x good = resized_right op.ZeroExtend no_wider x good (λ j k e. e)
+  one_right given.SignExtend x good = resized_right op.SignExtend no_wider x good (λ j k e. e)
   one_right given.Unpack x good = unpack_right x good
   one_right given.FromInteger x good = from_integer_right x good
   one_right given.Pack x good = pack_right x good

@@ -1,5 +1,5 @@
 -- What names and suffixes give is in order.
-use Rattle.std.proofs.Common.{◌≡◌, ◌∙◌, ℕ, ◌+◌, ◌-◌, ◌<◌, ◌≤◌, suc, min, Bool, true, false, cond, ◌||◌, ◌&&◌, List, [], ◌∷◌, Option, Some, None, refl, sym, ap, subst, arith}
+use Rattle.std.proofs.Common.{◌≡◌, ◌∙◌, ℕ, ◌+◌, ◌-◌, ◌<◌, ◌≤◌, suc, Bool, true, false, cond, ◌||◌, ◌&&◌, List, [], ◌∷◌, Option, Some, None, refl, sym, ap, subst, arith}
 use Rattle.std.specs.Prelude.{nat_lt, nat_le, slice_get, codes}
 use Rattle.std.specs.Str.{bytes_eq}
 use Rattle.std.proofs.lemmas.Bool.{ltb-true, leb-true}
@@ -11,15 +11,15 @@ use Rattle.bsv_types.specs.Methods.{Signature, Effect, value, action, action_val
 use Rattle.bsv_types.specs.Expressions.{one, World, Frame, place_typing, many_at, is_value_call, gives_value, method_at}
 use Rattle.bsv_types.proofs.Same.{both, same_self}
 use Rattle.bsv_typing.specs.Operands.{Made, Operand}
-use Rattle.bsv_typing.specs.Env.{in_order}
+use Rattle.bsv_typing.specs.Env.{below, in_order}
 use Rattle.bsv_typing.specs.Forms.{arguments}
-use Rattle.bsv_typing.specs.Places.{Instance, Front, whole, instance, array, place_of, method_from, method_named, value_of, call_of, method_call, is_read, read, value_at, slice_width, slice_fits}
+use Rattle.bsv_typing.specs.Places.{Instance, Front, whole, instance, array, place_of, method_from, method_named, value_of, call_of, method_call, is_read, read, value_at, slice_type, slice_fits}
 use Rattle.bsv_typing.specs.Typing.{ordered_front}
 use Rattle.bsv_typing.specs.Laws.{Typed, slot_right}
 use Rattle.bsv_typing.proofs.Bound.{some_is, taken, tested_step, both_true}
 use Rattle.bsv_typing.proofs.Typings.{when_true, method_typed}
 use Rattle.bsv_typing.proofs.RightOperands.{strictly, Formed, EachGood, ordered_typed}
-use Rattle.bsv_typing.proofs.RightGiven.{arguments_right, same_kinds_self}
+use Rattle.bsv_typing.proofs.RightGiven.{bits_value, arguments_right, same_kinds_self}
 
 -- ---- methods
 
@@ -49,10 +49,6 @@ value_of_is : (e : Effect) (k : Kind) → value_of e ≡ Some k → value k ≡ 
 value_of_is (value j) k is = ap value (sym (some_is j k is))
 value_of_is action k is = absurd cc
 value_of_is (action_value j) k is = absurd cc
-
-pub bits_value : (s : Shapes) (k : Kind) → has_bits s k ≡ true → is_value s k ≡ true
-bits_value s integer e = refl
-bits_value s _ e = e
 
 -- what is read of an instance in order has a type of values
 read_value : (w : World) (k j : Kind) (q : ℕ × Signature) → is_read k ≡ true → is_instance w.shapes k ≡ true → method_named (strictly w) k (codes "_read") ≡ Some q → value_of q.1.effect ≡ Some j → is_value w.shapes j ≡ true
@@ -89,7 +85,7 @@ value_slot s k face right = or_false _ right
 
 -- ---- the bits of a slice
 
-pub slice_right : (w : World) (n h l : ℕ) → is_value w.shapes (bit n) ≡ true → slice_fits (strictly w) h l n ≡ true → slice_kind (counted h) (counted l) (bit n) ≡ Some (bit (slice_width h l))
+pub slice_right : (w : World) (n h l : ℕ) → is_value w.shapes (bit n) ≡ true → slice_fits (strictly w) h l (bit n) ≡ true → slice_kind (counted h) (counted l) (bit n) ≡ Some (slice_type h l)
 slice_right w n h l range fits =
     let few : n ≤ 128 = leb-true n 128 (both (nat_le 1 n) (nat_le n 128) range).1 in
     let order = (both (nat_le l h) (nat_lt h n) fits).0 in
@@ -97,10 +93,10 @@ slice_right w n h l range fits =
     let high : h < n = ltb-true h n (both (nat_le l h) (nat_lt h n) fits).1 in
     let same_h : counted h ≡ h = omega arith in
     let same_l : counted l ≡ l = omega arith in
-    let wide : min (h - l + 1) 4294967295 ≡ h - l + 1 = omega arith in
-    let width = ap (λ b. cond b (min (h - l + 1) 4294967295) 0) order ∙ wide in
-    subst (λ i. slice_kind i (counted l) (bit n) ≡ Some (bit (slice_width h l))) (sym same_h)
-    (subst (λ i. slice_kind h i (bit n) ≡ Some (bit (slice_width h l))) (sym same_l) (when_true (nat_le l h && nat_lt h n) (bit (h - l + 1)) fits ∙ ap (λ v. Some (bit v)) (sym width)))
+    let wide : counted (h - l + 1) ≡ h - l + 1 = omega arith in
+    let width = ap (λ b. cond b (bit (counted (h - l + 1))) (below (counted (l - h - 1)))) order ∙ ap bit wide in
+    subst (λ i. slice_kind i (counted l) (bit n) ≡ Some (slice_type h l)) (sym same_h)
+    (subst (λ i. slice_kind h i (bit n) ≡ Some (slice_type h l)) (sym same_l) (when_true (nat_le l h && nat_lt h n) (bit (h - l + 1)) fits ∙ ap Some (sym width)))
 
 module _ (w : World) (frame : Frame) where
   -- an instance that is there

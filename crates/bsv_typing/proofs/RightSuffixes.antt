@@ -1,10 +1,10 @@
 -- Names, and suffixes behind what is in order, give what is in order.
-use Rattle.std.proofs.Common.{◌≡◌, ◌∙◌, ℕ, Bool, true, false, cond, List, [], ◌∷◌, Option, Some, None, refl, sym, ap, subst}
+use Rattle.std.proofs.Common.{◌≡◌, ◌∙◌, ℕ, Bool, true, false, cond, ◌&&◌, List, [], ◌∷◌, Option, Some, None, refl, sym, ap, subst}
 use Rattle.std.specs.Prelude.{slice_get}
 use Rattle.bsv_types.specs.declared.operators.Op.TheVariants as op
 use Rattle.bsv_types.specs.declared.expressions.Expr.{Expr, Variable}
 use Rattle.bsv_types.specs.declared.expressions.Place.{fold-roll-Place}
-use Rattle.bsv_types.specs.Kinds.{Kind, bit, integer, is_interface, type_of}
+use Rattle.bsv_types.specs.Kinds.{Kind, bit, integer, is_bit, is_interface, type_of}
 use Rattle.bsv_types.specs.Shapes.{counted}
 use Rattle.bsv_types.specs.Operators.{◌>>=◌, is_kind, suffixed}
 use Rattle.bsv_types.specs.Methods.{Signature, methods}
@@ -12,11 +12,11 @@ use Rattle.bsv_types.specs.Expressions.{Slot, one, many, World, Frame, Typing, t
 use Rattle.bsv_types.proofs.Same.{same_self}
 use Rattle.bsv_typing.specs.Operands.{Made, Operand}
 use Rattle.bsv_typing.specs.Forms.{field_named, function_case}
-use Rattle.bsv_typing.specs.Places.{Instance, Front, whole, instance, array, place_of, method_named, call_of, read, value_at, variable_front, name_front, with_suffix, field_of, member_behind, method_behind, bit_of, index_behind, slice_width, slice_fits, bits_of, slice_behind}
+use Rattle.bsv_typing.specs.Places.{Instance, Front, whole, instance, array, place_of, method_named, call_of, read, value_at, variable_front, name_front, with_suffix, field_of, member_behind, method_behind, bit_of, index_behind, slice_type, slice_fits, bits_of, slice_behind}
 use Rattle.bsv_typing.specs.Typing.{Suffixed, all_behind, front_case}
 use Rattle.bsv_typing.specs.Laws.{Typed, slot_right}
-use Rattle.bsv_typing.proofs.Bound.{some_is, taken, tested_step}
-use Rattle.bsv_typing.proofs.Typings.{value_typed, variable_typed}
+use Rattle.bsv_typing.proofs.Bound.{some_is, taken, tested_step, both_true}
+use Rattle.bsv_typing.proofs.Typings.{when_true, value_typed, variable_typed}
 use Rattle.bsv_typing.proofs.RightOperands.{strictly, FormedAs, Good, EachGood, wanted_formed, each_more}
 use Rattle.bsv_typing.proofs.RightStructs.{field_is}
 use Rattle.bsv_typing.proofs.RightGiven.{FunctionRight, function_typed}
@@ -95,15 +95,13 @@ module _ (w : World) (frame : Frame) where
 
   bit_formed : (x : Operand) (m : Made) (g : Front) → Good w frame x → Typed w frame m → bit_of x m ≡ Some g → FormedFront w frame g
   unfolding bit_of
-  bit_formed x m g good typed e = by m.kind refl where
-    by : (k : Kind) → m.kind ≡ k → FormedFront w frame g
-    by (bit n) is =
-        let t = taken (x.check (Some integer)) (λ i. Some (whole (with_suffix (bit 1) op.Index (i.expr ∷ []) m.expr))) g (rw is at e) in
-        let h = good (Some integer) t.0 t.1 in
-        subst (FormedFront w frame) (some_is (whole (with_suffix (bit 1) op.Index (t.0.expr ∷ []) m.expr)) g t.2)
-        (suffix_formed w frame (bit 1) op.Index (t.0.expr ∷ []) (integer ∷ []) m refl typed (each_more w frame t.0.expr [] integer [] (h.0 ∙ ap Some h.1) refl)
-        (subst (λ k. suffixed w.shapes k (op.Index ∷ []) (integer ∷ []) ≡ Some (bit 1)) (sym is) refl))
-    by _ is = let none = rw is at e in absurd cc
+  bit_formed x m g good typed e =
+      let b = tested_step (is_bit m.kind) (x.check (Some integer) >>= λ i. Some (whole (with_suffix (bit 1) op.Index (i.expr ∷ []) m.expr))) g e in
+      let t = taken (x.check (Some integer)) _ g b.1 in
+      let h = good (Some integer) t.0 t.1 in
+      subst (FormedFront w frame) (some_is (whole (with_suffix (bit 1) op.Index (t.0.expr ∷ []) m.expr)) g t.2)
+      (suffix_formed w frame (bit 1) op.Index (t.0.expr ∷ []) (integer ∷ []) m refl typed (each_more w frame t.0.expr [] integer [] (h.0 ∙ ap Some h.1) refl)
+      (ap (λ o. o >>= λ r. Some r) (when_true (is_bit m.kind && true) (bit 1) (both_true (is_bit m.kind) true b.0 refl))))
 
   -- an index behind what has a value
   value_index : (x : Operand) (f g : Front) → Good w frame x → GoodFront w frame f → (value_at (strictly w) f >>= bit_of x) ≡ Some g → FormedFront w frame g
@@ -126,12 +124,12 @@ module _ (w : World) (frame : Frame) where
   bits_formed h l m g typed e = by m.kind refl where
     by : (k : Kind) → m.kind ≡ k → FormedFront w frame g
     by (bit n) is =
-        let part = with_suffix (bit (slice_width h l)) (op.Slice (counted h) (counted l)) [] m.expr in
-        let t = tested_step (slice_fits (strictly w) h l n) (Some (whole part)) g (rw is at e) in
+        let part = with_suffix (slice_type h l) (op.Slice (counted h) (counted l)) [] m.expr in
+        let t = tested_step (slice_fits (strictly w) h l (bit n)) (Some (whole part)) g (rw is at e) in
         let bits = slice_right w n h l (value_typed w frame m.expr (bit n) (typed ∙ ap Some is)) t.0 in
         subst (FormedFront w frame) (some_is (whole part) g t.1)
-        (suffix_formed w frame (bit (slice_width h l)) (op.Slice (counted h) (counted l)) [] [] m refl typed refl
-        (subst (λ k. suffixed w.shapes k (op.Slice (counted h) (counted l) ∷ []) [] ≡ Some (bit (slice_width h l))) (sym is) (ap (λ o. o >>= λ r. Some r) bits)))
+        (suffix_formed w frame (slice_type h l) (op.Slice (counted h) (counted l)) [] [] m refl typed refl
+        (subst (λ k. suffixed w.shapes k (op.Slice (counted h) (counted l) ∷ []) [] ≡ Some (slice_type h l)) (sym is) (ap (λ o. o >>= λ r. Some r) bits)))
     by _ is = let none = rw is at e in absurd cc
 
   pub slice_formed : (high low : Option ℕ) (f g : Front) → GoodFront w frame f → slice_behind (strictly w) high low f ≡ Some g → FormedFront w frame g

@@ -8,7 +8,7 @@ use Rattle.bsv_types.specs.declared.expressions.Expr.{Expr, Literal, Variable, A
 use Rattle.bsv_types.specs.declared.expressions.Expr.TheOpen.{Expr-F}
 use Rattle.bsv_types.specs.declared.expressions.Expr.TheViews.{rolls-Literal, rolls-Variable, rolls-Apply, rolls-Call, rolls-Method, rolls-Choice}
 use Rattle.bsv_types.specs.declared.expressions.Place.{Place}
-use Rattle.bsv_types.specs.Kinds.{Kind, bit, uint, int, bool, enum, struct, maybe, integer, interface, part, bare, kind, kind_step, type_of}
+use Rattle.bsv_types.specs.Kinds.{Kind, bit, down, uint, int, bool, enum, struct, maybe, integer, interface, part, bare, kind, kind_step, type_of}
 use Rattle.bsv_types.specs.Shapes.{is_value}
 use Rattle.bsv_types.specs.Operators.{when, gives, is_kind}
 use Rattle.bsv_types.specs.Expressions.{World, Frame, Typing, typing, place_typing, expr_step, place_step, expr_right, carried, holds, one_at, all_typed, is_typed, is_call, method_at, is_value_call}
@@ -20,6 +20,7 @@ rolled x = fold-roll-Ty Kind kind_step x
 
 pub kind_back : (k : Kind) → kind (type_of k) ≡ k
 kind_back (bit n) = rolled (Ty-F.Bit n)
+kind_back (down n) = rolled (Ty-F.Down n)
 kind_back (uint n) = rolled (Ty-F.UInt n)
 kind_back (int n) = rolled (Ty-F.Int n)
 kind_back bool = rolled Ty-F.Bool

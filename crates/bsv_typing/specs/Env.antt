@@ -1,11 +1,12 @@
 -- What an expression may name, and how typed expressions are made.
-use Rattle.std.specs.Prelude.{ℕ, ◌*◌, ◌^◌, nat_le, nat_lt, Bool, true, false, not, ◌||◌, List, Option, Some, None, is_some, if◌then◌else◌}
+use Rattle.std.specs.Prelude.{ℕ, ◌+◌, ◌-◌, ◌*◌, ◌^◌, ◌==◌, nat_le, nat_lt, Bool, true, false, not, ◌||◌, List, Option, Some, None, is_some, if◌then◌else◌}
 use Rattle.bsv_scopes.specs.Scopes.{Entries, find_in}
 use Rattle.bsv_types.specs.declared.operators.Op.{Op}
 use Rattle.bsv_types.specs.declared.expressions.Expr.{Expr, Literal, Apply, Call, Choice}
-use Rattle.bsv_types.specs.Kinds.{Kind, bit, uint, int, struct, integer, type_of}
+use Rattle.bsv_types.specs.Kinds.{Kind, bit, down, uint, int, struct, maybe, integer, type_of}
 use Rattle.bsv_types.specs.Shapes as ranged
-use Rattle.bsv_types.specs.Shapes.{Shapes, width_by}
+use Rattle.bsv_types.specs.Shapes.{Shapes, counted, width_by}
+use Rattle.bsv_types.specs.Operators.{◌>>=◌}
 use Rattle.bsv_types.specs.Expressions.{Slot}
 use Rattle.bsv_typing.specs.Operands.{Made}
 
@@ -40,9 +41,30 @@ abbrev pub in_reach : ℕ → Option (ℕ × List Kind × Kind) → Option (ℕ 
 in_reach limit None = None
 in_reach limit (Some f) = if nat_lt f.0 limit then Some f else None
 
+-- a Bit whose width is so many bits below 0, and one that has so many more than others
+abbrev pub below : ℕ → Kind
+below n = if n == 0 then bit 0 else down n
+
+abbrev pub across : ℕ → ℕ → Kind
+across m n = if nat_le n m then bit (m - n) else below (n - m)
+
+-- two Bit types side by side: their widths together
+abbrev pub beside : Kind → Kind → Option Kind
+beside (bit m) (bit n) = Some (bit (counted (m + n)))
+beside (bit m) (down n) = Some (across m n)
+beside (down m) (bit n) = Some (across n m)
+beside (down m) (down n) = Some (below (counted (m + n)))
+beside _ _ = None
+
+-- the Bit type that has the width of a type
+abbrev pub packed : Limits → Kind → Option Kind
+packed g (down n) = Some (down n)
+packed g (maybe k) = packed g k >>= beside (bit 1)
+packed g k = width_by g.shapes.enums g.shapes.structs k >>= λ n. Some (bit n)
+
 -- a type with bits, where widths are left aside or in range
 unfoldable pub has_bits : Limits → Kind → Bool
-has_bits g k = if g.strict then ranged.has_bits g.shapes k else is_some (width_by g.shapes.enums g.shapes.structs k)
+has_bits g k = if g.strict then ranged.has_bits g.shapes k else is_some (packed g k)
 
 -- a type of values: one with bits, or Integer
 abbrev pub is_typed_value : Limits → Kind → Bool
@@ -67,6 +89,7 @@ chosen k conditions values = record { kind = k; expr = Choice (type_of k) condit
 -- an unsized literal of this type, if it fits
 unfoldable pub fits : Limits → ℕ → Kind → Bool
 fits g number (bit n) = not g.strict || nat_lt number (2 ^ n)
+fits g number (down n) = not g.strict
 fits g number (uint n) = not g.strict || nat_lt number (2 ^ n)
 fits g number (int n) = not g.strict || nat_lt (2 * number) (2 ^ n)
 fits g number integer = not g.strict || nat_lt number (2 ^ 63)

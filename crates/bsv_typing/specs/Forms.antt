@@ -1,6 +1,6 @@
 -- The table of forms: one case for each line, with an expected type or without one (Bluespec reference guide,
 -- "Expressions", and "Bit, UInt and Int").
-use Rattle.std.specs.Prelude.{ℕ, ◌+◌, ◌==◌, min, nat_le, Bool, true, false, List, [], ◌∷◌, ◌++◌, map, length, slice_get, Option, Some, None, if◌then◌else◌}
+use Rattle.std.specs.Prelude.{ℕ, ◌+◌, ◌==◌, Bool, true, false, List, [], ◌∷◌, ◌++◌, map, length, slice_get, Option, Some, None, if◌then◌else◌}
 use Rattle.std.specs.List.{list_any}
 use Rattle.std.specs.Str.{bytes_eq}
 use Rattle.bsv_types.specs.declared.operators.Op.{Op}
@@ -8,11 +8,10 @@ use Rattle.bsv_types.specs.declared.operators.Op.TheVariants as op
 use Rattle.bsv_types.specs.declared.expressions.Expr.{Expr}
 use Rattle.bsv_types.specs.declared.definitions.Field.{Field}
 use Rattle.bsv_types.specs.declared.definitions.Struct.{Struct}
-use Rattle.bsv_types.specs.Kinds.{Kind, bit, uint, int, bool, struct, maybe, integer, kind, has_family, is_number, is_amount, family_widths}
-use Rattle.bsv_types.specs.Shapes.{width_by}
+use Rattle.bsv_types.specs.Kinds.{Kind, bit, uint, int, bool, struct, maybe, integer, kind, has_family, is_number, is_amount, no_wider}
 use Rattle.bsv_types.specs.Operators.{◌>>=◌}
 use Rattle.bsv_typing.specs.Operands.{Made, Check, Operand, wanted, Agreed, agree, agree_with_result, all_as}
-use Rattle.bsv_typing.specs.Env.{Limits, literal, applied, called, chosen, fits, fits_negated}
+use Rattle.bsv_typing.specs.Env.{Limits, beside, packed, literal, applied, called, chosen, fits, fits_negated}
 
 abbrev pub if_true : {A : Type 0} → Bool → A → Option A
 if_true true x = Some x
@@ -82,35 +81,28 @@ equality_case os _ want = None
 unfoldable pub choice_case : List Operand → List Operand → Check
 choice_case cs xs want = all_as bool cs >>= λ ms. agree_with_result xs want >>= λ r. Some (chosen r.0 ms r.1)
 
-abbrev pub bit_width : Kind → Option ℕ
-bit_width (bit n) = Some n
-bit_width _ = None
-
--- parts of Bit types, side by side, with their widths together
-unfoldable pub joined : List Operand → Option (ℕ × List Expr)
-joined [] = Some (0, [])
-joined (x ∷ xs) = x.check None >>= λ m. bit_width m.kind >>= λ n. joined xs >>= λ r. Some (min (n + r.0) 4294967295, m.expr ∷ r.1)
+-- parts of Bit types, side by side, behind one of this type
+unfoldable pub joined : Kind → List Operand → Option (Kind × List Expr)
+joined k [] = Some (k, [])
+joined k (x ∷ xs) = x.check None >>= λ m. beside k m.kind >>= λ j. joined j xs >>= λ r. Some (r.0, m.expr ∷ r.1)
 
 unfoldable pub concat_case : List Operand → Check
-concat_case xs want = joined xs >>= λ r. wanted want (applied (bit r.0) (op.Concat ∷ []) r.1)
+concat_case xs want = joined (bit 0) xs >>= λ r. wanted want (applied r.0 (op.Concat ∷ []) r.1)
 
 -- `truncate`, `zeroExtend`, `signExtend`: from one width to the expected one of the same family
-abbrev pub is_narrower : ℕ → ℕ → Bool
-is_narrower m n = nat_le n m
+abbrev pub no_narrower : Kind → Kind → Bool
+no_narrower j k = no_wider k j
 
-unfoldable pub resized_case : Op → (ℕ → ℕ → Bool) → Operand → Check
+unfoldable pub resized_case : Op → (Kind → Kind → Bool) → Operand → Check
 resized_case o p x None = None
-resized_case o p x (Some k) = x.check None >>= λ m. if_true (family_widths p m.kind k) (applied k (o ∷ []) (m.expr ∷ []))
-
-abbrev pub width_of : Limits → Kind → Option ℕ
-width_of g k = width_by g.shapes.enums g.shapes.structs k
+resized_case o p x (Some k) = x.check None >>= λ m. if_true (p m.kind k) (applied k (o ∷ []) (m.expr ∷ []))
 
 unfoldable pub pack_case : Limits → Operand → Check
-pack_case g x want = x.check None >>= λ m. width_of g m.kind >>= λ n. wanted want (applied (bit n) (op.Pack ∷ []) (m.expr ∷ []))
+pack_case g x want = x.check None >>= λ m. packed g m.kind >>= λ k. wanted want (applied k (op.Pack ∷ []) (m.expr ∷ []))
 
 unfoldable pub unpack_case : Limits → Operand → Check
 unpack_case g x None = None
-unpack_case g x (Some k) = width_of g k >>= λ n. x.check (Some (bit n)) >>= λ m. Some (applied k (op.Unpack ∷ []) (m.expr ∷ []))
+unpack_case g x (Some k) = packed g k >>= λ j. x.check (Some j) >>= λ m. Some (applied k (op.Unpack ∷ []) (m.expr ∷ []))
 
 unfoldable pub from_integer_case : Operand → Check
 from_integer_case x None = None
@@ -120,7 +112,7 @@ from_integer_case x (Some k) = if has_family k then (x.check (Some integer) >>= 
 unfoldable pub valid_case : Limits → Operand → Check
 valid_case g x (Some (maybe k)) = x.check (Some k) >>= λ m. Some (applied (maybe k) (op.Valid ∷ []) (m.expr ∷ []))
 valid_case g x (Some k) = None
-valid_case g x None = x.check None >>= λ m. width_of g m.kind >>= λ n. Some (applied (maybe m.kind) (op.Valid ∷ []) (m.expr ∷ []))
+valid_case g x None = x.check None >>= λ m. packed g m.kind >>= λ k. Some (applied (maybe m.kind) (op.Valid ∷ []) (m.expr ∷ []))
 
 -- `tagged Invalid`
 unfoldable pub invalid_case : Check

@@ -1,6 +1,6 @@
 -- Names, and what stands behind them: instances, their methods, fields, bits (Bluespec reference guide,
 -- "Member selection", "Bit selection" and "Method calls").
-use Rattle.std.specs.Prelude.{ℕ, ◌+◌, ◌-◌, min, nat_le, nat_lt, Bool, true, false, not, ◌&&◌, ◌||◌, List, [], ◌∷◌, ◌++◌, Option, Some, None, codes, if◌then◌else◌}
+use Rattle.std.specs.Prelude.{ℕ, ◌+◌, ◌-◌, nat_le, nat_lt, Bool, true, false, not, ◌&&◌, ◌||◌, List, [], ◌∷◌, ◌++◌, Option, Some, None, codes, if◌then◌else◌}
 use Rattle.std.specs.Str.{bytes_eq}
 use Rattle.bsv_types.specs.declared.operators.Op.{Op}
 use Rattle.bsv_types.specs.declared.operators.Op.TheVariants as op
@@ -8,13 +8,13 @@ use Rattle.bsv_types.specs.declared.types.PartTy.TheVariants as part_type
 use Rattle.bsv_types.specs.declared.expressions.Expr.{Expr, Variable, Method, out-Expr}
 use Rattle.bsv_types.specs.declared.expressions.Expr.TheOpen.{Expr-F}
 use Rattle.bsv_types.specs.declared.expressions.Place.{Place, roll-Place}
-use Rattle.bsv_types.specs.Kinds.{Kind, bit, integer, part, bare, is_interface, type_of}
+use Rattle.bsv_types.specs.Kinds.{Kind, bit, down, integer, part, bare, is_bit, is_interface, type_of}
 use Rattle.bsv_types.specs.Shapes.{counted}
 use Rattle.bsv_types.specs.Operators.{◌>>=◌, is_suffix}
 use Rattle.bsv_types.specs.Methods.{Signature, Effect, value, methods}
 use Rattle.bsv_types.specs.Expressions.{Slot, one, many}
 use Rattle.bsv_typing.specs.Operands.{Made, Operand}
-use Rattle.bsv_typing.specs.Env.{Limits, applied}
+use Rattle.bsv_typing.specs.Env.{Limits, below, applied}
 use Rattle.bsv_typing.specs.Forms.{arguments, field_named, function_case}
 
 -- an instance: its place, and its interface
@@ -122,31 +122,26 @@ method_behind g name xs _ = None
 
 -- the bit of this place
 unfoldable pub bit_of : Operand → Made → Option Front
-bit_of x m = by m.kind where
-  by : Kind → Option Front
-  by (bit n) = x.check (Some integer) >>= λ i. Some (whole (with_suffix (bit 1) op.Index (i.expr ∷ []) m.expr))
-  by _ = None
+bit_of x m = if is_bit m.kind then (x.check (Some integer) >>= λ i. Some (whole (with_suffix (bit 1) op.Index (i.expr ∷ []) m.expr))) else None
 
 -- `[i]`: a place of an array, or a bit
 unfoldable pub index_behind : Limits → Operand → Front → Option Front
 index_behind g x (array level k) = x.check (Some integer) >>= λ i. Some (instance (record { level = level; index = Some i.expr; kind = k }))
 index_behind g x f = value_at g f >>= bit_of x
 
--- the width of the bits from l to h. A range that counts down has no bits: where widths are left aside, it is narrower
--- than every value
-abbrev pub slice_width : ℕ → ℕ → ℕ
-slice_width h l = if nat_le l h then min (h - l + 1) 4294967295 else 0
+-- the type of the bits from l to h: its width is h - l + 1, which is below 1 where the range counts down
+abbrev pub slice_type : ℕ → ℕ → Kind
+slice_type h l = if nat_le l h then bit (counted (h - l + 1)) else below (counted (l - h - 1))
 
-abbrev pub slice_fits : Limits → ℕ → ℕ → ℕ → Bool
-slice_fits g h l n = not g.strict || (nat_le l h && nat_lt h n)
+abbrev pub slice_fits : Limits → ℕ → ℕ → Kind → Bool
+slice_fits g h l (bit n) = not g.strict || (nat_le l h && nat_lt h n)
+slice_fits g h l (down n) = not g.strict
+slice_fits g h l _ = false
 
 -- the bits from l to h. The numbers of a slice that fits are what they are; greater ones count as the greatest
 -- of 32 bits
 unfoldable pub bits_of : Limits → ℕ → ℕ → Made → Option Front
-bits_of g h l m = by m.kind where
-  by : Kind → Option Front
-  by (bit n) = if slice_fits g h l n then Some (whole (with_suffix (bit (slice_width h l)) (op.Slice (counted h) (counted l)) [] m.expr)) else None
-  by _ = None
+bits_of g h l m = if slice_fits g h l m.kind then Some (whole (with_suffix (slice_type h l) (op.Slice (counted h) (counted l)) [] m.expr)) else None
 
 -- `[h:l]`, of unsized literals
 unfoldable pub slice_behind : Limits → Option ℕ → Option ℕ → Front → Option Front

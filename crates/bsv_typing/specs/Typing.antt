@@ -1,5 +1,5 @@
 -- The typing of an expression: one line for each form.
-use Rattle.std.specs.Prelude.{ℕ, ◌+◌, ◌^◌, ◌==◌, nat_le, nat_lt, Bool, true, false, ◌&&◌, List, [], ◌∷◌, map, length, Option, Some, None, is_some, codes, if◌then◌else◌}
+use Rattle.std.specs.Prelude.{ℕ, ◌+◌, ◌^◌, ◌==◌, nat_lt, Bool, true, false, ◌&&◌, List, [], ◌∷◌, map, length, Option, Some, None, is_some, codes, if◌then◌else◌}
 use Rattle.std.specs.List.{list_all}
 use Rattle.std.specs.Str.{bytes_eq}
 use Rattle.bsv_ast.specs.declared.text.Literal.{Literal}
@@ -13,7 +13,7 @@ use Rattle.bsv_ast.specs.declared.expressions.UnaryOperator.{UnaryOperator}
 use Rattle.bsv_ast.specs.declared.expressions.UnaryOperator.TheVariants as unary
 use Rattle.bsv_types.specs.declared.operators.Op.{Op}
 use Rattle.bsv_types.specs.declared.operators.Op.TheVariants as op
-use Rattle.bsv_types.specs.Kinds.{Kind, bool, enum}
+use Rattle.bsv_types.specs.Kinds.{Kind, bool, enum, no_wider}
 use Rattle.bsv_types.specs.Operators.{◌>>=◌}
 use Rattle.bsv_typing.specs.declared.given.GivenFunction.{GivenFunction}
 use Rattle.bsv_typing.specs.declared.given.GivenFunction.TheVariants as given
@@ -169,9 +169,9 @@ has_open_type _ = false
 
 -- they take one argument, or two
 unfoldable pub one_case : Limits → GivenFunction → Operand → Check
-one_case g given.Truncate x = forms.resized_case op.Truncate forms.is_narrower x
-one_case g given.ZeroExtend x = forms.resized_case op.ZeroExtend nat_le x
-one_case g given.SignExtend x = forms.resized_case op.SignExtend nat_le x
+one_case g given.Truncate x = forms.resized_case op.Truncate forms.no_narrower x
+one_case g given.ZeroExtend x = forms.resized_case op.ZeroExtend no_wider x
+one_case g given.SignExtend x = forms.resized_case op.SignExtend no_wider x
 one_case g given.Unpack x = forms.unpack_case g x
 one_case g given.FromInteger x = forms.from_integer_case x
 one_case g given.Pack x = forms.pack_case g x

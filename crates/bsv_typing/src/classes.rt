@@ -1,7 +1,7 @@
-ghost use Rattle.std.specs.Prelude.{◌≡◌, ◌^◌, ◌*◌, ◌<◌, nat_le, nat_lt};
+ghost use Rattle.std.specs.Prelude.{◌≡◌, ◌^◌, ◌*◌, ◌<◌, nat_le, nat_lt, option_map};
 ghost use Rattle.bsv_types.specs.Kinds as spec;
 ghost use Rattle.bsv_types.specs.Kinds.{kind};
-ghost use Rattle.bsv_typing.specs.Env as literals;
+ghost use Rattle.bsv_typing.specs.Env as types;
 ghost use Rattle.bsv_typing.specs.Seen.{limits};
 
 use crate::context::Context;
@@ -11,21 +11,24 @@ use bsv_types::Ty;
 pub(crate) fn has_family(ty: &Ty) -> bool
     ensures { result ≡ spec.has_family (kind ty.now) }
 {
-    matches!(ty, Ty::Bit(_) | Ty::UInt(_) | Ty::Int(_))
+    matches!(ty, Ty::Bit(_) | Ty::Down(_) | Ty::UInt(_) | Ty::Int(_))
 }
 
 /// One of these three, or Integer.
 pub(crate) fn is_number(ty: &Ty) -> bool
     ensures { result ≡ spec.is_number (kind ty.now) }
 {
-    matches!(ty, Ty::Bit(_) | Ty::UInt(_) | Ty::Int(_) | Ty::Integer)
+    matches!(
+        ty,
+        Ty::Bit(_) | Ty::Down(_) | Ty::UInt(_) | Ty::Int(_) | Ty::Integer
+    )
 }
 
 /// What a shift may shift by.
 pub(crate) fn is_amount(ty: &Ty) -> bool
     ensures { result ≡ spec.is_amount (kind ty.now) }
 {
-    matches!(ty, Ty::Bit(_) | Ty::UInt(_) | Ty::Integer)
+    matches!(ty, Ty::Bit(_) | Ty::Down(_) | Ty::UInt(_) | Ty::Integer)
 }
 
 /// Whether instances are of the type.
@@ -38,27 +41,60 @@ pub fn is_interface(ty: &Ty) -> bool
     }
 }
 
-/// Whether the second type is one of the same family that is no wider.
-pub(crate) fn narrows(from: &Ty, to: &Ty) -> bool
-    ensures { result ≡ spec.family_widths (λ m n. nat_le n m) (kind from.now) (kind to.now) }
+/// Whether the type is a Bit.
+pub(crate) fn is_bit(ty: &Ty) -> bool
+    ensures { result ≡ spec.is_bit (kind ty.now) }
 {
-    match (from, to) {
-        (Ty::Bit(from), Ty::Bit(to))
-        | (Ty::UInt(from), Ty::UInt(to))
-        | (Ty::Int(from), Ty::Int(to)) => *to <= *from,
+    matches!(ty, Ty::Bit(_) | Ty::Down(_))
+}
+
+/// Whether two types are of one family, and the first is no wider than the second.
+pub(crate) fn no_wider(one: &Ty, other: &Ty) -> bool
+    ensures { result ≡ spec.no_wider (kind one.now) (kind other.now) }
+{
+    match (one, other) {
+        (Ty::Bit(one), Ty::Bit(other))
+        | (Ty::UInt(one), Ty::UInt(other))
+        | (Ty::Int(one), Ty::Int(other)) => *one <= *other,
+        (Ty::Down(_), Ty::Bit(_)) => true,
+        (Ty::Down(one), Ty::Down(other)) => *other <= *one,
         _ => false,
     }
 }
 
-/// Whether the second type is one of the same family that is no narrower.
-pub(crate) fn widens(from: &Ty, to: &Ty) -> bool
-    ensures { result ≡ spec.family_widths nat_le (kind from.now) (kind to.now) }
+/// A Bit of so many bits below 0.
+pub(crate) fn below(bits: u32) -> Ty
+    ensures { kind result ≡ types.below bits }
 {
-    match (from, to) {
-        (Ty::Bit(from), Ty::Bit(to))
-        | (Ty::UInt(from), Ty::UInt(to))
-        | (Ty::Int(from), Ty::Int(to)) => *from <= *to,
-        _ => false,
+    if bits == 0 {
+        Ty::Bit(0)
+    } else {
+        Ty::Down(bits)
+    }
+}
+
+/// A Bit of so many bits more than others.
+fn across(bits: u32, others: u32) -> Ty
+    ensures { kind result ≡ types.across bits others }
+{
+    if others <= bits {
+        Ty::Bit(bits - others)
+    } else {
+        below(others - bits)
+    }
+}
+
+/// Two Bit types side by side.
+pub(crate) fn beside(one: &Ty, other: &Ty) -> Option<Ty>
+    ensures { option_map kind result ≡ types.beside (kind one.now) (kind other.now) }
+{
+    match (one, other) {
+        (Ty::Bit(one), Ty::Bit(other)) => Some(Ty::Bit(one.saturating_add(*other))),
+        (Ty::Bit(bits), Ty::Down(others)) | (Ty::Down(others), Ty::Bit(bits)) => {
+            Some(across(*bits, *others))
+        }
+        (Ty::Down(one), Ty::Down(other)) => Some(below(one.saturating_add(*other))),
+        _ => None,
     }
 }
 
@@ -93,11 +129,12 @@ fn is_within_half(number: u128, width: u32) -> bool
 /// Whether an unsized literal fits the type.
 #[tactic(auto, unfolding(crate::specs::Env::fits))]
 pub(crate) fn fits(context: &Context, number: u128, ty: &Ty) -> bool
-    ensures { result ≡ literals.fits (limits context.now) number (kind ty.now) }
+    ensures { result ≡ types.fits (limits context.now) number (kind ty.now) }
 {
     match ty {
         Ty::Bit(width) | Ty::UInt(width) => !context.strict || is_below_power(number, *width),
         Ty::Int(width) => !context.strict || is_below_half(number, *width),
+        Ty::Down(_) => !context.strict,
         Ty::Integer => !context.strict || is_below_power(number, 63),
         _ => false,
     }
@@ -106,7 +143,7 @@ pub(crate) fn fits(context: &Context, number: u128, ty: &Ty) -> bool
 /// Whether an unsized literal behind `-` fits the type.
 #[tactic(auto, unfolding(crate::specs::Env::fits_negated, crate::specs::Env::fits))]
 pub(crate) fn fits_negated(context: &Context, number: u128, ty: &Ty) -> bool
-    ensures { result ≡ literals.fits_negated (limits context.now) number (kind ty.now) }
+    ensures { result ≡ types.fits_negated (limits context.now) number (kind ty.now) }
 {
     match ty {
         Ty::Int(width) => !context.strict || is_within_half(number, *width),

@@ -3,9 +3,9 @@ ghost use Rattle.bsv_types.specs.Kinds.{kind};
 ghost use Rattle.bsv_types.specs.Shapes as ranged;
 ghost use Rattle.bsv_types.specs.Shapes.{has_range};
 ghost use Rattle.bsv_typing.specs.Env as spec;
-ghost use Rattle.bsv_typing.specs.Forms.{width_of};
 ghost use Rattle.bsv_typing.specs.Seen.{Gives, limits, header, made, shapes, function_named, structure_named};
 
+use crate::classes::beside;
 use crate::fail::Fail;
 use crate::made::Made;
 use bsv_bits::Name;
@@ -65,10 +65,24 @@ pub struct Context {
 
 impl Context {
     /// The width of a type with bits.
-    pub(crate) fn width(&self, ty: &Ty) -> Option<u32>
-        ensures { result ≡ width_of (limits self.now) (kind ty.now) }
+    fn width(&self, ty: &Ty) -> Option<u32>
+        ensures { result ≡ ranged.width_by self.now.enums self.now.structs (kind ty.now) }
     {
         counted_width(&self.enums, &self.structs, ty)
+    }
+
+    /// The Bit type that has the width of a type.
+    pub(crate) fn packed(&self, ty: &Ty) -> Option<Ty>
+        ensures { option_map kind result ≡ spec.packed (limits self.now) (kind ty.now) }
+    {
+        match ty {
+            Ty::Down(below) => Some(Ty::Down(*below)),
+            Ty::Maybe(payload) => {
+                let held = self.packed(payload.get())?;
+                beside(&Ty::Bit(1), &held)
+            }
+            _ => Some(Ty::Bit(self.width(ty)?)),
+        }
     }
 
     /// The function of the name, if it may be called.
@@ -101,7 +115,7 @@ impl Context {
             Ty::Enum(number) => (*number as usize) < self.enums.len(),
             Ty::Struct(number) => (*number as usize) < self.structs.len(),
             Ty::Maybe(payload) => self.is_in_range(payload.get()) && has_range(self.width(ty)),
-            Ty::Integer | Ty::Interface(_) | Ty::Part(_, _) => false,
+            Ty::Down(_) | Ty::Integer | Ty::Interface(_) | Ty::Part(_, _) => false,
         }
     }
 
@@ -113,7 +127,8 @@ impl Context {
         if self.strict {
             self.is_in_range(ty)
         } else {
-            self.width(ty).is_some()
+            let packed = self.packed(ty);
+            packed.is_some()
         }
     }
 

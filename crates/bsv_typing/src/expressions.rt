@@ -1,7 +1,7 @@
-ghost use Rattle.std.specs.Prelude.{◌≡◌, ◌∷◌, [], Some, length, map, nat_le};
+ghost use Rattle.std.specs.Prelude.{◌≡◌, ◌∷◌, [], Some, length, map};
 ghost use Rattle.bsv_ast.specs.declared.expressions.UnaryOperator.TheVariants as unary;
 ghost use Rattle.bsv_types.specs.declared.operators.Op.TheVariants as op;
-ghost use Rattle.bsv_types.specs.Kinds.{kind};
+ghost use Rattle.bsv_types.specs.Kinds.{bit, kind, no_wider};
 ghost use Rattle.bsv_typing.specs.Forms as spec;
 ghost use Rattle.bsv_typing.specs.Operands as sharing;
 ghost use Rattle.bsv_typing.specs.Operands.{check_if};
@@ -13,12 +13,12 @@ ghost use Rattle.bsv_typing.specs.Seen.{seen, terms_seen, all_seen, fields_seen,
 ghost use Rattle.bsv_typing.specs.Seen.{suffixes_seen, front_of, instance_of, params_of};
 ghost use Rattle.bsv_typing.specs.Seen.{function_named, structure_named};
 
-use crate::classes::{has_family, is_amount, is_number, narrows, widens};
+use crate::classes::{beside, has_family, is_amount, is_bit, is_number, no_wider};
 use crate::context::{Context, FunctionHeader, Variable};
 use crate::fail::Fail;
 use crate::forms::{
-    bit_width, field_count, front_value, invalid, is_among, is_chain, is_choice, label, negated,
-    number, operators, payload, sets, tagged, without_type,
+    field_count, front_value, invalid, is_among, is_chain, is_choice, label, negated, number,
+    operators, payload, sets, tagged, without_type,
 };
 use crate::front::{
     Front, Instance, field_named, in_order_front, member_behind, method_call, name_front,
@@ -540,28 +540,29 @@ fn choice(
 
 /// Parts of Bit types, with their widths together.
 #[cycle(typing)]
-#[tactic(auto, using(crate::proofs::Parts::joins), unfolding(crate::specs::Forms::joined))]
+#[tactic(auto, using(crate::proofs::Values::values), unfolding(crate::specs::Forms::joined))]
 fn joined(
     alloc: Global,
     context: &Context,
     variables: &Scopes<Variable>,
     parts: &[Expr],
-) -> Result<(u32, Items<Typed>), Fail>
-    ensures { Gives (λ r. r) result (spec.joined (all_seen context.now variables.now parts.now)) }
+) -> Result<(Ty, Items<Typed>), Fail>
+    ensures { Gives agreed result (spec.joined (bit 0)
+        (all_seen context.now variables.now parts.now)) }
 {
     let mut found = Items::new(alloc);
-    let mut width: u32 = 0;
+    let mut ty = Ty::Bit(0);
     let mut rest = parts;
     while let Some((part, after)) = rest.split_first() {
         let typed = typing(alloc, context, variables, part, None)?;
-        let Some(own) = bit_width(&typed.ty) else {
+        let Some(wider) = beside(&ty, &typed.ty) else {
             return Err(Fail::Fault);
         };
-        width = width.saturating_add(own);
+        ty = wider;
         found.push(typed.expr)?;
         rest = after;
     }
-    Ok((width, found))
+    Ok((ty, found))
 }
 
 /// `{a, b, ..}`.
@@ -577,9 +578,9 @@ fn concat(
     ensures { Gives made result (ordered (limits context.now)
         (spec.concat_case (all_seen context.now variables.now parts.now)) (expected want.entry)) }
 {
-    let (width, found) = joined(alloc, context, variables, parts)?;
+    let (ty, found) = joined(alloc, context, variables, parts)?;
     let ops = one(alloc, Op::Concat)?;
-    let typed = applied(alloc, Ty::Bit(width), ops, found)?;
+    let typed = applied(alloc, ty, ops, found)?;
     context.in_order(as_wanted(want, typed)?)
 }
 
@@ -605,7 +606,8 @@ fn valid(
         Some(_) => Err(Fail::Fault),
         None => {
             let typed = typing(alloc, context, variables, payload, None)?;
-            if context.width(&typed.ty).is_none() {
+            let packed = context.packed(&typed.ty);
+            if packed.is_none() {
                 return Err(Fail::Fault);
             }
             let Made { ty, expr } = typed;
@@ -705,14 +707,14 @@ fn truncate(
     operand: &Expr,
     want: Option<&Ty>,
 ) -> Result<Made, Fail>
-    ensures { Gives made result (spec.resized_case op.Truncate spec.is_narrower
+    ensures { Gives made result (spec.resized_case op.Truncate spec.no_narrower
         (seen context.now variables.now operand.now) (expected want.entry)) }
 {
     let Some(ty) = want else {
         return Err(Fail::Fault);
     };
     let typed = Boxed::new(alloc, typing(alloc, context, variables, operand, None)?)?;
-    if !narrows(&typed.get().ty, ty) {
+    if !no_wider(ty, &typed.get().ty) {
         return Err(Fail::Fault);
     }
     let own = ty.copy(alloc)?;
@@ -731,14 +733,14 @@ fn extend(
     operand: &Expr,
     want: Option<&Ty>,
 ) -> Result<Made, Fail>
-    ensures { Gives made result (spec.resized_case extension nat_le
+    ensures { Gives made result (spec.resized_case extension no_wider
         (seen context.now variables.now operand.now) (expected want.entry)) }
 {
     let Some(ty) = want else {
         return Err(Fail::Fault);
     };
     let typed = Boxed::new(alloc, typing(alloc, context, variables, operand, None)?)?;
-    if !widens(&typed.get().ty, ty) {
+    if !no_wider(&typed.get().ty, ty) {
         return Err(Fail::Fault);
     }
     let own = ty.copy(alloc)?;
@@ -762,11 +764,11 @@ fn unpack(
     let Some(ty) = want else {
         return Err(Fail::Fault);
     };
-    let Some(width) = context.width(ty) else {
+    let Some(packed) = context.packed(ty) else {
         return Err(Fail::Fault);
     };
     let own = ty.copy(alloc)?;
-    let typed = typing(alloc, context, variables, operand, Some(&Ty::Bit(width)))?;
+    let typed = typing(alloc, context, variables, operand, Some(&packed))?;
     Ok(applied_to_one(alloc, own, Op::Unpack, typed.expr)?)
 }
 
@@ -808,11 +810,10 @@ fn pack(
         (seen context.now variables.now operand.now) (expected want.entry)) }
 {
     let typed = typing(alloc, context, variables, operand, None)?;
-    let Some(width) = context.width(&typed.ty) else {
+    let Some(packed) = context.packed(&typed.ty) else {
         return Err(Fail::Fault);
     };
-    let packed = applied_to_one(alloc, Ty::Bit(width), Op::Pack, typed.expr)?;
-    as_wanted(want, packed)
+    as_wanted(want, applied_to_one(alloc, packed, Op::Pack, typed.expr)?)
 }
 
 /// `isValid(e)`.
@@ -1185,7 +1186,7 @@ fn bit_of(
         (made typed)) }
 {
     let typed = Boxed::new(alloc, typed)?;
-    if bit_width(&typed.get().ty).is_none() {
+    if !is_bit(&typed.get().ty) {
         return Err(Fail::Fault);
     }
     let index = typing(alloc, context, variables, place, Some(&Ty::Integer))?;

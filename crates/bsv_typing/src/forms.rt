@@ -309,13 +309,3 @@ pub(crate) fn payload(ty: &Ty) -> Option<&Ty>
         _ => None,
     }
 }
-
-/// The width of a Bit.
-pub(crate) fn bit_width(ty: &Ty) -> Option<u32>
-    ensures { result ≡ spec.bit_width (kind ty.now) }
-{
-    match ty {
-        Ty::Bit(width) => Some(*width),
-        _ => None,
-    }
-}

@@ -9,7 +9,7 @@ ghost use Rattle.bsv_typing.specs.Seen.{Gives, limits, made, instance_of, front_
 ghost use Rattle.bsv_typing.specs.Seen.{variable, header, method_of, variable_named};
 ghost use Rattle.bsv_typing.specs.Seen.{function_named};
 
-use crate::classes::is_interface;
+use crate::classes::{below, is_interface};
 use crate::context::{Context, FunctionHeader, Slot, Variable};
 use crate::fail::Fail;
 use crate::made::{Made, called, with_suffix};
@@ -271,14 +271,14 @@ pub(crate) fn member_behind(
     }
 }
 
-/// The width of the bits from low to high, of which there are none where the range counts down.
-fn slice_width(high: u128, low: u128) -> u32
-    ensures { result ≡ spec.slice_width high low }
+/// The type of the bits from low to high.
+fn slice_type(high: u128, low: u128) -> Ty
+    ensures { kind result ≡ spec.slice_type high low }
 {
     if low <= high {
-        capped((high - low).saturating_add(1), 4_294_967_295)
+        Ty::Bit(capped((high - low).saturating_add(1), u32::MAX))
     } else {
-        0
+        below(capped(low - high - 1, u32::MAX))
     }
 }
 
@@ -292,11 +292,15 @@ pub(crate) fn capped(number: u128, limit: u32) -> u32
     }
 }
 
-/// Whether bits of a Bit of the width may be named so.
-fn slice_fits(context: &Context, high: u128, low: u128, width: u32) -> bool
-    ensures { result ≡ spec.slice_fits (limits context.now) high low width }
+/// Whether bits of the type may be named so.
+fn slice_fits(context: &Context, high: u128, low: u128, ty: &Ty) -> bool
+    ensures { result ≡ spec.slice_fits (limits context.now) high low (kind ty.now) }
 {
-    !context.strict || (low <= high && high < u128::from(width))
+    match ty {
+        Ty::Bit(width) => !context.strict || (low <= high && high < u128::from(*width)),
+        Ty::Down(_) => !context.strict,
+        _ => false,
+    }
 }
 
 /// The bits from low to high.
@@ -310,14 +314,11 @@ fn bits_of(
 ) -> Result<Front, Fail>
     ensures { Gives front_of result (spec.bits_of (limits context.now) high low (made typed)) }
 {
-    let Ty::Bit(width) = typed.ty else {
-        return Err(Fail::Fault);
-    };
-    if !slice_fits(context, high, low, width) {
+    if !slice_fits(context, high, low, &typed.ty) {
         return Err(Fail::Fault);
     }
     let op = Op::Slice(capped(high, u32::MAX), capped(low, u32::MAX));
-    let ty = Ty::Bit(slice_width(high, low));
+    let ty = slice_type(high, low);
     let typed = with_suffix(alloc, ty, op, Items::new(alloc), typed.expr)?;
     Ok(Front::Whole(typed))
 }

@@ -1,12 +1,11 @@
 use Rattle.std.proofs.Common.{◌+◌, ◌*◌, max, ◌≡◌, ◌≤◌, map, length, [], Some}
 use Rattle.bsv_ast.specs.Depths.{expr_depth, suffix_depth, field_depth, greatest}
-use Rattle.bsv_types.specs.Kinds.{kind}
+use Rattle.bsv_types.specs.Kinds.{bit, kind}
 use Rattle.bsv_typing.specs.Operands as sharing
 use Rattle.bsv_typing.specs.Forms as spec
 use Rattle.bsv_typing.specs.Typing as table
 use Rattle.bsv_typing.specs.Seen.{limits, all_seen, fields_seen, suffixes_seen, front_of, params_of}
 use Rattle.bsv_typing.proofs.Lists.{deepest, with_front}
-use Rattle.bsv_typing.proofs.Parts.{joined_front}
 use Rattle.bsv_typing.proofs.Values.{with_values}
 use Rattle.bsv_typing.proofs.expressions.+typing.Given as goal
 
@@ -159,8 +158,7 @@ decreases-joined-loop-part l = length l.rest
 
 abbrev pub invariant-joined-loop-part : goal.invariant-joined-loop-part
 invariant-joined-loop-part l = record {
-  same : joined_front l.width l.found (spec.joined (all_seen l.context l.variables l.rest)) ≡ spec.joined (all_seen l.context l.variables l.parts);
-  few : l.width ≤ 4294967295;
+  same : with_values l.found (spec.joined (kind l.ty) (all_seen l.context l.variables l.rest)) ≡ spec.joined (bit 0) (all_seen l.context l.variables l.parts);
   within : deepest l.rest ≤ deepest l.parts;
 }
 
