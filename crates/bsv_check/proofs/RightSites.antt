@@ -23,7 +23,7 @@ use Rattle.bsv_typing.specs.Written.{TypeNames, Argument, of_type, number, with_
 use Rattle.bsv_typing.specs.Laws.{slot_right, FitsWorld}
 use Rattle.bsv_typing.proofs.Bound.{some_is, taken, tested_step}
 use Rattle.bsv_typing.proofs.RightOperands.{strictly}
-use Rattle.bsv_typing.proofs.RightPlaces.{bits_value}
+use Rattle.bsv_typing.proofs.RightGiven.{bits_value}
 use Rattle.bsv_typing.proofs.RightStatements.{value_slot_right}
 use Rattle.bsv_check.specs.Modules.{Header, Site}
 

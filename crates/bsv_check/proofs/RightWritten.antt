@@ -15,6 +15,7 @@ use Rattle.bsv_types.specs.Operators.{◌>>=◌}
 use Rattle.bsv_typing.specs.Env.{Limits, packed, has_bits}
 use Rattle.bsv_typing.specs.Written.{TypeNames, with_bits, Argument, of_type, number, plain_type, sized_type, widest, part_over, type_over, applied_type, written_step, argument_step, written, argument}
 use Rattle.bsv_typing.specs.Laws.{slot_right}
+use Rattle.bsv_typing.proofs.RightGiven.{bits_value}
 use Rattle.bsv_check.proofs.Entries.{any_left, any_right}
 
 -- a type of values or of instances
@@ -34,20 +35,6 @@ has_bits_is g k strict e = by g.strict strict e where
   by : (b : Bool) → b ≡ true → cond b (ranged.has_bits g.shapes k) (is_some (packed g k)) ≡ true → ranged.has_bits g.shapes k ≡ true
   by true is e = e
   by false is e = absurd cc
-
-pub bits_value : (s : Shapes) (k : Kind) → ranged.has_bits s k ≡ true → is_value s k ≡ true
-bits_value s integer e = refl
-bits_value s (bit m) e = e
-bits_value s (down m) e = absurd cc
-bits_value s (uint m) e = e
-bits_value s (int m) e = e
-bits_value s bool e = e
-bits_value s (enum k) e = e
-bits_value s (struct k) e = e
-bits_value s (maybe k) e = e
-bits_value s (interface k) e = absurd cc
-bits_value s (part p k) e = absurd cc
-bits_value s (bare p) e = absurd cc
 
 by_test : (s : Shapes) (b : Bool) (x y : Option Kind) → InOrder s x → InOrder s y → InOrder s (cond b x y)
 by_test s true x y h k = h
