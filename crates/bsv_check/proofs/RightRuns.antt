@@ -1,5 +1,5 @@
 -- Headers leave the types of a program as they are, and what packages give is what their items give.
-use Rattle.std.proofs.Common.{◌≡◌, ◌∙◌, ℕ, ◌+◌, List, [], ◌∷◌, Ok, Err, refl, sym, ap}
+use Rattle.std.proofs.Common.{◌≡◌, ◌∙◌, ℕ, List, [], ◌∷◌, Ok, Err, refl, sym, ap}
 use Rattle.bsv_ast.specs.declared.package.Function.{Function as WrittenFunction}
 use Rattle.bsv_ast.specs.declared.modules.Module.{Module as WrittenModule}
 use Rattle.bsv_ast.specs.declared.package.Item.{Item}
@@ -8,9 +8,8 @@ use Rattle.bsv_ast.specs.declared.package.Package.{Package}
 use Rattle.bsv_names.specs.PackageEvents.{items_of}
 use Rattle.bsv_typing.specs.Bodies.{Or}
 use Rattle.bsv_typing.proofs.RightCalls.{ok_is, went, there_is}
-use Rattle.bsv_check.specs.Programs.{types_behind, Program, added, function_entry, with_function, module_entry, with_module}
-use Rattle.bsv_check.specs.Headers.{over_items, over_all, or_kept, type_step, header_step, AtPlace, placed, ◌>==◌}
-use Rattle.bsv_check.specs.Checked.{Done, function_step, module_step, item_step, all_items, package_step, all_packages}
+use Rattle.bsv_check.specs.Programs.{Program, added, function_entry, with_function, module_entry, with_module}
+use Rattle.bsv_check.specs.Headers.{over_items, over_all, or_kept, header_step, AtPlace, placed, ◌>==◌}
 
 pub at_place : {A : Type 0} (x y : A) → ◌≡◌ {A = AtPlace A} (Ok x) (Ok y) → x ≡ y
 at_place x y e = cc

@@ -1,5 +1,5 @@
 -- A type that is written stands for one that is in order.
-use Rattle.std.proofs.Common.{◌≡◌, ◌∙◌, ℕ, Bool, true, false, cond, ◌||◌, List, codes, Option, Some, None, refl, sym, subst}
+use Rattle.std.proofs.Common.{◌≡◌, ◌∙◌, ℕ, Bool, true, false, cond, ◌&&◌, ◌||◌, List, codes, Option, Some, None, refl, sym, subst}
 use Rattle.std.specs.Prelude.{nat_lt, length, is_some}
 use Rattle.std.specs.Str.{bytes_eq}
 use Rattle.bsv_ast.specs.declared.types.WrittenType.{WrittenType, out-WrittenType, map-WrittenType, fold_out-WrittenType}
@@ -7,12 +7,12 @@ use Rattle.bsv_ast.specs.declared.types.TypeArgument.{TypeArgument}
 use Rattle.bsv_ast.specs.declared.types.TypeArgument.TheOpen.{WrittenType-F}
 use Rattle.bsv_types.specs.declared.types.PartTy.TheVariants as part_type
 use Rattle.bsv_types.specs.declared.types.PartTy.{PartTy}
-use Rattle.bsv_types.specs.Kinds.{Kind, bit, down, uint, int, bool, enum, struct, maybe, integer, interface, part, bare}
+use Rattle.bsv_types.specs.Kinds.{Kind, bit, uint, int, maybe, interface, part}
 use Rattle.bsv_types.specs.Shapes as ranged
-use Rattle.bsv_types.specs.Shapes.{Shapes, counted, is_value, is_instance}
+use Rattle.bsv_types.specs.Shapes.{Shapes, is_value, is_instance}
 use Rattle.bsv_types.specs.Expressions.{one}
 use Rattle.bsv_types.specs.Operators.{◌>>=◌}
-use Rattle.bsv_typing.specs.Env.{Limits, packed, has_bits}
+use Rattle.bsv_typing.specs.Env.{Limits, packed, has_bits, nests_within, most_maybes}
 use Rattle.bsv_typing.specs.Written.{TypeNames, with_bits, Argument, of_type, number, plain_type, sized_type, widest, part_over, type_over, applied_type, written_step, argument_step, written, argument}
 use Rattle.bsv_typing.specs.Laws.{slot_right}
 use Rattle.bsv_typing.proofs.RightGiven.{bits_value}
@@ -31,10 +31,10 @@ pub record Names (names : TypeNames) : Type 0 where
 
 pub has_bits_is : (g : Limits) (k : Kind) → g.strict ≡ true → has_bits g k ≡ true → ranged.has_bits g.shapes k ≡ true
 unfolding has_bits
-has_bits_is g k strict e = by g.strict strict e where
-  by : (b : Bool) → b ≡ true → cond b (ranged.has_bits g.shapes k) (is_some (packed g k)) ≡ true → ranged.has_bits g.shapes k ≡ true
-  by true is e = e
-  by false is e = absurd cc
+has_bits_is g k strict e = by g.strict (nests_within most_maybes k && is_some (packed g k)) strict e where
+  by : (b loosely : Bool) → b ≡ true → cond b (ranged.has_bits g.shapes k) loosely ≡ true → ranged.has_bits g.shapes k ≡ true
+  by true loosely is e = e
+  by false loosely is e = absurd cc
 
 by_test : (s : Shapes) (b : Bool) (x y : Option Kind) → InOrder s x → InOrder s y → InOrder s (cond b x y)
 by_test s true x y h k = h

@@ -1,36 +1,38 @@
 -- Which fault of types is told: the first in load and text order that is a definition's or a statement's own. One that
 -- names a definition or a variable without a typing is passed over, whatever it says, so that the fault itself is told
 -- and not who uses what is at fault.
-use Rattle.std.specs.Prelude.{ℕ, ◌+◌, ◌==◌, nat_lt, Bool, true, false, ◌&&◌, ◌||◌, List, [], ◌∷◌, Option, Some, None, Ok, Err, if◌then◌else◌}
+use Rattle.std.specs.Prelude.{ℕ, ◌+◌, ◌==◌, nat_lt, Bool, true, ◌&&◌, ◌||◌, List, [], ◌∷◌, length, map, Option, Some, None, Ok, Err, if◌then◌else◌}
 use Rattle.bsv_ast.specs.declared.modules.Module.{Module as WrittenModule}
-use Rattle.bsv_ast.specs.declared.modules.ModuleStmt.{ModuleStmt as WrittenStmt}
 use Rattle.bsv_ast.specs.declared.package.Function.{Function as WrittenFunction}
 use Rattle.bsv_ast.specs.declared.package.Item.{Item}
 use Rattle.bsv_ast.specs.declared.package.Item.TheVariants as item
 use Rattle.bsv_ast.specs.declared.package.Package.{Package}
-use Rattle.bsv_scopes.specs.Scopes.{is_listed, found}
-use Rattle.bsv_scopes.specs.Given.{with_new_name}
+use Rattle.bsv_scopes.specs.Scopes.{Entries, is_listed, found, with_new}
 use Rattle.bsv_names.specs.declared.place.Place.{Place}
 use Rattle.bsv_names.specs.Faults.{in_package}
 use Rattle.bsv_names.specs.PackageEvents.{items_of, item_events}
-use Rattle.bsv_names.specs.Untyped.{Untyped, Variables, all_typed, with_untyped, item_leans, header_leans, statement_leans, param_variables, behind}
+use Rattle.bsv_names.specs.Untyped.{Untyped, all_typed, with_untyped, with_functions, item_leans, header_leans, with_params}
 use Rattle.bsv_types.specs.Kinds.{Kind}
+use Rattle.bsv_types.specs.Methods.{value}
+use Rattle.bsv_types.specs.declared.asked.Owner.TheVariants as owner
 use Rattle.bsv_types.specs.declared.definitions.Param.{Param}
 use Rattle.bsv_typing.specs.Bodies.{Or, ◌>=>◌, sure}
-use Rattle.bsv_check.specs.Modules.{Site, State, direct, defines_all}
-use Rattle.bsv_check.specs.Programs.{Types, no_types, types_behind, Program, param_scopes, module_header, site_of, opening_state, function_case}
+use Rattle.bsv_check.specs.Modules.{Site, asked, defines_all}
+use Rattle.bsv_check.specs.Programs.{Types, no_types, types_behind, type_names, Program, env_of, function_header, param_scopes, module_header, site_of, opening_state}
 use Rattle.bsv_check.specs.Headers.{AtPlace, placed, ◌>==◌, over_items, headers_behind, type_step, header_step, all_types, no_headers}
+use Rattle.bsv_check.specs.Judged.{Judged, fine, all_judged}
+use Rattle.bsv_check.specs.JudgedModules.{body_judged, direct_judged}
 
 pub record Blame : Type 0 where
   -- what has no typing so far
   pub untyped : Untyped
-  -- the functions whose bodies name something without a typing that they may name
-  pub leaning : List (List ℕ)
+  -- of each function, how many of those before it have no typing
+  pub reaches : Entries ℕ
   -- the place of the first fault that is blamed
   pub fault : Option Place
 
 abbrev pub blameless : Blame
-blameless = record { untyped = all_typed; leaning = []; fault = None }
+blameless = record { untyped = all_typed; reaches = []; fault = None }
 
 -- in load and text order
 abbrev pub precedes : Place → Place → Bool
@@ -60,13 +62,13 @@ unfoldable pub type_blame : ℕ → Item → Types → Blame → Blame
 type_blame number i t b = judged number i (item_leans b.untyped i) (types_behind i t) b
 
 -- a function may call those before it alone: of these it is known here which have no typing
-abbrev pub with_leaning : Item → Blame → Blame
-with_leaning (item.Function s f) b = if item_leans b.untyped (item.Function s f) then record b { leaning = with_new_name f.name.name b.leaning } else b
-with_leaning _ b = b
+abbrev pub with_reach : Item → Blame → Blame
+with_reach (item.Function s f) b = record b { reaches = with_new f.name.name (length b.untyped.functions) b.reaches }
+with_reach _ b = b
 
 -- the header of a function or a module, which may name all types
 unfoldable pub header_blame : ℕ → Item → Program → Blame → Blame
-header_blame number i p b = with_leaning i (judged number i (header_leans b.untyped i) (headers_behind i p) b)
+header_blame number i p b = with_reach i (judged number i (header_leans b.untyped i) (headers_behind i p) b)
 
 module _ {A : Type 0} (step : Item → A → A) (blame : ℕ → Item → A → Blame → Blame) where
   abbrev pub items_blame : ℕ → List Item → A → Blame → Blame
@@ -88,39 +90,41 @@ headers_blame strict ps = all_blame header_step header_blame 0 ps (no_headers (a
 
 -- ---- bodies: no fault of their own, or the first
 
-abbrev pub Judged : Type 0
-Judged = Or (Unit {0})
+-- the functions without a typing that the function may call
+abbrev pub within_reach : Blame → List ℕ → Untyped
+within_reach b name = with_functions (or_none (found name b.reaches)) b.untyped where
+  or_none : Option ℕ → ℕ
+  or_none None = 0
+  or_none (Some n) = n
 
 -- the number of a function that has a header
 abbrev pub own_number : Option (ℕ × List Kind × Kind) → ℕ
 own_number None = 0
 own_number (Some f) = f.0
 
+-- the body of a function, in the scope of its parameters
+unfoldable pub function_body_judged : Program → ℕ → Untyped → WrittenFunction → List Param → Kind → Judged
+function_body_judged p number u f ps k =
+    param_scopes f.span ps >=> λ inner.
+    fine (body_judged u (env_of p number) (type_names p.types) f.span 0 (value k) f.body (with_params true f.params ([] ∷ [])) inner)
+
 -- a function; one without a header is judged already
 unfoldable pub function_judged : Program → Blame → WrittenFunction → Judged
 function_judged p b f =
-    if is_listed f.name.name b.untyped.functions || is_listed f.name.name b.leaning then Ok tt
-    else (function_case p (own_number (found f.name.name p.functions)) f >=> λ typed. Ok tt)
+    if is_listed f.name.name b.untyped.functions then Ok tt
+    else (function_header p f >=> λ h. function_body_judged p (own_number (found f.name.name p.functions)) (within_reach b f.name.name) f h.0 h.1)
 
--- a statement that stands directly in the body of a module, and the variables and the state behind it
-unfoldable pub stmt_judged : Site → Untyped → Variables → WrittenStmt → State → Or (Variables × State)
-stmt_judged site u vs x st =
-    if statement_leans u vs x then Ok (behind false x vs, st) else (direct site x st >=> λ r. Ok (behind true x vs, r.0))
-
-abbrev pub stmts_judged : Site → Untyped → Variables → List WrittenStmt → State → Judged
-stmts_judged site u vs [] st = Ok tt
-stmts_judged site u vs (x ∷ xs) st = stmt_judged site u vs x st >=> λ r. stmts_judged site u r.0 xs r.1
-
--- the body of a module: each method that is wanted stands in it
-abbrev pub body_judged : Site → Untyped → WrittenModule → List Param → Judged
-body_judged site u m ps =
-    param_scopes m.span ps >=> λ ss. sure m.span (defines_all site.wanted m.body) true >=> λ all.
-    stmts_judged site u (param_variables m.params) m.body (opening_state site ss)
+-- the statements of a module, in the scope of its parameters
+abbrev pub module_body_judged : Site → Untyped → WrittenModule → List Param → Judged
+module_body_judged site u m ps =
+    param_scopes m.span ps >=> λ inner. sure m.span (defines_all site.wanted m.body) true >=> λ all.
+    fine (all_judged (map (direct_judged (record { untyped = u; site = site })) m.body) (with_params true m.params ([] ∷ [])) (opening_state site inner))
 
 -- a module; one without a header is judged already
 unfoldable pub module_judged : Program → Untyped → WrittenModule → Judged
 module_judged p u m =
-    if is_listed m.name.name u.modules then Ok tt else (module_header p m >=> λ h. body_judged (site_of p h.1) u m h.0)
+    if is_listed m.name.name u.modules then Ok tt
+    else (asked m.span owner.Module m.attributes >=> λ attributes. module_header p m >=> λ h. module_body_judged (site_of p h.1) u m h.0)
 
 abbrev pub item_judged : Program → Blame → Item → Judged
 item_judged p b (item.Function s f) = function_judged p b f

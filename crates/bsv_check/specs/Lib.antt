@@ -2,6 +2,9 @@ pub mod Headers
 pub mod Blame
 pub mod Checked
 pub mod Growing
+pub mod Judged
+pub mod JudgedModules
+pub mod JudgedSeen
 pub mod Laws
 pub mod Modules
 pub mod Programs

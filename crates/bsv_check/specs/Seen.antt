@@ -145,7 +145,7 @@ made_by x = made_of (types_of x.types) (done_of x.done)
 
 -- what is blamed so far
 abbrev pub blame_of : code_blame.Blame → Blame
-blame_of b = record { untyped = untyped b.untyped; leaning = keys_of (entries b.leaning); fault = b.fault }
+blame_of b = record { untyped = untyped b.untyped; reaches = entries b.reaches; fault = b.fault }
 
 -- what a function that fails leaves open: nothing where it says that there is no typing at this place
 abbrev pub FailsAtPlace : {Y : Type 0} → PlaceFail → AtPlace Y → Type 0

@@ -1,11 +1,12 @@
 ghost use Rattle.std.specs.Prelude.{◌≡◌, OnOk};
 ghost use Rattle.bsv_names.specs.Faults.{in_package};
+ghost use Rattle.bsv_names.specs.UntypedSeen.{reached};
 ghost use Rattle.bsv_check.specs.Blame as spec;
 ghost use Rattle.bsv_check.specs.Seen.{blame_of};
 
 use bsv_ast::{Item, Span};
 use bsv_bits::{Name, OutOfMemory};
-use bsv_names::{Place, Untyped};
+use bsv_names::{Place, Reach, Untyped};
 use bsv_scopes::Scope;
 use std::alloc::Global;
 
@@ -13,8 +14,8 @@ use std::alloc::Global;
 #[derive(Drop)]
 pub(crate) struct Blame {
     pub(crate) untyped: Untyped,
-    /// The functions whose bodies name something without a typing that they may name.
-    pub(crate) leaning: Scope<()>,
+    /// Of each function, how many of those before it have no typing.
+    pub(crate) reaches: Scope<usize>,
     pub(crate) fault: Option<Place>,
 }
 
@@ -54,7 +55,7 @@ impl Blame {
     {
         Blame {
             untyped: Untyped::new(alloc),
-            leaning: Scope::new(alloc),
+            reaches: Scope::new(alloc),
             fault: None,
         }
     }
@@ -80,18 +81,28 @@ impl Blame {
         Ok(())
     }
 
-    /// The item is one of those whose bodies lean, if it is a function and its body does. What it may
-    /// call stands before it.
-    #[tactic(auto, using(bsv_scopes::proofs::Names::defined))]
-    pub(crate) fn add_leaning(&mut self, alloc: Global, item: &Item) -> Result<(), OutOfMemory>
-        ensures { OnOk result (blame_of self.new ≡ spec.with_leaning item.now (blame_of self.old)) }
+    /// The functions without a typing that a function may call: they stand before it.
+    pub(crate) fn add_reach(&mut self, alloc: Global, item: &Item) -> Result<(), OutOfMemory>
+        ensures { OnOk result (blame_of self.new ≡ spec.with_reach item.now (blame_of self.old)) }
     {
         if let Item::Function(_, written) = item {
-            if self.untyped.item_leans(alloc, item)? {
-                let name = Name::new(alloc, written.name.name.bytes())?;
-                let _is_new = self.leaning.define(name, ())?;
-            }
+            let name = Name::new(alloc, written.name.name.bytes())?;
+            let _is_new = self.reaches.define(name, self.untyped.functions())?;
         }
         Ok(())
+    }
+
+    /// What has no typing, as the function of the name sees it.
+    pub(crate) fn within_reach(&self, name: &Name) -> Reach<'_>
+        ensures { reached result ≡ spec.within_reach (blame_of self.now) name.now }
+    {
+        let functions = match self.reaches.find(name) {
+            Some(functions) => *functions,
+            None => 0,
+        };
+        Reach {
+            untyped: &self.untyped,
+            functions,
+        }
     }
 }

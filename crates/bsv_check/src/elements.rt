@@ -139,7 +139,7 @@ fn guard(
 
 /// The level of the next variable.
 #[tactic(auto, using(crate::proofs::Names::counts))]
-fn level(scopes: &Scopes<Variable>) -> Result<u32, BodyFail>
+pub(crate) fn level(scopes: &Scopes<Variable>) -> Result<u32, BodyFail>
     ensures { GivesAt (λ n. n) result (Ok (in_scope (shown scopes.now))) }
 {
     match scopes.count() {
@@ -216,7 +216,7 @@ pub(crate) fn rule(
 }
 
 /// The parameters of a method and what it does and gives, which are those that the interface wants.
-fn method_header(
+pub(crate) fn method_header(
     alloc: Global,
     site: &Site<'_>,
     span: Span,
@@ -280,7 +280,7 @@ fn method_body(
 
 /// A method that the interface wants and that does not stand yet.
 #[tactic(auto, unfolding(bsv_typing::specs::Places::method_named))]
-fn wanted<'a>(
+pub(crate) fn wanted<'a>(
     site: &Site<'a>,
     state: &State,
     span: Span,
@@ -332,7 +332,7 @@ fn method_whole(
 }
 
 /// The method of this number stands.
-fn stand(methods: &mut Vec<Option<Method>>, number: usize, method: Method)
+pub(crate) fn stand(methods: &mut Vec<Option<Method>>, number: usize, method: Method)
     requires { number < vec_len methods.old }
     ensures { methods.new.items ≡ slice_set methods.old.items number (Some method) }
 {

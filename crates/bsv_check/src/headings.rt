@@ -179,7 +179,7 @@ fn add_heading(
             blame.add(alloc, item, leaning, number, span)?;
         }
     }
-    blame.add_leaning(alloc, item)
+    blame.add_reach(alloc, item)
 }
 
 /// The headings of these items of a package more, but those of items with faults.

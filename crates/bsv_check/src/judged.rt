@@ -1,25 +1,26 @@
 ghost use Rattle.std.specs.Prelude.{◌≡◌};
 ghost use Rattle.bsv_scopes.specs.Scopes.{found};
 ghost use Rattle.bsv_types.specs.Kinds.{kind};
-ghost use Rattle.bsv_names.specs.UntypedSeen.{untyped as untyped_of, variables as variables_of};
+ghost use Rattle.bsv_names.specs.UntypedSeen.{reached, untyped as untyped_of};
 ghost use Rattle.bsv_typing.specs.SeenBodies.{GivesAt};
 ghost use Rattle.bsv_check.specs.Blame as spec;
 ghost use Rattle.bsv_check.specs.Programs.{site_at};
-ghost use Rattle.bsv_check.specs.Seen.{GivesPlace, blame_of, program_of, site_of, state_of};
+ghost use Rattle.bsv_check.specs.Seen.{GivesPlace, blame_of, program_of};
 
+use crate::attributes::asked;
 use crate::blame::Blame;
 use crate::checking::PlaceFail;
 use crate::headings::items_of;
-use crate::module_statements::direct;
-use crate::program::{Program, defines_all, function, module_heading, no_methods, param_scopes};
-use crate::site::{Site, State};
-use bsv_ast::{
-    Function as WrittenFunction, Item, Module as WrittenModule, ModuleStmt as WrittenStmt, Package,
+use crate::judged_modules::{ModuleJudge, judge_body};
+use crate::program::{
+    Program, defines_all, function_heading, module_heading, no_methods, param_scopes,
 };
+use crate::site::{Site, State};
+use bsv_ast::{Function as WrittenFunction, Item, Module as WrittenModule, Package};
 use bsv_bits::{Name, OutOfMemory};
-use bsv_names::{Place, Untyped, Variables};
+use bsv_names::{Place, Reach, Untyped, Variables};
 use bsv_scopes::Space;
-use bsv_types::{Boxed, Items, Param, Ty};
+use bsv_types::{Boxed, Items, MethodResult, Owner, Param, Ty};
 use bsv_typing::{BodyFail, at, place_number};
 use std::alloc::Global;
 
@@ -34,7 +35,40 @@ fn own_number(program: &Program, name: &Name) -> u32
     }
 }
 
-/// A function has no fault of its own.
+/// The body of a function, in the scope of its parameters, has no fault of its own.
+#[tactic(auto, using(crate::proofs::Views::bodies), unfolding(crate::specs::Blame::function_body_judged))]
+fn judge_function_body(
+    alloc: Global,
+    program: &Program,
+    reach: Reach<'_>,
+    written: &WrittenFunction,
+    params: &[Param],
+    gives: &Ty,
+) -> Result<(), BodyFail>
+    ensures { GivesAt (λ u. u) result (spec.function_body_judged (program_of program.now)
+        program.now.context.callable (reached reach.entry) written.now params.now
+        (kind gives.now)) }
+{
+    let span = written.span;
+    let mut scopes = param_scopes(alloc, span, params)?;
+    let does = MethodResult::Value(gives.copy(alloc)?);
+    let mut names = Variables::new(alloc);
+    names.open(alloc)?;
+    names.declare_params(alloc, written.params.as_slice(), true)?;
+    judge_body(
+        alloc,
+        reach,
+        &program.context,
+        &mut names,
+        &mut scopes,
+        span,
+        0,
+        &does,
+        &written.body,
+    )
+}
+
+/// A function has no fault of its own behind its header.
 #[tactic(auto, unfolding(crate::specs::Blame::function_judged))]
 fn judge_function(
     alloc: Global,
@@ -47,60 +81,19 @@ fn judge_function(
     ensures kept { program_of program.new ≡ program_of program.old }
 {
     let name = &written.name.name;
-    if blame.untyped.has(Space::Functions, name) || blame.leaning.is_defined(name) {
+    if blame.untyped.has(Space::Functions, name) {
         return Ok(());
     }
-    let number = own_number(program, name);
-    let _typed = function(alloc, program, number, written)?;
-    Ok(())
-}
-
-/// A statement that stands directly in the body of a module has no fault of its own.
-#[tactic(auto, unfolding(crate::specs::Blame::stmt_judged))]
-fn judge_stmt(
-    alloc: Global,
-    site: &Site<'_>,
-    untyped: &Untyped,
-    variables: &mut Variables,
-    state: &mut State,
-    stmt: &WrittenStmt,
-) -> Result<(), BodyFail>
-    ensures { GivesAt (λ u. (variables_of variables.new, state_of state.new)) result
-        (spec.stmt_judged (site_of site.now) (untyped_of untyped.now)
-        (variables_of variables.old) stmt.now (state_of state.old)) }
-{
-    if untyped.statement_leans(alloc, variables, stmt)? {
-        variables.pass(alloc, stmt, false)?;
-        return Ok(());
-    }
-    drop(direct(alloc, site, state, stmt)?);
-    variables.pass(alloc, stmt, true)?;
-    Ok(())
-}
-
-/// The statements of a module have no fault of their own.
-fn judge_stmts(
-    alloc: Global,
-    site: &Site<'_>,
-    untyped: &Untyped,
-    variables: &mut Variables,
-    state: &mut State,
-    stmts: &[WrittenStmt],
-) -> Result<(), BodyFail>
-    ensures { GivesAt (λ u. u) result (spec.stmts_judged (site_of site.now) (untyped_of untyped.now)
-        (variables_of variables.old) stmts.now (state_of state.old)) }
-{
-    let mut rest = stmts;
-    while let Some((stmt, after)) = rest.split_first() {
-        judge_stmt(alloc, site, untyped, variables, state, stmt)?;
-        rest = after;
-    }
-    Ok(())
+    let heading = Boxed::new(alloc, function_heading(alloc, program, written)?)?;
+    program.context.callable = own_number(program, name);
+    let reach = blame.within_reach(name);
+    let (params, gives) = heading.get();
+    judge_function_body(alloc, program, reach, written, params.as_slice(), gives)
 }
 
 /// The body of a module whose header has a typing has no fault of its own.
 #[tactic(auto, using(crate::proofs::Views::sites))]
-fn judge_body(
+fn judge_module_body(
     alloc: Global,
     program: &Program,
     untyped: &Untyped,
@@ -108,7 +101,7 @@ fn judge_body(
     params: &[Param],
     interface: &Ty,
 ) -> Result<(), BodyFail>
-    ensures { GivesAt (λ u. u) result (spec.body_judged
+    ensures { GivesAt (λ u. u) result (spec.module_body_judged
         (site_at (program_of program.now) program.now.context.callable (kind interface.now))
         (untyped_of untyped.now) written.now params.now) }
 {
@@ -122,16 +115,19 @@ fn judge_body(
     if !defines_all(alloc, site.context, site.interface, stmts)? {
         return Err(BodyFail::At(written.span));
     }
-    let mut variables = Variables::of_params(alloc, written.params.as_slice())?;
+    let mut names = Variables::new(alloc);
+    names.open(alloc)?;
+    names.declare_params(alloc, written.params.as_slice(), true)?;
     let mut state = State {
         scopes,
         rules: Items::new(alloc),
         methods: no_methods(alloc, site.context, site.interface)?,
     };
-    judge_stmts(alloc, &site, untyped, &mut variables, &mut state, stmts)
+    let reach = untyped.whole();
+    ModuleJudge { alloc, reach, site }.all_direct(&mut names, &mut state, stmts)
 }
 
-/// A module has no fault of its own.
+/// A module has no fault of its own behind its header.
 #[tactic(auto, using(crate::proofs::Views::lengths), unfolding(crate::specs::Blame::module_judged))]
 fn judge_module(
     alloc: Global,
@@ -143,13 +139,15 @@ fn judge_module(
         (untyped_of untyped.now) written.now) }
     ensures kept { program_of program.new ≡ program_of program.old }
 {
+    let span = written.span;
     if untyped.has(Space::Modules, &written.name.name) {
         return Ok(());
     }
+    drop(asked(alloc, span, Owner::Module, written.attributes.as_slice())?);
     let heading = Boxed::new(alloc, module_heading(alloc, program, written)?)?;
-    program.context.callable = at(written.span, place_number(program.context.functions.len()))?;
+    program.context.callable = at(span, place_number(program.context.functions.len()))?;
     let (params, interface) = heading.get();
-    judge_body(
+    judge_module_body(
         alloc,
         program,
         untyped,

@@ -221,7 +221,7 @@ fn assign(
 
 /// A statement in a block, an arm or a loop, where no method stands.
 #[cycle(module_statements)]
-fn nested(
+pub(crate) fn nested(
     alloc: Global,
     site: &Site<'_>,
     state: &mut State,

@@ -88,7 +88,7 @@ fn value_params(
 
 /// The heading of a function.
 #[tactic(auto, unfolding(crate::specs::Programs::function_header))]
-fn function_heading(
+pub(crate) fn function_heading(
     alloc: Global,
     program: &Program,
     written: &WrittenFunction,

@@ -1,22 +1,20 @@
 -- Names of what has no typing, and what names them. A fault of a definition or a statement that names something
 -- without a typing may be the fault of what it names, so it is not blamed on who names it.
-use Rattle.std.specs.Prelude.{ℕ, Bool, true, false, not, ◌&&◌, ◌||◌, List, [], ◌∷◌, ◌++◌, Option, Some, None, is_some}
+use Rattle.std.specs.Prelude.{ℕ, Bool, false, not, ◌&&◌, ◌||◌, List, [], ◌∷◌, ◌++◌, take, Option, Some, None, is_some}
 use Rattle.bsv_ast.specs.declared.modules.Param.{Param}
-use Rattle.bsv_ast.specs.declared.modules.ModuleStmt.{ModuleStmt, out-ModuleStmt}
-use Rattle.bsv_ast.specs.declared.modules.ModuleStmt.TheOpen.{ModuleStmt-F}
-use Rattle.bsv_ast.specs.declared.modules.ModuleBranch.{ModuleBranch}
+use Rattle.bsv_ast.specs.declared.modules.Method.{Method}
 use Rattle.bsv_ast.specs.declared.package.Function.{Function}
 use Rattle.bsv_ast.specs.declared.modules.Module.{Module}
 use Rattle.bsv_ast.specs.declared.package.Item.{Item}
 use Rattle.bsv_ast.specs.declared.package.Item.TheVariants as item
 use Rattle.bsv_scopes.specs.declared.definitions.Space.{Space}
 use Rattle.bsv_scopes.specs.declared.definitions.Space.TheVariants.{Types, Labels, Functions, Modules}
-use Rattle.bsv_scopes.specs.Scopes.{Entries, is_listed, found, find_in, with_new, defined_in, opened, closed}
+use Rattle.bsv_scopes.specs.Scopes.{Entries, is_listed, find_in, defined_in, opened, closed}
 use Rattle.bsv_scopes.specs.Given.{with_new_name}
 use Rattle.bsv_names.specs.declared.event.Event.{Event}
 use Rattle.bsv_names.specs.declared.event.Event.TheVariants.{Define, DefineVariable, Open, Close, Use, UseVariable, UseValue}
 use Rattle.bsv_names.specs.ExpressionEvents.{type_events}
-use Rattle.bsv_names.specs.ModuleEvents.{param_types, module_stmt_events}
+use Rattle.bsv_names.specs.ModuleEvents.{param_types}
 use Rattle.bsv_names.specs.PackageEvents.{item_events}
 
 -- the definitions without a typing
@@ -47,6 +45,10 @@ with_untyped [] u = u
 with_untyped (Define space name s ∷ es) u = with_untyped es (with_definition space name u)
 with_untyped (e ∷ es) u = with_untyped es u
 
+-- of the functions only so many count, in the order in which they stand: those that a function may call
+abbrev pub with_functions : ℕ → Untyped → Untyped
+with_functions reach u = record u { functions = take reach u.functions }
+
 -- the variables that are defined inside, in their scopes
 abbrev pub Locals : Type 0
 Locals = List (Entries (Unit {0}))
@@ -65,16 +67,16 @@ abbrev pub is_untyped_value : Option Bool → Bool → Bool
 is_untyped_value None function = function
 is_untyped_value (Some typed) function = not typed
 
--- the variables of a module that stand in no scope inside it, each with whether it has a typing
+-- the variables in scope, the innermost scope first, each with whether it has a typing
 abbrev pub Variables : Type 0
-Variables = Entries Bool
+Variables = List (Entries Bool)
 
 module _ (u : Untyped) (vs : Variables) where
   -- the event names something without a typing
   abbrev pub lacks : Locals → Event → Bool
   lacks ls (Use space name s) = is_listed name (untyped_in space u)
-  lacks ls (UseVariable name s) = not (is_local name ls) && is_untyped_value (found name vs) false
-  lacks ls (UseValue name s) = not (is_local name ls) && is_untyped_value (found name vs) (is_listed name u.functions)
+  lacks ls (UseVariable name s) = not (is_local name ls) && is_untyped_value (find_in name vs) false
+  lacks ls (UseValue name s) = not (is_local name ls) && is_untyped_value (find_in name vs) (is_listed name u.functions)
   lacks ls _ = false
 
   abbrev pub leans_from : Locals → List Event → Bool
@@ -97,31 +99,24 @@ header_events (item.Function s f) = function_header_events f
 header_events (item.Module s m) = module_header_events m
 header_events _ = []
 
+-- the names of the types of a method
+abbrev pub method_header_events : Method → List Event
+method_header_events m = type_events m.result ++ param_types m.params
+
 unfoldable pub item_leans : Untyped → Item → Bool
 item_leans u i = leans u [] (item_events i)
 
 unfoldable pub header_leans : Untyped → Item → Bool
 header_leans u i = leans u [] (header_events i)
 
--- ---- statements of a module
+-- ---- variables
 
-abbrev pub with_params : List Param → Variables → Variables
-with_params [] vs = vs
-with_params (p ∷ ps) vs = with_params ps (with_new p.name.name true vs)
+-- a variable more, where one is declared
+abbrev pub with_declared : Option (List ℕ) → Bool → Variables → Variables
+with_declared None typed vs = vs
+with_declared (Some name) typed vs = defined_in name typed vs
 
--- the parameters of a module, which have a typing
-abbrev pub param_variables : List Param → Variables
-param_variables ps = with_params ps []
-
-abbrev pub declared_by : Bool → ModuleStmt-F ModuleStmt ModuleBranch → Variables → Variables
-declared_by typed (ModuleStmt-F.Instance s t name make) vs = with_new name.name typed vs
-declared_by typed (ModuleStmt-F.Array s t name size) vs = with_new name.name typed vs
-declared_by typed (ModuleStmt-F.Declare s d) vs = with_new d.name.name typed vs
-declared_by typed _ vs = vs
-
--- behind a statement that stands directly in the body of the module, with a typing or without one
-unfoldable pub behind : Bool → ModuleStmt → Variables → Variables
-behind typed x vs = declared_by typed (out-ModuleStmt x) vs
-
-unfoldable pub statement_leans : Untyped → Variables → ModuleStmt → Bool
-statement_leans u vs x = leans u vs (module_stmt_events x)
+-- parameters more
+abbrev pub with_params : Bool → List Param → Variables → Variables
+with_params typed [] vs = vs
+with_params typed (p ∷ ps) vs = with_params typed ps (defined_in p.name.name typed vs)

@@ -21,8 +21,10 @@ mod package_events;
 mod place;
 mod statement_events;
 mod untyped;
+#[cfg(test)]
+mod untyped_tests;
 
 pub use attributes::bad_attribute;
 pub use names::{twice, unknown};
 pub use place::Place;
-pub use untyped::{Untyped, Variables};
+pub use untyped::{Reach, Untyped, Variables};

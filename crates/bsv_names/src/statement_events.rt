@@ -59,7 +59,7 @@ pub(crate) fn declaration_events(
 }
 
 /// Adds the names of a condition.
-fn condition_events(
+pub(crate) fn condition_events(
     alloc: Global,
     condition: &Condition,
     found: &mut Items<Event>,
@@ -104,7 +104,11 @@ pub(crate) fn head_events(
 
 /// Adds the names of a statement.
 #[cycle(statement_events)]
-fn stmt_events(alloc: Global, stmt: &Stmt, found: &mut Items<Event>) -> Result<(), OutOfMemory>
+pub(crate) fn stmt_events(
+    alloc: Global,
+    stmt: &Stmt,
+    found: &mut Items<Event>,
+) -> Result<(), OutOfMemory>
     ensures { OnOk result (found.new ≡ found.old ++ spec.stmt_events stmt.now) }
 {
     match stmt {

@@ -1,15 +1,19 @@
-ghost use Rattle.std.specs.Prelude.{◌≡◌, [], IfOk, OnOk};
-ghost use Rattle.bsv_scopes.specs.Scopes.{is_listed, found, with_new};
+ghost use Rattle.std.specs.Prelude.{◌≡◌, [], IfOk, OnOk, option_map, length};
+ghost use Rattle.bsv_scopes.specs.Scopes.{is_listed, find_in, opened, closed};
 ghost use Rattle.bsv_scopes.specs.Seen.{scopes};
+ghost use Rattle.bsv_names.specs.ExpressionEvents as expressions;
+ghost use Rattle.bsv_names.specs.StatementEvents as statements;
+ghost use Rattle.bsv_names.specs.ModuleEvents as modules;
 ghost use Rattle.bsv_names.specs.PackageEvents as listed;
 ghost use Rattle.bsv_names.specs.Untyped as spec;
-ghost use Rattle.bsv_names.specs.UntypedSeen.{untyped, variables as seen_variables};
+ghost use Rattle.bsv_names.specs.UntypedSeen.{untyped, reached, variables as seen_variables};
 
 use crate::event::Event;
-use crate::expression_events::type_events;
+use crate::expression_events::{expr_events, type_events};
 use crate::module_events::{module_stmt_events, param_types};
 use crate::package_events::item_events;
-use bsv_ast::{Item, Items, ModuleStmt, Param};
+use crate::statement_events::{condition_events, head_events, stmt_events};
+use bsv_ast::{Condition, Expr, Head, Item, Items, Method, ModuleStmt, Param, Stmt};
 use bsv_bits::{Name, OutOfMemory};
 use bsv_scopes::{Scope, Scopes, Space};
 use std::alloc::Global;
@@ -24,10 +28,18 @@ pub struct Untyped {
     modules: Scope<()>,
 }
 
-/// The variables of a module that stand in no scope inside it, each with whether it has a typing.
+/// What has no typing, as the body of a function or a module sees it: of the functions only so many
+/// count, in the order in which they stand.
+#[derive(Clone, Copy)]
+pub struct Reach<'a> {
+    pub untyped: &'a Untyped,
+    pub functions: usize,
+}
+
+/// The variables in scope, each with whether it has a typing.
 #[derive(Drop)]
 pub struct Variables {
-    typed: Scope<bool>,
+    typed: Scopes<bool>,
 }
 
 /// The variables that are defined inside, behind an event.
@@ -132,9 +144,71 @@ impl Untyped {
         }
     }
 
+    /// How many functions have none.
+    #[tactic(auto, using(crate::proofs::Reaching::counts))]
+    pub fn functions(&self) -> usize
+        ensures { result ≡ length (untyped self.now).functions }
+    {
+        self.functions.len()
+    }
+
+    /// As all functions may be called.
+    #[tactic(auto, using(crate::proofs::Reaching::reaches))]
+    pub fn whole(&self) -> Reach<'_>
+        ensures { reached result ≡ untyped self.now }
+    {
+        Reach {
+            untyped: self,
+            functions: self.functions(),
+        }
+    }
+
+    /// Whether the item names something without a typing.
+    #[tactic(auto, unfolding(crate::specs::Untyped::item_leans))]
+    pub fn item_leans(&self, alloc: Global, item: &Item) -> Result<bool, OutOfMemory>
+        ensures { IfOk result (λ r. r ≡ spec.item_leans (untyped self.now) item.now) }
+    {
+        let events = item_events(alloc, item)?;
+        let variables = Variables::new(alloc);
+        self.whole().leans(alloc, &variables, events.as_slice())
+    }
+
+    /// Whether the header of a function or a module names something without a typing.
+    #[tactic(auto, unfolding(crate::specs::Untyped::header_leans))]
+    pub fn header_leans(&self, alloc: Global, item: &Item) -> Result<bool, OutOfMemory>
+        ensures { IfOk result (λ r. r ≡ spec.header_leans (untyped self.now) item.now) }
+    {
+        let events = header_events(alloc, item)?;
+        let variables = Variables::new(alloc);
+        self.whole().leans(alloc, &variables, events.as_slice())
+    }
+}
+
+impl Reach<'_> {
+    /// Whether the function of the name counts, and has no typing.
+    #[tactic(auto, using(crate::proofs::Reaching::reaches))]
+    fn lacks_function(self, name: &Name) -> bool
+        ensures { result ≡ is_listed name.now (reached self.entry).functions }
+    {
+        match self.untyped.functions.number(name) {
+            Some(number) => number < self.functions,
+            None => false,
+        }
+    }
+
+    /// Whether what the name stands for in the space has no typing.
+    fn has(self, space: Space, name: &Name) -> bool
+        ensures { result ≡ is_listed name.now (spec.untyped_in space (reached self.entry)) }
+    {
+        match space {
+            Space::Functions => self.lacks_function(name),
+            Space::Types | Space::Labels | Space::Modules => self.untyped.has(space, name),
+        }
+    }
+
     /// Whether the event names something without a typing.
-    fn lacks(&self, variables: &Variables, locals: &Scopes<()>, event: &Event) -> bool
-        ensures { result ≡ spec.lacks (untyped self.now) (seen_variables variables.now)
+    fn lacks(self, variables: &Variables, locals: &Scopes<()>, event: &Event) -> bool
+        ensures { result ≡ spec.lacks (reached self.entry) (seen_variables variables.now)
             (scopes locals.now) event.now }
     {
         match event {
@@ -143,7 +217,7 @@ impl Untyped {
                 locals.find(name).is_none() && variables.lacks(name, false)
             }
             Event::UseValue(name, _) => {
-                let function = self.functions.is_defined(name);
+                let function = self.lacks_function(name);
                 locals.find(name).is_none() && variables.lacks(name, function)
             }
             Event::Define(_, _, _) | Event::DefineVariable(_, _) | Event::Open | Event::Close => {
@@ -155,12 +229,12 @@ impl Untyped {
     /// Whether one of the events names something without a typing.
     #[tactic(auto, unfolding(crate::specs::Untyped::leans))]
     fn leans(
-        &self,
+        self,
         alloc: Global,
         variables: &Variables,
         events: &[Event],
     ) -> Result<bool, OutOfMemory>
-        ensures { IfOk result (λ r. r ≡ spec.leans (untyped self.now)
+        ensures { IfOk result (λ r. r ≡ spec.leans (reached self.entry)
             (seen_variables variables.now) events.now) }
     {
         let mut locals = Scopes::new(alloc);
@@ -176,34 +250,91 @@ impl Untyped {
         Ok(false)
     }
 
-    /// Whether the item names something without a typing.
-    #[tactic(auto, unfolding(crate::specs::Untyped::item_leans))]
-    pub fn item_leans(&self, alloc: Global, item: &Item) -> Result<bool, OutOfMemory>
-        ensures { IfOk result (λ r. r ≡ spec.item_leans (untyped self.now) item.now) }
+    /// Whether an expression names something without a typing.
+    pub fn expr_leans(
+        self,
+        alloc: Global,
+        variables: &Variables,
+        expr: &Expr,
+    ) -> Result<bool, OutOfMemory>
+        ensures { IfOk result (λ r. r ≡ spec.leans (reached self.entry)
+            (seen_variables variables.now) (expressions.expr_events expr.now)) }
     {
-        let events = item_events(alloc, item)?;
-        self.leans(alloc, &Variables::none(alloc), events.as_slice())
+        let mut events = Items::new(alloc);
+        expr_events(alloc, expr, &mut events)?;
+        self.leans(alloc, variables, events.as_slice())
     }
 
-    /// Whether the header of a function or a module names something without a typing.
-    #[tactic(auto, unfolding(crate::specs::Untyped::header_leans))]
-    pub fn header_leans(&self, alloc: Global, item: &Item) -> Result<bool, OutOfMemory>
-        ensures { IfOk result (λ r. r ≡ spec.header_leans (untyped self.now) item.now) }
+    /// Whether the condition of an arm names something without a typing.
+    pub fn condition_leans(
+        self,
+        alloc: Global,
+        variables: &Variables,
+        condition: &Condition,
+    ) -> Result<bool, OutOfMemory>
+        ensures { IfOk result (λ r. r ≡ spec.leans (reached self.entry)
+            (seen_variables variables.now) (statements.condition_events condition.now)) }
     {
-        let events = header_events(alloc, item)?;
-        self.leans(alloc, &Variables::none(alloc), events.as_slice())
+        let mut events = Items::new(alloc);
+        condition_events(alloc, condition, &mut events)?;
+        self.leans(alloc, variables, events.as_slice())
     }
 
-    /// Whether a statement of a module with these variables names something without a typing.
-    #[tactic(auto, unfolding(crate::specs::Untyped::statement_leans))]
-    pub fn statement_leans(
-        &self,
+    /// Whether the head of a loop names something without a typing.
+    pub fn head_leans(
+        self,
+        alloc: Global,
+        variables: &Variables,
+        head: &Head,
+    ) -> Result<bool, OutOfMemory>
+        ensures { IfOk result (λ r. r ≡ spec.leans (reached self.entry)
+            (seen_variables variables.now) (statements.head_events head.now)) }
+    {
+        let mut events = Items::new(alloc);
+        head_events(alloc, head, &mut events)?;
+        self.leans(alloc, variables, events.as_slice())
+    }
+
+    /// Whether a statement of a rule, a method or a function names something without a typing.
+    pub fn stmt_leans(
+        self,
+        alloc: Global,
+        variables: &Variables,
+        stmt: &Stmt,
+    ) -> Result<bool, OutOfMemory>
+        ensures { IfOk result (λ r. r ≡ spec.leans (reached self.entry)
+            (seen_variables variables.now) (statements.stmt_events stmt.now)) }
+    {
+        let mut events = Items::new(alloc);
+        stmt_events(alloc, stmt, &mut events)?;
+        self.leans(alloc, variables, events.as_slice())
+    }
+
+    /// Whether the types of a method name something without a typing.
+    pub fn method_header_leans(
+        self,
+        alloc: Global,
+        variables: &Variables,
+        method: &Method,
+    ) -> Result<bool, OutOfMemory>
+        ensures { IfOk result (λ r. r ≡ spec.leans (reached self.entry)
+            (seen_variables variables.now) (spec.method_header_events method.now)) }
+    {
+        let mut events = Items::new(alloc);
+        type_events(alloc, &method.result, &mut events)?;
+        param_types(alloc, method.params.as_slice(), &mut events)?;
+        self.leans(alloc, variables, events.as_slice())
+    }
+
+    /// Whether a statement of a module names something without a typing.
+    pub fn module_stmt_leans(
+        self,
         alloc: Global,
         variables: &Variables,
         stmt: &ModuleStmt,
     ) -> Result<bool, OutOfMemory>
-        ensures { IfOk result (λ r. r ≡ spec.statement_leans (untyped self.now)
-            (seen_variables variables.now) stmt.now) }
+        ensures { IfOk result (λ r. r ≡ spec.leans (reached self.entry)
+            (seen_variables variables.now) (modules.module_stmt_events stmt.now)) }
     {
         let mut events = Items::new(alloc);
         module_stmt_events(alloc, stmt, &mut events)?;
@@ -212,19 +343,34 @@ impl Untyped {
 }
 
 impl Variables {
-    fn none(alloc: Global) -> Variables
+    /// No scope is open.
+    pub fn new(alloc: Global) -> Variables
         ensures { seen_variables result ≡ [] }
     {
         Variables {
-            typed: Scope::new(alloc),
+            typed: Scopes::new(alloc),
         }
+    }
+
+    /// Opens a scope inside the others.
+    pub fn open(&mut self, alloc: Global) -> Result<(), OutOfMemory>
+        ensures { OnOk result (seen_variables self.new ≡ opened (seen_variables self.old)) }
+    {
+        Ok(self.typed.open(alloc)?)
+    }
+
+    /// Closes the innermost scope.
+    pub fn close(&mut self)
+        ensures { seen_variables self.new ≡ closed (seen_variables self.old) }
+    {
+        self.typed.close();
     }
 
     /// Whether a name without `(` behind it names something without a typing: the variable of that
     /// name where there is one, else a function, of which it is said whether it lacks one.
     fn lacks(&self, name: &Name, function: bool) -> bool
         ensures { result ≡ spec.is_untyped_value
-            (found name.now (seen_variables self.now)) function }
+            (find_in name.now (seen_variables self.now)) function }
     {
         match self.typed.find(name) {
             Some(typed) => !*typed,
@@ -232,44 +378,39 @@ impl Variables {
         }
     }
 
-    /// A variable more.
-    fn declare(&mut self, alloc: Global, name: &Name, typed: bool) -> Result<(), OutOfMemory>
+    /// A variable more, where one is declared, with a typing or without one.
+    pub fn declare(
+        &mut self,
+        alloc: Global,
+        name: Option<&Name>,
+        typed: bool,
+    ) -> Result<(), OutOfMemory>
         ensures { OnOk result (seen_variables self.new
-            ≡ with_new name.now typed (seen_variables self.old)) }
+            ≡ spec.with_declared (option_map (λ n. n.now) name.entry) typed
+            (seen_variables self.old)) }
     {
-        let copy = Name::new(alloc, name.bytes())?;
-        let _is_new = self.typed.define(copy, typed)?;
+        if let Some(name) = name {
+            let copy = Name::new(alloc, name.bytes())?;
+            let _is_new = self.typed.define(copy, typed)?;
+        }
         Ok(())
     }
 
-    /// The parameters of a module, which have a typing.
-    pub fn of_params(alloc: Global, params: &[Param]) -> Result<Variables, OutOfMemory>
-        ensures { IfOk result (λ v. seen_variables v ≡ spec.param_variables params.now) }
+    /// Parameters more, with a typing or without one.
+    pub fn declare_params(
+        &mut self,
+        alloc: Global,
+        params: &[Param],
+        typed: bool,
+    ) -> Result<(), OutOfMemory>
+        ensures { OnOk result (seen_variables self.new
+            ≡ spec.with_params typed params.now (seen_variables self.old)) }
     {
-        let mut variables = Variables::none(alloc);
         let mut rest = params;
         while let Some((param, after)) = rest.split_first() {
-            variables.declare(alloc, &param.name.name, true)?;
+            self.declare(alloc, Some(&param.name.name), typed)?;
             rest = after;
         }
-        Ok(variables)
-    }
-
-    /// A statement that stands directly in the body of the module is passed, with a typing or
-    /// without one.
-    #[tactic(auto, unfolding(crate::specs::Untyped::behind))]
-    pub fn pass(&mut self, alloc: Global, stmt: &ModuleStmt, typed: bool) -> Result<(), OutOfMemory>
-        ensures { OnOk result (seen_variables self.new
-            ≡ spec.behind typed stmt.now (seen_variables self.old)) }
-    {
-        match stmt {
-            ModuleStmt::Instance(_, _, name, _) | ModuleStmt::Array(_, _, name, _) => {
-                self.declare(alloc, &name.name, typed)
-            }
-            ModuleStmt::Declare(_, declaration) => {
-                self.declare(alloc, &declaration.name.name, typed)
-            }
-            _ => Ok(()),
-        }
+        Ok(())
     }
 }

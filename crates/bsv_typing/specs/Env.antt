@@ -1,5 +1,5 @@
 -- What an expression may name, and how typed expressions are made.
-use Rattle.std.specs.Prelude.{ℕ, ◌+◌, ◌-◌, ◌*◌, ◌^◌, ◌==◌, nat_le, nat_lt, Bool, true, false, not, ◌||◌, List, Option, Some, None, is_some, if◌then◌else◌}
+use Rattle.std.specs.Prelude.{ℕ, zero, suc, ◌+◌, ◌-◌, ◌*◌, ◌^◌, ◌==◌, nat_le, nat_lt, Bool, true, false, not, ◌&&◌, ◌||◌, List, Option, Some, None, is_some, if◌then◌else◌}
 use Rattle.bsv_scopes.specs.Scopes.{Entries, find_in}
 use Rattle.bsv_types.specs.declared.operators.Op.{Op}
 use Rattle.bsv_types.specs.declared.expressions.Expr.{Expr, Literal, Apply, Call, Choice}
@@ -62,9 +62,19 @@ packed g (down n) = Some (down n)
 packed g (maybe k) = packed g k >>= beside (bit 1)
 packed g k = width_by g.shapes.enums g.shapes.structs k >>= λ n. Some (bit n)
 
+-- no more than so many Maybes stand in each other
+unfoldable pub nests_within : ℕ → Kind → Bool
+nests_within zero (maybe k) = false
+nests_within (suc n) (maybe k) = nests_within n k
+nests_within n k = true
+
+-- where widths are left aside, a type may be as wide as it likes, but Maybes stand in each other at most so deep
+unfoldable pub most_maybes : ℕ
+most_maybes = 1024
+
 -- a type with bits, where widths are left aside or in range
 unfoldable pub has_bits : Limits → Kind → Bool
-has_bits g k = if g.strict then ranged.has_bits g.shapes k else is_some (packed g k)
+has_bits g k = if g.strict then ranged.has_bits g.shapes k else nests_within most_maybes k && is_some (packed g k)
 
 -- a type of values: one with bits, or Integer
 abbrev pub is_typed_value : Limits → Kind → Bool

@@ -120,15 +120,14 @@ impl Context {
     }
 
     /// Whether the type is one with bits, where widths are left aside or in range.
-    #[tactic(auto, unfolding(crate::specs::Env::has_bits))]
+    #[tactic(auto, unfolding(crate::specs::Env::has_bits, crate::specs::Env::most_maybes))]
     pub fn has_bits(&self, ty: &Ty) -> bool
         ensures { result ≡ spec.has_bits (limits self.now) (kind ty.now) }
     {
         if self.strict {
             self.is_in_range(ty)
         } else {
-            let packed = self.packed(ty);
-            packed.is_some()
+            nests_within(MOST_MAYBES, ty) && self.packed(ty).is_some()
         }
     }
 
@@ -152,6 +151,20 @@ impl Context {
         } else {
             Err(Fail::Fault)
         }
+    }
+}
+
+/// The most Maybes that stand in each other where widths are left aside. Walks over types go as deep.
+const MOST_MAYBES: u32 = 1024;
+
+/// No more than so many Maybes stand in each other.
+#[tactic(auto, unfolding(crate::specs::Env::nests_within))]
+fn nests_within(most: u32, ty: &Ty) -> bool
+    ensures { result ≡ spec.nests_within most (kind ty.now) }
+{
+    match ty {
+        Ty::Maybe(payload) => most > 0 && nests_within(most - 1, payload.get()),
+        _ => true,
     }
 }
 

@@ -53,5 +53,5 @@ pub use law::{bodies_are_right, typing_is_right};
 pub use made::Made;
 pub use methods::{FoundMethod, method_count, method_named};
 pub use names::{is_lower, is_upper};
-pub use simple::head;
+pub use simple::{Opening, asked, head, open_arm};
 pub use written::{written_effect, written_type};

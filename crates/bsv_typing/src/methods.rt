@@ -99,6 +99,13 @@ impl<'a> MethodEffect<'a> {
 }
 
 impl<'a> FoundMethod<'a> {
+    /// What it does and gives, with types of its own.
+    pub fn result(self, alloc: Global) -> Result<MethodResult, AllocError>
+        ensures { IfOk result (λ r. spec.effect r ≡ (method_of self.entry).1.effect) }
+    {
+        self.effect.result(alloc)
+    }
+
     /// Whether its parameters have the types of these.
     pub fn takes(&self, params: &[Param]) -> bool
         ensures { result ≡ same_kinds (param_kinds params.now) (method_of self.now).1.params }

@@ -31,9 +31,9 @@ use std::slice;
 
 /// The condition in front of an arm, and the variable that it binds there.
 #[derive(Drop)]
-pub(crate) struct Opening {
-    pub(crate) condition: TypedCondition,
-    pub(crate) bound: Option<(Name, Ty)>,
+pub struct Opening {
+    pub condition: TypedCondition,
+    pub bound: Option<(Name, Ty)>,
 }
 
 /// Whether `<=` writes to an instance of the type.
@@ -224,7 +224,7 @@ pub(crate) fn give_back(
 }
 
 /// What a condition asks, and what it binds.
-fn asked(
+pub fn asked(
     alloc: Global,
     task: &Task<'_>,
     scopes: &Scopes<Variable>,
@@ -295,7 +295,7 @@ pub(crate) fn openings(
 }
 
 /// Opens the scope of an arm, with the variable that its condition binds.
-pub(crate) fn open_arm(
+pub fn open_arm(
     alloc: Global,
     span: Span,
     scopes: &mut Scopes<Variable>,

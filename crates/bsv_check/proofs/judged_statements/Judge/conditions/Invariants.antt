@@ -1,0 +1,13 @@
+use Rattle.std.proofs.Common.{◌≡◌, map, length}
+use Rattle.bsv_names.specs.UntypedSeen.{variables}
+use Rattle.bsv_typing.specs.Seen.{shown}
+use Rattle.bsv_check.specs.Judged.{openings_judged, arm_of}
+use Rattle.bsv_check.specs.JudgedSeen.{judging}
+use Rattle.bsv_check.proofs.judged_statements.Judge.conditions.Given as goal
+
+abbrev pub decreases-loop-branch : goal.decreases-loop-branch
+decreases-loop-branch l = length l.rest
+
+abbrev pub invariant-loop-branch : goal.invariant-loop-branch
+invariant-loop-branch l =
+    openings_judged (judging l.self) l.span (map (arm_of (judging l.self)) l.rest) (variables l.names) (shown l.scopes) ≡ openings_judged (judging l.self) l.span (map (arm_of (judging l.self)) l.branches) (variables l.names) (shown l.scopes)
