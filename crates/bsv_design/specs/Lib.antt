@@ -1,2 +1,14 @@
 pub mod Kinds
 pub mod MethodNames
+pub mod Computing
+pub mod Integers
+pub mod Values
+pub mod Working
+pub mod Frames
+pub mod Arms
+pub mod Applied
+pub mod Operated
+pub mod Calls
+pub mod Carrying
+pub mod Running
+pub mod Elements

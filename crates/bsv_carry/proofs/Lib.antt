@@ -1,0 +1,6 @@
+mod Powers
+mod Depths
+mod Fronts
+mod Nodes
+mod Sorts
+mod Turns

@@ -1,0 +1,306 @@
+ghost use Rattle.std.specs.Prelude.{◌≡◌, [], IfOk, slice_get, take};
+ghost use Rattle.bsv_fail.specs.Given.{Gives};
+ghost use Rattle.bsv_types.specs.Kinds.{kind};
+ghost use Rattle.bsv_design.specs.Calls as calls;
+ghost use Rattle.bsv_design.specs.Carrying as carrying;
+ghost use Rattle.bsv_carry.specs.AtHand as spec;
+
+use crate::carrier::Carrier;
+use crate::count::fresh;
+use crate::fault::{Counted, Got};
+use crate::frame::{Locals, variable};
+use crate::integers::number_between;
+use crate::operators::constant_of;
+use crate::value::{all_static, atom_of, held, is_static, opened, truth};
+use crate::work::{Valued, between, with_step};
+use bsv_bits::Operator;
+use bsv_design::{Atom, Binding, Constant, Count, Local, MethodPlace, Static, Step, Value, Work};
+use bsv_fail::Fail;
+use bsv_types::{Expr, Op, Param, Ty};
+use sqlite_items::Items;
+use std::alloc::{AllocError, Global};
+
+/// An Integer that is written is less than this.
+const MOST_WRITTEN: u128 = 9_223_372_036_854_775_808;
+
+pub(crate) fn is_integer(ty: &Ty) -> bool
+    ensures { result ≡ calls.is_integer (kind ty.now) }
+{
+    matches!(ty, Ty::Integer)
+}
+
+/// What a call of a function gives, which is static where the arguments are.
+pub(crate) fn loosened(arguments: &[Value], value: Value) -> Value
+    ensures { result ≡ carrying.loosened arguments.now value }
+{
+    if all_static(arguments) {
+        value
+    } else {
+        opened(value)
+    }
+}
+
+/// The count behind an arm, whose values are gone.
+pub(crate) fn behind_arm(asked: Count, arm: Count) -> Count
+    ensures { result ≡ carrying.behind_arm asked arm }
+{
+    Count {
+        weight: arm.weight,
+        slots: asked.slots,
+    }
+}
+
+/// Whether the subject has a label, where one label more is the same or is not.
+pub(crate) fn either(found: Option<Value>, same: Value, work: Work) -> Valued
+    ensures { Gives result (carrying.either found same work) }
+{
+    match found {
+        None => Ok((same, work)),
+        Some(before) => between(work, Operator::Or, before, same),
+    }
+}
+
+pub(crate) fn or_false(found: Option<Value>) -> Value
+    ensures { result ≡ carrying.or_false found }
+{
+    match found {
+        None => truth(false),
+        Some(value) => value,
+    }
+}
+
+/// A condition that has to hold, with its steps.
+pub(crate) fn with_need(
+    name: Option<MethodPlace>,
+    work: Work,
+    value: Value,
+    asked: Work,
+) -> Result<Work, AllocError>
+    ensures { IfOk result (λ found. found ≡ carrying.with_need name work (value, asked)) }
+{
+    let count = asked.count;
+    with_step(work, Step::Need(name, atom_of(value), asked.steps), count)
+}
+
+fn argument(value: Value) -> Local
+    ensures { result ≡ carrying.argument value }
+{
+    match value {
+        Value::Static(Constant::Number(_)) => variable(value, true),
+        _ => variable(value, false),
+    }
+}
+
+/// The variables of a body as it begins: what it returns, and the arguments.
+pub(crate) fn arguments(
+    alloc: Global,
+    integer: bool,
+    values: &[Value],
+) -> Result<Locals, AllocError>
+    ensures { IfOk result (λ found. found ≡ carrying.arguments integer values.now) }
+{
+    let mut found = Items::new(alloc);
+    found.push(variable(truth(false), integer))?;
+    let mut rest = values;
+    while let Some((value, after)) = rest.split_first() {
+        found.push(argument(*value))?;
+        rest = after;
+    }
+    Ok(found)
+}
+
+/// The first values, which are those of parameters.
+#[tactic(auto, unfolding(bsv_design::specs::Carrying::parameters_from))]
+pub(crate) fn parameters(alloc: Global, params: &[Param], count: Count) -> Counted<Items<Value>>
+    ensures { Gives result (carrying.parameters_from [] params.now count) }
+{
+    // Where a local has the type of what a value may hold, the checker finds its drop.
+    let _none = Constant::Number(0);
+    let mut found = Items::new(alloc);
+    let mut count = count;
+    let mut rest = params;
+    while let Some((_param, after)) = rest.split_first() {
+        let slot = count.slots;
+        count = fresh(count, 1)?;
+        found.push(Value::Open(Atom::Slot(slot)))?;
+        rest = after;
+    }
+    Ok((found, count))
+}
+
+/// The first so many variables of a module.
+pub(crate) fn seen(bindings: &[Binding], count: usize) -> &[Binding]
+    ensures { result.now ≡ take count bindings.now }
+{
+    if count < bindings.len() {
+        &bindings[..count]
+    } else {
+        bindings
+    }
+}
+
+impl Carrier<'_> {
+    #[tactic(auto, unfolding(bsv_design::specs::Carrying::literal))]
+    pub(crate) fn literal(self, ty: &Ty, number: u128, work: Work) -> Valued
+        ensures { Gives result (spec.literal self.entry (kind ty.now) number work) }
+    {
+        match ty {
+            Ty::Integer => {
+                if number < MOST_WRITTEN {
+                    Ok((Value::Static(Constant::Number(number as i64)), work))
+                } else {
+                    Err(Fail::Fault(self.static_fault()))
+                }
+            }
+            ty => Ok((constant_of(self.width(ty), number), work)),
+        }
+    }
+
+    /// The place of a variable among those of the body.
+    pub(crate) fn place_in_body(self, level: u32) -> usize
+        ensures { result ≡ calls.place_in_body (spec.site self.entry) level }
+    {
+        (level as usize).saturating_sub(self.bindings.len()) + 1
+    }
+
+    fn in_body(self, locals: &[Local], at: usize) -> Got<Value>
+        ensures { Gives result (calls.in_body (spec.fault_of self.entry)
+            (slice_get locals.now at)) }
+    {
+        match locals.get(at) {
+            None => Err(Fail::Fault(self.static_fault())),
+            Some(local) => {
+                if local.lost {
+                    Err(Fail::Fault(self.static_fault()))
+                } else {
+                    Ok(local.value)
+                }
+            }
+        }
+    }
+
+    /// A variable, of the module or of the body.
+    #[tactic(auto, unfolding(bsv_design::specs::Calls::variable))]
+    pub(crate) fn variable(self, level: u32, locals: &[Local]) -> Got<Value>
+        ensures { Gives result (spec.variable self.entry level locals.now) }
+    {
+        match self.bindings.get(level as usize) {
+            None => self.in_body(locals, self.place_in_body(level)),
+            Some(binding) => match held(&binding.value) {
+                Some(value) => Ok(value),
+                None => Err(Fail::Fault(self.static_fault())),
+            },
+        }
+    }
+
+    /// A value of the type. An Integer is static.
+    pub(crate) fn settled(self, ty: &Ty, found: (Value, Work)) -> Valued
+        ensures { Gives result (spec.settled self.entry (kind ty.now) found) }
+    {
+        match ty {
+            Ty::Integer => {
+                if is_static(&found.0) {
+                    Ok(found)
+                } else {
+                    Err(Fail::Fault(self.static_fault()))
+                }
+            }
+            _ => Ok(found),
+        }
+    }
+
+    /// The type of the first operand.
+    #[tactic(auto, using(crate::proofs::Sorts::sorts))]
+    pub(crate) fn first_type<'b>(self, ty: &'b Ty, operands: &'b [Expr]) -> &'b Ty
+        ensures { kind result.now ≡ spec.first_type self.entry (kind ty.now) operands.now }
+    {
+        match operands.split_first() {
+            None => ty,
+            Some((first, _)) => first.ty(),
+        }
+    }
+
+    /// The instance of a variable.
+    pub(crate) fn placed(self, level: u32) -> Got<u32>
+        ensures { Gives result (spec.placed self.entry level) }
+    {
+        match self.bindings.get(level as usize) {
+            None => Err(Fail::Fault(self.static_fault())),
+            Some(binding) => match &binding.value {
+                Static::Place(number) => Ok(*number),
+                _ => Err(Fail::Fault(self.static_fault())),
+            },
+        }
+    }
+
+    /// An instance that was set.
+    fn set_place(self, places: &[Option<u32>], at: usize) -> Got<u32>
+        ensures { Gives result (calls.set_place (spec.fault_of self.entry)
+            (slice_get places.now at)) }
+    {
+        match places.get(at) {
+            None => Err(Fail::Fault(self.static_fault())),
+            Some(place) => match place {
+                Some(number) => Ok(*number),
+                None => Err(Fail::Fault(self.static_fault())),
+            },
+        }
+    }
+
+    /// The instance at a place of an array.
+    pub(crate) fn placed_at(self, level: u32, at: usize) -> Got<u32>
+        ensures { Gives result (spec.placed_at self.entry level at) }
+    {
+        match self.bindings.get(level as usize) {
+            None => Err(Fail::Fault(self.static_fault())),
+            Some(binding) => match &binding.value {
+                Static::Places(places) => self.set_place(places.as_slice(), at),
+                _ => Err(Fail::Fault(self.static_fault())),
+            },
+        }
+    }
+
+    /// A place in an array.
+    pub(crate) fn index_of(self, value: Value) -> Got<usize>
+        ensures { Gives result (spec.index_of self.entry value) }
+    {
+        match value {
+            Value::Static(Constant::Number(number)) => match u64::try_from(number) {
+                Ok(at) => Ok(at as usize),
+                Err(_) => Err(Fail::Fault(self.static_fault())),
+            },
+            _ => Err(Fail::Fault(self.static_fault())),
+        }
+    }
+
+    /// Whether the subject is a label.
+    pub(crate) fn same_as(self, subject: &Value, label: Value, work: Work) -> Valued
+        ensures { Gives result (spec.same_as self.entry subject.now label work) }
+    {
+        match (*subject, label) {
+            (Value::Static(Constant::Number(one)), Value::Static(Constant::Number(other))) => {
+                match number_between(Op::Same, one, other) {
+                    Some(constant) => Ok((Value::Static(constant), work)),
+                    None => Err(Fail::Fault(self.static_fault())),
+                }
+            }
+            (subject, label) => between(work, Operator::Same, subject, label),
+        }
+    }
+
+    /// What a body returns behind its statements.
+    pub(crate) fn returned(self, locals: &[Local], work: Work) -> Valued
+        ensures { Gives result (spec.returned self.entry (slice_get locals.now 0) work) }
+    {
+        match locals.get(0) {
+            None => Err(Fail::Fault(self.static_fault())),
+            Some(local) => {
+                if local.lost {
+                    Err(Fail::Fault(self.static_fault()))
+                } else {
+                    Ok((local.value, work))
+                }
+            }
+        }
+    }
+}

@@ -1,0 +1,265 @@
+ghost use Rattle.std.specs.Prelude.{◌≡◌, IfOk};
+ghost use Rattle.bsv_fail.specs.Given.{Gives, GivesBy};
+ghost use Rattle.bsv_types.specs.Kinds.{kind};
+ghost use Rattle.bsv_design.specs.Operated as operated;
+ghost use Rattle.bsv_carry.specs.AtHand as spec;
+
+use crate::carrier::Carrier;
+use crate::fault::Got;
+use crate::operators::{constant_of, together};
+use crate::value::truth;
+use crate::work::{Valued, slice};
+use bsv_design::{Value, Work};
+use bsv_fail::Fail;
+use bsv_types::{Field, Op, Ty, counted_widths};
+use sqlite_items::Items;
+use std::alloc::{AllocError, Global};
+
+/// The bits of a value that a suffix names, and their fields where they are a struct.
+#[derive(Clone, Copy)]
+pub(crate) struct Part<'a> {
+    pub high: u32,
+    pub low: u32,
+    pub inner: &'a [Field],
+}
+
+fn sets(number: usize, op: Op) -> bool
+    ensures { result ≡ operated.sets number op }
+{
+    match op {
+        Op::Set(set) => set as usize == number,
+        _ => false,
+    }
+}
+
+/// The value that a field is set to.
+#[tactic(auto, unfolding(bsv_design::specs::Operated::set_to))]
+fn set_to(number: usize, ops: &[Op], values: &[Value]) -> Value
+    ensures { result ≡ operated.set_to number ops.now values.now }
+{
+    let mut left = ops;
+    let mut rest = values;
+    while let (Some((op, more)), Some((value, after))) = (left.split_first(), rest.split_first()) {
+        if sets(number, *op) {
+            return *value;
+        }
+        left = more;
+        rest = after;
+    }
+    truth(false)
+}
+
+/// The values that fields are set to.
+#[tactic(auto, unfolding(bsv_design::specs::Operated::set_from))]
+fn set_values(
+    alloc: Global,
+    fields: &[Field],
+    ops: &[Op],
+    values: &[Value],
+) -> Result<Items<Value>, AllocError>
+    ensures { IfOk result (λ found. found
+        ≡ operated.set_from 0 fields.now ops.now values.now) }
+{
+    let mut found = Items::new(alloc);
+    let mut rest = fields;
+    while let Some((_field, after)) = rest.split_first() {
+        let number = found.len();
+        found.push(set_to(number, ops, values))?;
+        rest = after;
+    }
+    Ok(found)
+}
+
+fn all_together(values: &[Value], work: Work) -> Valued
+    ensures { Gives result (operated.all_together values.now work) }
+{
+    match values.split_first() {
+        None => Ok((truth(false), work)),
+        Some((first, others)) => together(*first, others, work),
+    }
+}
+
+/// Whether the operators construct a struct.
+fn builds(ops: &[Op]) -> bool
+    ensures { result ≡ operated.builds ops.now }
+{
+    match ops.split_first() {
+        Some((op, _)) => matches!(op, Op::Set(_)),
+        None => false,
+    }
+}
+
+fn is_suffix(op: Op) -> bool
+    ensures { result ≡ operated.is_suffix op }
+{
+    matches!(op, Op::Index | Op::Slice(_, _) | Op::Field(_))
+}
+
+impl<'a> Carrier<'a> {
+    /// The bits of a field. The last one stands in the lowest bits.
+    fn field_part(self, fields: &'a [Field], number: u32) -> Part<'a>
+        ensures { spec.part result ≡ spec.field_part self.entry fields.now number }
+    {
+        let at = number as usize;
+        match fields.get(at) {
+            None => Part {
+                high: 0,
+                low: 0,
+                inner: &[],
+            },
+            Some(field) => {
+                let below = &fields[at + 1..];
+                let low = match counted_widths(&self.typed.enums, &self.typed.structs, below) {
+                    Some(width) => width,
+                    None => 0,
+                };
+                let above = low.saturating_add(self.width(&field.ty));
+                Part {
+                    high: above.saturating_sub(1),
+                    low,
+                    inner: self.fields(&field.ty),
+                }
+            }
+        }
+    }
+
+    /// The bits that a suffix names of a value of so many bits with these fields, and the values that
+    /// are left, of which an index takes one.
+    #[tactic(auto, unfolding(bsv_design::specs::Operated::part_of))]
+    fn part_of<'b>(
+        self,
+        bits: u32,
+        fields: &'a [Field],
+        op: Op,
+        values: &'b [Value],
+    ) -> Got<(Part<'a>, &'b [Value])>
+        ensures { GivesBy (λ r. (spec.part r.0, r.1.now)) result
+            (spec.part_of self.entry bits fields.now op values.now) }
+    {
+        match op {
+            Op::Index => match values.split_first() {
+                None => Err(Fail::Fault(self.static_fault())),
+                Some((index, after)) => {
+                    let at = self.number_below(bits, *index)?;
+                    let part = Part {
+                        high: at,
+                        low: at,
+                        inner: &[],
+                    };
+                    Ok((part, after))
+                }
+            },
+            Op::Slice(high, low) => {
+                let part = Part {
+                    high,
+                    low,
+                    inner: &[],
+                };
+                Ok((part, values))
+            }
+            Op::Field(number) => Ok((self.field_part(fields, number), values)),
+            _ => Err(Fail::Fault(self.static_fault())),
+        }
+    }
+
+    /// Suffixes, from the left.
+    #[tactic(auto, unfolding(bsv_design::specs::Operated::suffixed))]
+    fn suffixed(self, ty: &Ty, ops: &[Op], whole: Value, values: &[Value], work: Work) -> Valued
+        ensures { Gives result (spec.suffixed self.entry (spec.width self.entry (kind ty.now))
+            (spec.fields self.entry (kind ty.now)) ops.now whole values.now work) }
+    {
+        let mut bits = self.width(ty);
+        let mut fields = self.fields(ty);
+        let mut value = whole;
+        let mut work = work;
+        let mut left = ops;
+        let mut rest = values;
+        while let Some((op, more)) = left.split_first() {
+            let (part, after) = self.part_of(bits, fields, *op, rest)?;
+            let (next, behind) = slice(work, &value, part.high, part.low)?;
+            bits = part.high.saturating_sub(part.low).saturating_add(1);
+            fields = part.inner;
+            value = next;
+            work = behind;
+            left = more;
+            rest = after;
+        }
+        Ok((value, work))
+    }
+
+    /// What one operator that is no suffix gives.
+    fn single(
+        self,
+        ty: &Ty,
+        from: &Ty,
+        op: Op,
+        first: Value,
+        others: &[Value],
+        work: Work,
+    ) -> Valued
+        ensures { Gives result
+            (spec.single self.entry (kind ty.now) (kind from.now) op first others.now work) }
+    {
+        match op {
+            Op::Concat => together(first, others, work),
+            op => match others.split_first() {
+                None => self.one_operand(op, ty, from, first, work),
+                Some((other, _)) => self.two_operands(op, from, first, *other, work),
+            },
+        }
+    }
+
+    #[tactic(auto, unfolding(bsv_design::specs::Operated::applied_to))]
+    fn applied_to(
+        self,
+        ty: &Ty,
+        from: &Ty,
+        ops: &[Op],
+        first: Value,
+        others: &[Value],
+        work: Work,
+    ) -> Valued
+        ensures { Gives result
+            (spec.applied_to self.entry (kind ty.now) (kind from.now) ops.now first others.now
+            work) }
+    {
+        match ops.split_first() {
+            None => Ok((first, work)),
+            Some((op, more)) => {
+                if is_suffix(*op) {
+                    self.suffixed(from, ops, first, others, work)
+                } else if more.is_empty() {
+                    self.single(ty, from, *op, first, others, work)
+                } else {
+                    self.chained(ops, from, first, others, work)
+                }
+            }
+        }
+    }
+
+    /// What operators give: the type of the result, and that of the first operand.
+    #[tactic(auto, unfolding(bsv_design::specs::Operated::applied))]
+    pub(crate) fn applied(
+        self,
+        ty: &Ty,
+        from: &Ty,
+        ops: &[Op],
+        values: &[Value],
+        work: Work,
+    ) -> Valued
+        ensures { Gives result
+            (spec.applied self.entry (kind ty.now) (kind from.now) ops.now values.now work) }
+    {
+        match values.split_first() {
+            None => Ok((constant_of(self.width(ty), 0), work)),
+            Some((first, others)) => {
+                if builds(ops) {
+                    let fields = set_values(self.alloc, self.fields(ty), ops, values)?;
+                    all_together(fields.as_slice(), work)
+                } else {
+                    self.applied_to(ty, from, ops, *first, others, work)
+                }
+            }
+        }
+    }
+}

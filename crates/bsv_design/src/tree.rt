@@ -1,0 +1,80 @@
+use crate::kind::Kind;
+use crate::statics::Binding;
+use bsv_bits::Name;
+use bsv_types::{PartTy, Typed};
+use sqlite_items::Items;
+
+/// The attributes that pair rules.
+#[derive(Clone, Copy, Debug, PartialEq, Eq)]
+pub enum Attribute {
+    DescendingUrgency,
+    ExecutionOrder,
+    Preempts,
+}
+
+/// Two elements that an attribute names, by their positions.
+#[derive(Clone, Copy, Debug, PartialEq, Eq)]
+pub struct Pair {
+    pub attribute: Attribute,
+    pub before: u32,
+    pub after: u32,
+}
+
+/// An asserting attribute of a rule: `fire_when_enabled`, or else `no_implicit_conditions`.
+#[derive(Clone, Copy, Debug, PartialEq, Eq)]
+pub struct Assert {
+    pub rule: u32,
+    pub fires: bool,
+}
+
+/// A rule that was carried out.
+#[derive(Drop)]
+pub struct BuiltRule {
+    pub name: Name,
+    /// Its place among the rules of its module.
+    pub rule: u32,
+    /// Its position among the elements of the design: the methods of the top come first.
+    pub position: u32,
+    /// The variables of its module that it sees.
+    pub bindings: Items<Binding>,
+}
+
+/// An instance of a module.
+#[derive(Drop)]
+pub struct Built {
+    /// Its place among the modules.
+    pub module: u32,
+    /// The variables of its body, with their values at its end.
+    pub bindings: Items<Binding>,
+    pub rules: Items<BuiltRule>,
+    /// Of each method, in the order of the interface, how many of the bindings it sees.
+    pub methods: Items<u32>,
+}
+
+#[derive(Drop)]
+pub enum Made {
+    /// A primitive, and the interface that it was made with.
+    Primitive(PartTy, Kind),
+    Module(Built),
+}
+
+/// An instance.
+#[derive(Drop)]
+pub struct Instance {
+    /// The names from the top to it, joined by dots; empty of the top.
+    pub path: Name,
+    pub made: Made,
+}
+
+/// A design with each of its instances.
+#[derive(Drop)]
+pub struct Tree {
+    pub typed: Typed,
+    /// The place of the top's module.
+    pub top: u32,
+    /// In building order, the top first.
+    pub instances: Items<Instance>,
+    pub pairs: Items<Pair>,
+    pub asserts: Items<Assert>,
+    pub weight: u64,
+}
