@@ -24,8 +24,6 @@ mod operators;
 mod site;
 mod statements;
 mod suffixes;
-#[cfg(test)]
-mod tests;
 mod value;
 mod words;
 mod work;

@@ -12,3 +12,5 @@ pub mod Calls
 pub mod Carrying
 pub mod Running
 pub mod Elements
+pub mod Trees
+pub mod Seen

@@ -1,7 +1,7 @@
 use crate::kind::Kind;
 use crate::statics::Binding;
 use bsv_bits::Name;
-use bsv_types::{PartTy, Typed};
+use bsv_types::PartTy;
 use sqlite_items::Items;
 
 /// The attributes that pair rules.
@@ -64,17 +64,4 @@ pub struct Instance {
     /// The names from the top to it, joined by dots; empty of the top.
     pub path: Name,
     pub made: Made,
-}
-
-/// A design with each of its instances.
-#[derive(Drop)]
-pub struct Tree {
-    pub typed: Typed,
-    /// The place of the top's module.
-    pub top: u32,
-    /// In building order, the top first.
-    pub instances: Items<Instance>,
-    pub pairs: Items<Pair>,
-    pub asserts: Items<Assert>,
-    pub weight: u64,
 }

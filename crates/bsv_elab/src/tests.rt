@@ -1,12 +1,13 @@
 ghost use Rattle.std.specs.Prelude.{◌≡◌, [], ◌∷◌, IfOk};
 ghost use Rattle.bsv_types.specs.Samples.{two_bits};
 
-use crate::{Site, front, no_steps, no_variables, tick};
+use crate::{Names, kind_of, marks_of, part_of, trees_are_right};
 use bsv_bits::{Name, Word};
-use bsv_design::{Atom, Binding, Constant, Count, Static, Value};
+use bsv_carry::{Site, front, no_steps, no_variables, tick};
+use bsv_design::{Atom, Attribute, Binding, BuiltRule, Constant, Count, Kind, Pair, Static, Value};
 use bsv_types::{
-    Body, Enum, Expr, Field, Function, Interface, Method, MethodResult, Methods, Module, Op, Param,
-    Place, Stmt, Struct, Ty, Typed,
+    Attribute as Asked, Body, Enum, Expr, Field, Function, GivenMaker, Interface, Method,
+    MethodResult, Methods, Module, Op, Param, PartTy, Place, Stmt, Struct, Ty, Typed,
 };
 use sqlite_items::Items;
 use std::alloc::Global;
@@ -169,5 +170,82 @@ fn the_front_of_a_list(rt: HostRuntime) -> Result<(), Fail> {
     items.push(5)?;
     items.push(6)?;
     assert_eq!(rt; front(1, items).as_slice(), [5].as_slice());
+    Ok(())
+}
+
+#[test]
+fn the_second_of_a_name_has_a_number(rt: HostRuntime) -> Result<(), Fail> {
+    let alloc = rt.alloc();
+    trees_are_right();
+    let mut names = Names::new(alloc);
+    for wanted in [b"x".as_slice(), b"x_1".as_slice(), b"x_2".as_slice()] {
+        match names.next(alloc, b"c", b"x") {
+            Ok(name) => assert_eq!(rt; name.bytes(), wanted),
+            Err(_) => assert!(rt; false),
+        }
+    }
+    assert!(rt; names.take(alloc, b"c", b"y").is_ok());
+    assert!(rt; names.take(alloc, b"c", b"x_1").is_err());
+    Ok(())
+}
+
+#[test]
+fn a_queue_of_one_place(rt: HostRuntime) -> Result<(), Fail> {
+    assert_eq!(rt; part_of(GivenMaker::Fifo1), PartTy::Fifo);
+    match kind_of(GivenMaker::Fifo1, 8, 1, Word::bit(false)) {
+        Kind::Plain(kind) => assert_eq!(rt; (kind.width, kind.depth), (8, 1)),
+        _ => assert!(rt; false),
+    }
+    Ok(())
+}
+
+/// `(* descending_urgency = "a, b" *) module mkT(Empty);`
+fn with_a_list(alloc: Global) -> Result<Module, Fail> {
+    let mut names = Items::new(alloc);
+    names.push(Name::new(alloc, b"a")?)?;
+    names.push(Name::new(alloc, b"b")?)?;
+    let mut attributes = Items::new(alloc);
+    attributes.push(Asked::DescendingUrgency(names))?;
+    Ok(Module {
+        name: Name::new(alloc, b"mkT")?,
+        attributes,
+        params: Items::new(alloc),
+        interface: Ty::Interface(0),
+        rules: Items::new(alloc),
+        methods: Items::new(alloc),
+        body: Items::new(alloc),
+    })
+}
+
+/// A rule of this name at a position.
+fn rule_at(alloc: Global, name: &[u8], position: u32) -> Result<BuiltRule, Fail> {
+    Ok(BuiltRule {
+        name: Name::new(alloc, name)?,
+        rule: 0,
+        position,
+        bindings: Items::new(alloc),
+    })
+}
+
+#[test]
+fn a_list_pairs_its_rules(rt: HostRuntime) -> Result<(), Fail> {
+    let alloc = rt.alloc();
+    let module = with_a_list(alloc)?;
+    let mut rules = Items::new(alloc);
+    rules.push(rule_at(alloc, b"b", 3)?)?;
+    assert!(rt; marks_of(alloc, &module, rules.as_slice()).is_err());
+    rules.push(rule_at(alloc, b"a", 4)?)?;
+    match marks_of(alloc, &module, rules.as_slice()) {
+        Ok(marks) => {
+            let wanted = Pair {
+                attribute: Attribute::DescendingUrgency,
+                before: 4,
+                after: 3,
+            };
+            assert_eq!(rt; marks.pairs.as_slice(), [wanted].as_slice());
+            assert_eq!(rt; marks.asserts.len(), 0);
+        }
+        Err(_) => assert!(rt; false),
+    }
     Ok(())
 }

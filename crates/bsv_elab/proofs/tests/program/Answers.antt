@@ -1,6 +1,6 @@
 use Rattle.std.proofs.Common.{◌∙◌, ap, [], ◌∷◌, ◌++◌}
 use Rattle.bsv_types.proofs.Sampled.{program_right, empty_made}
-use Rattle.bsv_carry.proofs.tests.program.Goals as goal
+use Rattle.bsv_elab.proofs.tests.program.Goals as goal
 
 pub new-requires-4 : goal.new-requires-4
 new-requires-4 c =

@@ -1,0 +1,11 @@
+use Rattle.std.proofs.Common.{◌∙◌, sym, arith}
+use Rattle.bsv_elab.proofs.MadeKinds.{dwire_in, dwire_out}
+use Rattle.bsv_elab.proofs.kinds.dwire.Goals as goal
+use Rattle.bsv_elab.proofs.kinds.dwire.Goals.{then-width-lt1-via-then-width-lt1, then-width-lt1-via-else-width-lt1+then-width-gt128}
+
+pub returns-then-width-lt1 : goal.returns-then-width-lt1
+returns-then-width-lt1 c =
+    c.pulse.ensures ∙ sym (dwire_out c.args.width (λ a b. elim c.then-width-lt1.branch [ then-width-lt1-via-then-width-lt1 w ↦ omega (arith, w.if-width-lt1.true, a) | then-width-lt1-via-else-width-lt1+then-width-gt128 w ↦ omega (arith, w.if-width-gt128.true, b) ]) c.args.default)
+
+pub returns : goal.returns
+returns c = dwire_in c.args.width c.args.default _ _ c.or_zero-default.ensures (omega (arith, c.if-width-lt1.false)) (omega (arith, c.if-width-gt128.false))

@@ -1,0 +1,10 @@
+pub mod Becoming
+pub mod Names
+pub mod MadeKinds
+pub mod Statics
+pub mod Attributes
+pub mod Making
+pub mod Elements
+pub mod Bodies
+pub mod Building
+pub mod Rightness
