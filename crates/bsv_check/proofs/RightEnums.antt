@@ -70,5 +70,6 @@ enum_is_right e kept few =
     let b = both front (list_all is_upper e.labels) c.0 in
     let a = both (is_upper e.name) (nat_le 2 (length e.labels)) b.0 in
     let lt : length e.labels < 2 ^ 32 = ltb-true (length e.labels) (2 ^ 32) few in
-    both_true (is_upper e.name && list_all is_upper e.labels) (is_enum_width e.width (length e.labels)) (both_true (is_upper e.name) (list_all is_upper e.labels) a.0 b.1)
+    both_true (is_upper e.name && list_all is_upper e.labels && countable e.labels) (is_enum_width e.width (length e.labels))
+    (both_true (is_upper e.name && list_all is_upper e.labels) (countable e.labels) (both_true (is_upper e.name) (list_all is_upper e.labels) a.0 b.1) few)
     (subst (λ n. is_enum_width n (length e.labels) ≡ true) (sym (eqb-true e.width (enum_width (length e.labels)) c.1)) (width_right (length e.labels) a.1 lt))

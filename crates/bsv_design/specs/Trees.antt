@@ -9,7 +9,7 @@ use Rattle.bsv_types.specs.declared.modules.Rule.{Rule}
 use Rattle.bsv_types.specs.declared.typed.Typed.{Typed}
 use Rattle.bsv_types.specs.declared.types.PartTy.{PartTy}
 use Rattle.bsv_types.specs.Expressions.{Slot, one, many, Frame, World}
-use Rattle.bsv_types.specs.Kinds.{Kind as Sort, interface, part, bare, kind}
+use Rattle.bsv_types.specs.Kinds.{Kind as Sort, part, bare, kind}
 use Rattle.bsv_types.specs.Methods.{methods}
 use Rattle.bsv_types.specs.Modules.{rule_right, method_right}
 use Rattle.bsv_types.specs.Programs.{call_of}

@@ -115,7 +115,7 @@ module _ (t : Typed) where
   enum_some : (k : ℕ) (e : Enum) → slice_get t.enums k ≡ Some e → 1 ≤ e.width
   enum_some k e is =
       let h = all_there enum_right t.enums k e shape_parts.0 is in
-      enum_width e.width (length e.labels) (both (is_upper e.name && list_all is_upper e.labels) (is_enum_width e.width (length e.labels)) h).1
+      enum_width e.width (length e.labels) (both (is_upper e.name && list_all is_upper e.labels && countable e.labels) (is_enum_width e.width (length e.labels)) h).1
 
   -- a type with bits has one or more
   record HasSome (k : Sort) : Type 0 where

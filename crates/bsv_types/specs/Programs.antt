@@ -25,7 +25,7 @@ each_at p first [] = true
 each_at p first (x ∷ xs) = p first x && each_at p (first + 1) xs
 
 abbrev pub enum_right : Enum → Bool
-enum_right e = is_upper e.name && list_all is_upper e.labels && is_enum_width e.width (length e.labels)
+enum_right e = is_upper e.name && list_all is_upper e.labels && countable e.labels && is_enum_width e.width (length e.labels)
 
 -- a struct with its place: it names only structs before it
 abbrev pub struct_right : Shapes → ℕ → Struct → Bool
