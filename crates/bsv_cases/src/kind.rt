@@ -13,10 +13,16 @@ pub(crate) enum Kind {
     UnknownName,
     TypeFault,
     WidthFault,
+    NoSuchModule,
+    StaticFault,
+    Loop,
+    Recursion,
+    NameTaken,
+    NoSuchRule,
     NotYet,
 }
 
-const KINDS: [Kind; 13] = [
+const KINDS: [Kind; 19] = [
     Kind::Limit,
     Kind::BadByte,
     Kind::OpenComment,
@@ -29,6 +35,12 @@ const KINDS: [Kind; 13] = [
     Kind::UnknownName,
     Kind::TypeFault,
     Kind::WidthFault,
+    Kind::NoSuchModule,
+    Kind::StaticFault,
+    Kind::Loop,
+    Kind::Recursion,
+    Kind::NameTaken,
+    Kind::NoSuchRule,
     Kind::NotYet,
 ];
 
@@ -48,6 +60,12 @@ impl Kind {
             Kind::UnknownName => "UnknownName",
             Kind::TypeFault => "TypeFault",
             Kind::WidthFault => "WidthFault",
+            Kind::NoSuchModule => "NoSuchModule",
+            Kind::StaticFault => "StaticFault",
+            Kind::Loop => "Loop",
+            Kind::Recursion => "Recursion",
+            Kind::NameTaken => "NameTaken",
+            Kind::NoSuchRule => "NoSuchRule",
             Kind::NotYet => "NotYet",
         }
     }
@@ -67,6 +85,12 @@ impl Kind {
             Kind::UnknownName => 7,
             Kind::TypeFault => 9,
             Kind::WidthFault => 10,
+            Kind::NoSuchModule => 12,
+            Kind::StaticFault => 13,
+            Kind::Loop => 14,
+            Kind::Recursion => 15,
+            Kind::NameTaken => 16,
+            Kind::NoSuchRule => 26,
             Kind::NotYet => 0,
         }
     }

@@ -20,7 +20,7 @@ use Rattle.bsv_elab.specs.declared.state.State.{State}
 use Rattle.bsv_elab.specs.MadeKinds.{kind_of}
 use Rattle.bsv_elab.specs.Names.{new_name}
 use Rattle.bsv_elab.specs.Statics.{Here, static_fault, countable, put_at}
-use Rattle.bsv_elab.specs.Making.{Bodies, argument_in, placed_in, arguments_from, arguments, named_instance, instance, next_number, with_instance, with_primitive, depth_of, few_bits, at_least_one, start_of, within_limits, primitive, is_around, unbuilt, parameters, params_of, inner, behind, child, made_by, make}
+use Rattle.bsv_elab.specs.Making.{Bodies, argument_in, placed_in, arguments_from, arguments, named_instance, instance, next_number, with_instance, with_primitive, depth_of, at_least_one, start_of, within_limits, primitive, is_around, unbuilt, parameters, params_of, inner, behind, child, made_by, make}
 use Rattle.bsv_elab.proofs.CarriedGives.{Gives, gives_then, anything, gives_if}
 use Rattle.bsv_elab.proofs.CarriedGrowth.{Grows, grows_behind}
 use Rattle.bsv_elab.proofs.CarriedAccepted.{Extends, grows_replaced, put_is, EachAccepted, TreeAccepted, each_later, tree_later, tree_behind, tree_replaced}
@@ -115,10 +115,9 @@ module _ (here : Here) where
       → Gives (λ r. Went here s r.1) (primitive here bits name g xs s)
   unfolding primitive
   primitive_went bits name g xs s =
-      gives_then _ (anything (few_bits (static_fault here) bits)) (λ bits u.
       gives_then _ (anything (at_least_one (static_fault here) (depth_of g xs))) (λ depth u. gives_then _ (named_went name s)
       (λ n went. gives_then _ (anything (within_limits depth n.1.grown))
-      (λ number u. record { gives = went_then here s n.1 _ went (primitive_stands n.0 (made_part g) (kind_of g bits depth (start_of xs)) n.1) }))))
+      (λ number u. record { gives = went_then here s n.1 _ went (primitive_stands n.0 (made_part g) (kind_of g bits depth (start_of xs)) n.1) })))
 
   -- ---- modules
 

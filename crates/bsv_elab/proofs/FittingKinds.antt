@@ -2,7 +2,8 @@
 use Rattle.std.proofs.Common.{◌≡◌, ◌∙◌, ℕ, zero, suc, ◌+◌, ◌-◌, ◌^◌, ◌≤◌, ◌<◌, min, Bool, true, false, ◌&&◌, List, [], ◌∷◌, length, map, Option, Some, None, option_map, refl, sym, ap, subst, arith}
 use Rattle.std.specs.Prelude.{nat_le, nat_lt, slice_get}
 use Rattle.std.specs.List.{list_all}
-use Rattle.std.proofs.lemmas.Bool.{ltb-true, leb-true, le-leb}
+use Rattle.std.proofs.lemmas.Bool.{ltb-true, leb-true, leb-false, le-leb}
+use Rattle.std.proofs.Math.Pow.{pow_mono}
 use Rattle.bsv_bits.specs.Words.{Bits}
 use Rattle.bsv_types.specs.declared.definitions.Enum.{Enum}
 use Rattle.bsv_types.specs.declared.definitions.Struct.{Struct}
@@ -65,11 +66,24 @@ small_min a b h lt = omega arith
 counted_small : (n : ℕ) → counted n ≤ 128 → n ≤ 128
 counted_small n h = small_min n 4294967295 h (leb-true 129 4294967295 refl)
 
-enum_width : (w labels : ℕ) → is_enum_width w labels ≡ true → 1 ≤ w
-enum_width w labels e =
+-- a width that begins below 32 bits ends there
+begins_below : (n w : ℕ) → 2 ^ (w - 1) ≤ n → n < 2 ^ 32 → w ≤ 128
+begins_below n w before few = by (nat_le w 128) refl where
+  by : (b : Bool) → nat_le w 128 ≡ b → w ≤ 128
+  by true is = leb-true w 128 is
+  by false is =
+      let larger : 32 ≤ w - 1 = omega (arith, leb-false w 128 is) in
+      absurd (omega (arith, before, few, pow_mono larger))
+
+enum_range : (w labels : ℕ) → nat_lt labels (2 ^ 32) ≡ true → is_enum_width w labels ≡ true → Range w
+enum_range w labels few e =
     let a = both (nat_le 2 labels && nat_le 1 w && nat_lt (labels - 1) (2 ^ w)) (nat_le (2 ^ (w - 1)) (labels - 1)) e in
     let b = both (nat_le 2 labels && nat_le 1 w) (nat_lt (labels - 1) (2 ^ w)) a.0 in
-    leb-true 1 w (both (nat_le 2 labels) (nat_le 1 w) b.0).1
+    let below : labels - 1 < 2 ^ 32 = omega (arith, ltb-true labels (2 ^ 32) few) in
+    record {
+      some = leb-true 1 w (both (nat_le 2 labels) (nat_le 1 w) b.0).1;
+      most = begins_below (labels - 1) w (leb-true (2 ^ (w - 1)) (labels - 1) a.1) below;
+    }
 
 module _ (t : Typed) where
   abbrev front : Bool
@@ -112,36 +126,37 @@ module _ (t : Typed) where
       (is_width (widths_by t.enums t.structs (field_kinds s.fields)) s.width) h.1 in
       range_of s.width (both (is_upper s.name && lower_names (map (λ f. f.name) s.fields) && countable s.fields && list_all (is_bits (shapes t) h.0) (field_kinds s.fields)) (in_range s.width) a.0).1
 
-  enum_some : (k : ℕ) (e : Enum) → slice_get t.enums k ≡ Some e → 1 ≤ e.width
-  enum_some k e is =
+  enum_in_range : (k : ℕ) (e : Enum) → slice_get t.enums k ≡ Some e → Range e.width
+  enum_in_range k e is =
       let h = all_there enum_right t.enums k e shape_parts.0 is in
-      enum_width e.width (length e.labels) (both (is_upper e.name && list_all is_upper e.labels && countable e.labels) (is_enum_width e.width (length e.labels)) h).1
+      let a = both (is_upper e.name && list_all is_upper e.labels && countable e.labels) (is_enum_width e.width (length e.labels)) h in
+      enum_range e.width (length e.labels) (both (is_upper e.name && list_all is_upper e.labels) (countable e.labels) a.0).1 a.1
 
-  -- a type with bits has one or more
-  record HasSome (k : Sort) : Type 0 where
+  -- a type with bits has 1 to 128
+  record HasWidth (k : Sort) : Type 0 where
     n : ℕ
     is : width_by t.enums t.structs k ≡ Some n
-    some : 1 ≤ n
+    range : Range n
 
   maybe_range : (o p : Option ℕ) → has_range p ≡ true → p ≡ plus (Some 1) o → (n : ℕ) × (p ≡ Some n) × Range n
   maybe_range o None e is = absurd cc
   maybe_range o (Some n) e is = (n, refl, range_of n e)
 
-  bits_some : (k : Sort) → has_bits (shapes t) k ≡ true → HasSome k
-  bits_some (bit n) e = record { n = n; is = refl; some = (range_of n e).some }
-  bits_some (uint n) e = record { n = n; is = refl; some = (range_of n e).some }
-  bits_some (int n) e = record { n = n; is = refl; some = (range_of n e).some }
-  bits_some bool e = record { n = 1; is = refl; some = omega arith }
+  bits_some : (k : Sort) → has_bits (shapes t) k ≡ true → HasWidth k
+  bits_some (bit n) e = record { n = n; is = refl; range = range_of n e }
+  bits_some (uint n) e = record { n = n; is = refl; range = range_of n e }
+  bits_some (int n) e = record { n = n; is = refl; range = range_of n e }
+  bits_some bool e = record { n = 1; is = refl; range = range_of 1 refl }
   bits_some (enum k) e =
       let h = there t.enums k (ltb-true k (length t.enums) e) in
-      record { n = h.0.width; is = ap (option_map (λ (d : Enum). d.width)) h.1; some = enum_some k h.0 h.1 }
+      record { n = h.0.width; is = ap (option_map (λ (d : Enum). d.width)) h.1; range = enum_in_range k h.0 h.1 }
   bits_some (struct k) e =
       let h = there t.structs k (ltb-true k (length t.structs) e) in
-      record { n = h.0.width; is = ap (option_map (λ (d : Struct). d.width)) h.1; some = (struct_range k h.0 h.1).some }
+      record { n = h.0.width; is = ap (option_map (λ (d : Struct). d.width)) h.1; range = struct_range k h.0 h.1 }
   bits_some (maybe k) e =
       let a = both (is_bits (shapes t) (length t.structs) k) (has_range (width_by t.enums t.structs (maybe k))) e in
       let h = maybe_range (width_by t.enums t.structs k) (width_by t.enums t.structs (maybe k)) a.1 refl in
-      record { n = h.0; is = h.1; some = h.2.some }
+      record { n = h.0; is = h.1; range = h.2 }
   bits_some (down n) e = absurd cc
   bits_some integer e = absurd cc
   bits_some (interface k) e = absurd cc
@@ -152,8 +167,8 @@ module _ (t : Typed) where
   unfolding width
   width_of k n e = rw e refl
 
-  width_some : (k : Sort) → has_bits (shapes t) k ≡ true → 1 ≤ width (shapes t) k
-  width_some k e = let h = bits_some k e in subst (λ n. 1 ≤ n) (sym (width_of k h.n h.is)) h.some
+  width_range : (k : Sort) → has_bits (shapes t) k ≡ true → Range (width (shapes t) k)
+  width_range k e = let h = bits_some k e in subst Range (sym (width_of k h.n h.is)) h.range
 
   -- a tag fits in front
   payload_range : (k : Sort) → has_bits (shapes t) (maybe k) ≡ true → (1 ≤ width (shapes t) k) × (width (shapes t) k ≤ 127)
@@ -163,20 +178,20 @@ module _ (t : Typed) where
       let whole = range_of (counted (1 + h.n)) (subst (λ (o : Option ℕ). has_range (plus (Some 1) o) ≡ true) h.is a.1) in
       let small : 1 + h.n ≤ 128 = counted_small (1 + h.n) whole.most in
       let same = width_of k h.n h.is in
-      (subst (λ n. 1 ≤ n) (sym same) h.some, subst (λ n. n ≤ 127) (sym same) (omega arith))
+      (subst (λ n. 1 ≤ n) (sym same) h.range.some, subst (λ n. n ≤ 127) (sym same) (omega arith))
 
   record PartRange (p : PartTy) (k : Sort) : Type 0 where
-    some : 1 ≤ width (shapes t) k
+    range : Range (width (shapes t) k)
     no_pulse : p ≡ part_type.PulseWire → ⊥
     tagged : p ≡ part_type.RWire → width (shapes t) k ≤ 127
 
   part_range : (p : PartTy) (k : Sort) → is_instance (shapes t) (part p k) ≡ true → PartRange p k
-  part_range part_type.Reg k e = record { some = width_some k e; no_pulse = λ i. absurd cc; tagged = λ i. absurd cc }
-  part_range part_type.Wire k e = record { some = width_some k e; no_pulse = λ i. absurd cc; tagged = λ i. absurd cc }
-  part_range part_type.RWire k e = let h = payload_range k e in record { some = h.0; no_pulse = λ i. absurd cc; tagged = λ i. h.1 }
+  part_range part_type.Reg k e = record { range = width_range k e; no_pulse = λ i. absurd cc; tagged = λ i. absurd cc }
+  part_range part_type.Wire k e = record { range = width_range k e; no_pulse = λ i. absurd cc; tagged = λ i. absurd cc }
+  part_range part_type.RWire k e = let h = payload_range k e in record { range = record { some = h.0; most = omega (arith, h.1) }; no_pulse = λ i. absurd cc; tagged = λ i. h.1 }
   part_range part_type.PulseWire k e = absurd cc
-  part_range part_type.Fifo k e = record { some = width_some k e; no_pulse = λ i. absurd cc; tagged = λ i. absurd cc }
-  part_range part_type.Fifof k e = record { some = width_some k e; no_pulse = λ i. absurd cc; tagged = λ i. absurd cc }
+  part_range part_type.Fifo k e = record { range = width_range k e; no_pulse = λ i. absurd cc; tagged = λ i. absurd cc }
+  part_range part_type.Fifof k e = record { range = width_range k e; no_pulse = λ i. absurd cc; tagged = λ i. absurd cc }
 
 -- ---- kinds
 
@@ -276,17 +291,17 @@ bare_pulse t _ e = absurd cc
 
 module _ (t : Typed) where
   pub given_provides : (f : Frame) (g : GivenMaker) (xs : List Argument) (k : Sort) (bits depth : ℕ) (w : Bits) → is_instance (shapes t) k ≡ true → given_makes (world t) f g xs k ≡ true
-      → bits ≡ wide t k → bits ≤ 128 → 1 ≤ depth → depth ≤ 64 → Provides t k (made.Primitive (made_part g) (kind_of g bits depth w))
-  given_provides f g xs (part p j) bits depth w is_made makes wide_is small deep not_too_deep =
+      → bits ≡ wide t k → 1 ≤ depth → depth ≤ 64 → Provides t k (made.Primitive (made_part g) (kind_of g bits depth w))
+  given_provides f g xs (part p j) bits depth w is_made makes wide_is deep not_too_deep =
       let same = bare_same p (made_part g) (both (same_part p (made_part g)) (arguments_right (world t) f xs (maker_params g j)) makes).0 in
       let r = part_range t p j is_made in
-      let some = subst (λ n. 1 ≤ n) (sym wide_is) r.some in
+      let range = subst Range (sym wide_is) r.range in
       let pulse : made_part g ≡ part_type.PulseWire → ⊥ = λ e. r.no_pulse (same ∙ e) in
       let tagged : made_part g ≡ part_type.RWire → bits ≤ 127 = λ e. subst (λ n. n ≤ 127) (sym wide_is) (r.tagged (same ∙ e)) in
-      let h = kind_right bits depth w some small deep not_too_deep g pulse tagged in
+      let h = kind_right bits depth w range.some range.most deep not_too_deep g pulse tagged in
       (same, subst (λ (q : PartTy). is_kind_of q (kind_of g bits depth w) ≡ true) (sym same) h.0, h.1 ∙ wide_is)
-  given_provides f g xs (bare p) bits depth w is_made makes wide_is small deep not_too_deep =
+  given_provides f g xs (bare p) bits depth w is_made makes wide_is deep not_too_deep =
       let same = bare_same p (made_part g) (both (same_part p (made_part g)) (arguments_right (world t) f xs []) makes).0 in
       let pulse = bare_pulse t p is_made in
       (same, subst (λ (q : PartTy). is_kind_of q (kind_of g bits depth w) ≡ true) (sym pulse) (pulse_right g bits depth w (sym same ∙ pulse)))
-  given_provides f g xs _ bits depth w is_made makes wide_is small deep not_too_deep = absurd cc
+  given_provides f g xs _ bits depth w is_made makes wide_is deep not_too_deep = absurd cc

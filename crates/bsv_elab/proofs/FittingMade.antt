@@ -34,7 +34,7 @@ use Rattle.bsv_elab.specs.declared.state.State.{State}
 use Rattle.bsv_elab.specs.Names.{Named, path_of, new_name}
 use Rattle.bsv_elab.specs.Statics.{Here, static_fault, put_at}
 use Rattle.bsv_elab.specs.MadeKinds.{kind_of}
-use Rattle.bsv_elab.specs.Making.{Bodies, instance, next_number, with_instance, with_primitive, named_instance, depth_of, at_least_one, start_of, most_depth, most_bits, few_bits, within_limits, primitive, is_around, unbuilt, parameters, params_of, inner, behind, child, made_by, arguments, make}
+use Rattle.bsv_elab.specs.Making.{Bodies, instance, next_number, with_instance, with_primitive, named_instance, depth_of, at_least_one, start_of, most_depth, within_limits, primitive, is_around, unbuilt, parameters, params_of, inner, behind, child, made_by, arguments, make}
 use Rattle.bsv_elab.proofs.FittingTrees.{Keeps, front_keeps, put_keeps, all_agree_kept, all_fit_kept, rules_kept, agrees_kept, Grew, grew_keeps}
 use Rattle.bsv_elab.proofs.FittingScopes.{wide}
 use Rattle.bsv_elab.proofs.FittingSteps.{went, ok_is, passed, not_passed, counted_is, Same}
@@ -59,10 +59,6 @@ home t number path around first = record {
 at_least_is : (r : Refused) (z : ℤ) (d : ℕ) → at_least_one r z ≡ Ok d → 1 ≤ d
 at_least_is r (pos n) d e = let h = passed (nat_lt 0 n) (Ok n) r d e in let lt = ltb-true 0 n h.0 in let same : n ≡ d = ok_is n d h.1 in omega arith
 at_least_is r (negsuc n) d e = absurd cc
-
-small_is : (r : Refused) (bits n : ℕ) → few_bits r bits ≡ Ok n → (n ≤ 128) × (bits ≡ n)
-unfolding most_bits
-small_is r bits n e = let h = passed (nat_le bits most_bits) (Ok bits) r n e in let same = ok_is bits n h.1 in (subst (λ k. k ≤ 128) same (leb-true bits 128 h.0), same)
 
 not_deep : (d : ℕ) → nat_le d most_depth ≡ true → d ≤ 64
 unfolding most_depth
@@ -177,17 +173,15 @@ module _ (t : Typed) where
         → given_makes (world t) f g xs k ≡ true → bits ≡ wide t k → primitive here bits name g ys s ≡ Ok q → Makes s k q
     unfolding primitive
     primitive_makes s bits name g ys xs k q h made_there typed is_wide e =
-        let v = went (few_bits (static_fault here) bits) _ q e in
-        let small = small_is (static_fault here) bits v.0 v.1 in
-        let d = went (at_least_one (static_fault here) (depth_of g ys)) _ q v.2 in
+        let d = went (at_least_one (static_fault here) (depth_of g ys)) _ q e in
         let n = went (named_instance here name s) _ q d.2 in
         let l = went (within_limits d.0 n.0.1.grown) _ q n.2 in
         let names = named_same here name s n.0 n.1 in
         let within = within_is d.0 n.0.1.grown l.0 l.1 in
-        let what = made.Primitive (made_part g) (kind_of g v.0 d.0 (start_of ys)) in
-        let provides = given_provides t f g xs k v.0 d.0 (start_of ys) made_there typed (sym small.1 ∙ is_wide) small.0 (at_least_is (static_fault here) (depth_of g ys) d.0 d.1) within.shallow in
+        let what = made.Primitive (made_part g) (kind_of g bits d.0 (start_of ys)) in
+        let provides = given_provides t f g xs k bits d.0 (start_of ys) made_there typed is_wide (at_least_is (static_fault here) (depth_of g ys) d.0 d.1) within.shallow in
         let last : length s.grown.instances ≡ l.0 = subst (λ (z : State). length z.grown.instances ≡ l.0) names.1 within.last in
-        let at = primitive_at s k names.0 n.0.0 (made_part g) (kind_of g v.0 d.0 (start_of ys)) h provides in
+        let at = primitive_at s k names.0 n.0.0 (made_part g) (kind_of g bits d.0 (start_of ys)) h provides in
         let numbered = subst (λ (i : ℕ). Makes s k (i, record { grown = with_primitive (instance n.0.0 what) s.grown; scope = (with_names names.0 s).scope })) last at in
         subst (Makes s k) (ok_is (l.0, record { grown = with_primitive (instance n.0.0 what) n.0.1.grown; scope = n.0.1.scope }) q l.2)
         (subst (λ (z : State). Makes s k (l.0, record { grown = with_primitive (instance n.0.0 what) z.grown; scope = z.scope })) (sym names.1) numbered)

@@ -53,3 +53,9 @@ pub mod PlacedCounts
 pub mod PlacedMarks
 pub mod PlacedWhole
 pub mod TreesRight
+pub mod Finished
+pub mod Nodes
+pub mod Repeats
+pub mod Sizes
+pub mod Turns
+pub mod Sampled

@@ -29,7 +29,7 @@ use Rattle.bsv_elab.specs.Names.{Named, path_of, new_name}
 use Rattle.bsv_elab.specs.Statics.{Here, static_fault, countable, put_at}
 use Rattle.bsv_elab.specs.MadeKinds.{kind_of}
 use Rattle.bsv_elab.specs.Attributes.{no_marks}
-use Rattle.bsv_elab.specs.Making.{instance, next_number, with_instance, with_primitive, named_instance, depth_of, few_bits, at_least_one, start_of, within_limits, primitive, Bodies, is_around, unbuilt, parameters, params_of, inner, behind, child, made_by, make, arguments}
+use Rattle.bsv_elab.specs.Making.{instance, next_number, with_instance, with_primitive, named_instance, depth_of, at_least_one, start_of, within_limits, primitive, Bodies, is_around, unbuilt, parameters, params_of, inner, behind, child, made_by, make, arguments}
 use Rattle.bsv_elab.proofs.NamedPaths.{AreLower, lower_both, path_is}
 use Rattle.bsv_elab.proofs.NamedLists.{ok_is, through, passed, free, longer_none}
 use Rattle.bsv_elab.proofs.NamedTaken.{takes_longer, takes_taken, NewName, new_name_is}
@@ -140,12 +140,11 @@ module _ (ms : List Module) (here : Here) (base : List (List ℕ)) where
       → AreLower base → is_lower name ≡ true → primitive here bits name g xs s ≡ Ok r → One s r
   unfolding primitive
   primitive_made bits name g xs s r path lower low e =
-      let f = through (few_bits (static_fault here) bits) _ r e in
-      let d = through (at_least_one (static_fault here) (depth_of g xs)) _ r f.2 in
+      let d = through (at_least_one (static_fault here) (depth_of g xs)) _ r e in
       let n = through (named_instance here name s) _ r d.2 in
       let k = through (within_limits d.0 n.0.1.grown) _ r n.2 in
       let found = named_instance_is here name s n.0 n.1 in
-      let m = made.Primitive (made_part g) (kind_of g f.0 d.0 (start_of xs)) in
+      let m = made.Primitive (made_part g) (kind_of g bits d.0 (start_of xs)) in
       let one = primitive_one s name found.0 k.0 m path lower low (λ b is. cc) refl (λ p. refl) found.1 in
       subst (One s) {x = primitive_result k.0 m n.0} (ok_is (primitive_result k.0 m n.0) r k.2)
       (subst (λ z. One s (primitive_result k.0 m z)) found.2 one)

@@ -18,7 +18,7 @@ use Rattle.bsv_elab.specs.declared.refused.Refused.TheVariants as refused
 use Rattle.bsv_elab.specs.declared.state.State.{State}
 use Rattle.bsv_elab.specs.Statics.{Here, Builds, static_fault, constant_in, number_in, truth_in, held, held_as, bind, assign, inside}
 use Rattle.bsv_elab.specs.Making.{Bodies, make}
-use Rattle.bsv_elab.specs.Bodies.{most_turns, length_of, no_places, places, name_of, or_one, index_in, set_place, run, one_instance, array, place_from, one_place, declare, set, Branched, chain, turn, turns, looped}
+use Rattle.bsv_elab.specs.Bodies.{most_turns, length_of, no_places, places, name_of, or_one, index_in, set_place, run, one_instance, array, place_from, one_place, declare, set, Branched, chain, turn, turns, first_and_turns, looped}
 use Rattle.bsv_elab.proofs.NamedPaths.{AreLower}
 use Rattle.bsv_elab.proofs.NamedLists.{ok_is, through, passed, chosen}
 use Rattle.bsv_elab.proofs.NamedMakes.{Lows, Ran, Good, ran_none, ran_both}
@@ -96,10 +96,7 @@ module _ (ms : List Module) (bodies : Bodies) (here : Here) (base : List (List �
       ran_behind ms here base s t.0.1 z still (ran_both ms here base t.0.1 r.0 z next (turns_good n h a good r.0 z next.lows r.2)))
       (λ f. subst (Ran ms here base s) (ok_is t.0.1 z f) first) t.2
 
-  abbrev begun_loop : Head → Builds → Builds
-  begun_loop h a s = constant_in here h.first s >>= λ r. turns bodies here most_turns h a (bind h.variable (held r.0) 0 r.1)
-
-  begun_good : (h : Head) (a : Builds) → is_lower h.variable ≡ true → Good ms here base a → Good ms here base (begun_loop h a)
+  begun_good : (h : Head) (a : Builds) → is_lower h.variable ≡ true → Good ms here base a → Good ms here base (first_and_turns bodies here h a)
   begun_good h a low good s z lows e =
       let r = through (constant_in here h.first s) _ z e in
       let first = still_ran ms here base s r.0.1 lows (constant_still here h.first s r.0 r.1) in
@@ -109,7 +106,7 @@ module _ (ms : List Module) (bodies : Bodies) (here : Here) (base : List (List �
 
   pub looped_good : (h : Head) (a : Builds) → is_lower h.variable ≡ true → Good ms here base a → Good ms here base (looped bodies here h a)
   unfolding looped
-  looped_good h a low good s z lows e = inside_good ms here base (begun_loop h a) (begun_good h a low good) s z lows e
+  looped_good h a low good s z lows e = inside_good ms here base (first_and_turns bodies here h a) (begun_good h a low good) s z lows e
 
 -- ---- what is made or declared
 

@@ -77,17 +77,21 @@ module _ (bodies : Bodies) (here : Here) where
   unfoldable pub one_instance : ℕ → List ℕ → Make → Builds
   one_instance width name m s = make bodies here width name m s >>= λ r. Ok (bind name (static.Place r.0) 0 r.1)
 
+  abbrev pub array_of : ℕ → List ℕ → ℤ → Builds
+  array_of width name length s = length_of (static_fault here) length >>= λ n. Ok (bind name (no_places n) width s)
+
   -- `T r[n]`
   unfoldable pub array : ℕ → List ℕ → Expr → Builds
-  array width name e s =
-      number_in here e s >>= λ r. length_of (static_fault here) r.0 >>= λ n. Ok (bind name (no_places n) width r.1)
+  array width name e s = number_in here e s >>= λ r. array_of width name r.0 r.1
+
+  abbrev pub placed_from : ℕ → ℕ → List ℕ → ℕ → Make → Builds
+  placed_from level width name at m s = make bodies here width name m s >>= λ r. Ok (set_place level at r.0 r.1)
 
   -- `r[i] <- make`: the instance has the name of the array
   abbrev pub place_from : ℕ → ℤ → Make → Builds
   place_from level index m s =
       index_in (static_fault here) (places (slice_get s.scope.bindings level)) index >>= λ at.
-      make bodies here (or_one (slice_get s.scope.widths level)) (name_of (slice_get s.scope.bindings level)) m s >>= λ r.
-      Ok (set_place level at r.0 r.1)
+      placed_from level (or_one (slice_get s.scope.widths level)) (name_of (slice_get s.scope.bindings level)) at m s
 
   unfoldable pub one_place : ℕ → Expr → Make → Builds
   one_place level e m s = number_in here e s >>= λ r. place_from level r.0 m r.1
@@ -122,8 +126,12 @@ module _ (bodies : Bodies) (here : Here) where
   turns (suc n) h a s =
       truth_in here h.condition s >>= λ t. if t.0 then (turn h a t.1 >>= turns n h a) else Ok t.1
 
+  -- the variable of the loop, and its turns
+  abbrev pub first_and_turns : Head → Builds → Builds
+  first_and_turns h a s = constant_in here h.first s >>= λ r. turns most_turns h a (bind h.variable (held r.0) 0 r.1)
+
   unfoldable pub looped : Head → Builds → Builds
-  looped h a = inside (λ s. constant_in here h.first s >>= λ r. turns most_turns h a (bind h.variable (held r.0) 0 r.1))
+  looped h a s = inside (first_and_turns h a) s
 
   abbrev pub stmt_case : ModuleStmt-F Builds Branched → Builds
   stmt_case (ModuleStmt-F.Instance t name m) s = one_instance (width_in here (kind t)) name m s

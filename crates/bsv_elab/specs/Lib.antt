@@ -8,3 +8,6 @@ pub mod Elements
 pub mod Bodies
 pub mod Building
 pub mod Rightness
+pub mod Told
+pub mod AtHand
+pub mod Samples

@@ -120,14 +120,7 @@ within_limits depth g =
     (if nat_lt g.primitives most_primitives then next_number g else Err (refused.Limit limit.Instances most_primitives))
     else Err (refused.Limit limit.Depth most_depth)
 
--- the most bits that a value has: in a typed design none has more, so that they never reach this limit
-unfoldable pub most_bits : ℕ
-most_bits = 128
-
-abbrev pub few_bits : Refused → ℕ → Result ℕ Refused
-few_bits r bits = if nat_le bits most_bits then Ok bits else Err r
-
--- of a width and a depth that there are
+-- of a depth that there is
 abbrev pub sized_primitive : Here → ℕ → ℕ → List ℕ → GivenMaker → List Static → State → Result (ℕ × State) Refused
 sized_primitive here bits depth name g xs s =
     named_instance here name s >>= λ n.
@@ -140,13 +133,9 @@ sized_primitive here bits depth name g xs s =
       },
     )
 
-abbrev pub wide_primitive : Here → ℕ → List ℕ → GivenMaker → List Static → State → Result (ℕ × State) Refused
-wide_primitive here bits name g xs s =
-    at_least_one (static_fault here) (depth_of g xs) >>= λ depth. sized_primitive here bits depth name g xs s
-
 unfoldable pub primitive : Here → ℕ → List ℕ → GivenMaker → List Static → State → Result (ℕ × State) Refused
 primitive here bits name g xs s =
-    few_bits (static_fault here) bits >>= λ bits. wide_primitive here bits name g xs s
+    at_least_one (static_fault here) (depth_of g xs) >>= λ depth. sized_primitive here bits depth name g xs s
 
 -- ---- modules
 
@@ -179,14 +168,20 @@ behind number i g inside scope = record {
   scope = record scope { marks = both scope.marks inside };
 }
 
+-- of a path and a number
+abbrev pub numbered_child : Bodies → Here → List ℕ → ℕ → List Static → ℕ → State → Result (ℕ × State) Refused
+numbered_child bodies here path k xs number s =
+    bodies (inner here k path) (parameters (params_of (slice_get here.modules k)) xs) (with_instance (instance path (unbuilt k)) s.grown) >>= λ d.
+    Ok (number, behind number (instance path (made.Module d.built)) d.grown d.marks s.scope)
+
+abbrev pub named_child : Bodies → Here → List ℕ → ℕ → List Static → State → Result (ℕ × State) Refused
+named_child bodies here path k xs s = next_number s.grown >>= λ number. numbered_child bodies here path k xs number s
+
 -- no module is made inside itself
 unfoldable pub child : Bodies → Here → List ℕ → ℕ → List Static → State → Result (ℕ × State) Refused
 child bodies here name k xs s =
     if is_around k here.around then Err (refused.Recursion k) else
-    (named_instance here name s >>= λ n. next_number n.1.grown >>= λ number.
-    bodies (inner here k n.0) (parameters (params_of (slice_get here.modules k)) xs)
-    (with_instance (instance n.0 (unbuilt k)) n.1.grown) >>= λ d.
-    Ok (number, behind number (instance n.0 (made.Module d.built)) d.grown d.marks n.1.scope))
+    (named_instance here name s >>= λ n. named_child bodies here n.0 k xs n.1)
 
 -- ---- both
 

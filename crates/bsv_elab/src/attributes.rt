@@ -1,4 +1,4 @@
-ghost use Rattle.std.specs.Prelude.{◌≡◌, IfOk, slice_get};
+ghost use Rattle.std.specs.Prelude.{◌≡◌, IfOk, OnOk, slice_get};
 ghost use Rattle.bsv_fail.specs.Given.{Gives};
 ghost use Rattle.bsv_elab.specs.Attributes as spec;
 
@@ -12,13 +12,23 @@ use sqlite_items::Items;
 use std::alloc::{AllocError, Global};
 
 /// Nothing is asked for.
-fn no_marks(alloc: Global) -> Marks
+pub(crate) fn no_marks(alloc: Global) -> Marks
     ensures { result ≡ spec.no_marks }
 {
     Marks {
         pairs: Items::new(alloc),
         asserts: Items::new(alloc),
     }
+}
+
+/// What these ask for, and then the others.
+pub(crate) fn add_marks(marks: &mut Marks, others: Marks) -> Result<(), AllocError>
+    ensures { OnOk result (marks.new ≡ spec.both marks.old others) }
+{
+    let Marks { pairs, asserts } = others;
+    marks.pairs.append(pairs)?;
+    marks.asserts.append(asserts)?;
+    Ok(())
 }
 
 /// The position of the rule of the name.
@@ -236,7 +246,7 @@ fn marked_rules(
 
 /// What the attributes of a module and of its rules ask for.
 #[tactic(auto, unfolding(crate::specs::Attributes::marks_of))]
-pub fn marks_of(alloc: Global, module: &Module, rules: &[BuiltRule]) -> Building<Marks>
+pub(crate) fn marks_of(alloc: Global, module: &Module, rules: &[BuiltRule]) -> Building<Marks>
     ensures { Gives result (spec.marks_of «module».now rules.now) }
 {
     let own = module.attributes.as_slice();

@@ -104,7 +104,7 @@ fn bypass(width: u32) -> Kind
 }
 
 /// The kind that the maker makes, by the width of what it holds, its depth, and its start or default.
-pub fn kind_of(maker: GivenMaker, width: u32, depth: u64, start: Word) -> Kind
+pub(crate) fn kind_of(maker: GivenMaker, width: u32, depth: u64, start: Word) -> Kind
     ensures { result ≡ spec.kind_of maker width depth start }
 {
     match maker {
@@ -129,7 +129,7 @@ pub fn kind_of(maker: GivenMaker, width: u32, depth: u64, start: Word) -> Kind
 }
 
 /// The interface of what the maker makes.
-pub fn part_of(maker: GivenMaker) -> PartTy
+pub(crate) fn part_of(maker: GivenMaker) -> PartTy
     ensures { result ≡ made_part maker }
 {
     match maker {

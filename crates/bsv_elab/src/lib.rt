@@ -1,24 +1,32 @@
-//! Building: what the tree of a typed design is, and what holds of every one. The definition stands in `specs/`,
-//! where `Building.antt` is its whole, and `Rightness.antt` says what is promised of trees. The call that
-//! builds by it is not here yet; what it will use is: names, kinds and attributes.
+//! Building: a typed design becomes its tree of instances, or is refused.
 //!
 //! Modules in reading order: `refused` (what refuses), `state` (the tree and a module's body so far), `names` (of
-//! instances, rules and methods), `kinds` (what makers make), `attributes` (what they ask for), `law` (what holds
-//! of all trees).
+//! instances, rules and methods), `builder` (what each call has at hand), `values` (of expressions in a module's
+//! body), `variables` (of it), `attributes`, `kinds` (what makers make), `elements` (rules and methods where they
+//! stand), `making` (of instances), `places` (of arrays), `bodies` (the statements of a module), `fault` (what is
+//! told), `law` (what holds of all trees), `whole` (the whole). The definition stands in `specs/`, where
+//! `Building.antt` is its whole, and `Rightness.antt` says what is promised of trees.
 #![tactic(auto)]
 
 mod attributes;
+mod bodies;
+mod builder;
+mod elements;
+mod fault;
 mod kinds;
 mod law;
+mod making;
 mod names;
+mod places;
 mod refused;
 mod state;
 #[cfg(test)]
 mod tests;
+mod values;
+mod variables;
+mod whole;
 
-pub use attributes::marks_of;
-pub use kinds::{kind_of, part_of};
+pub use fault::ElabFault;
 pub use law::trees_are_right;
-pub use names::Names;
-pub use refused::{Building, LimitKind, Refused};
-pub use state::{Done, Grown, Marks, Scope, State};
+pub use refused::LimitKind;
+pub use whole::build;

@@ -46,7 +46,7 @@ fn with_number(alloc: Global, name: &[u8], number: u32) -> Result<Name, OutOfMem
 }
 
 /// The path of what has the name in the instance of a path.
-fn path_of(alloc: Global, path: &[u8], name: &[u8]) -> Result<Name, OutOfMemory>
+pub(crate) fn path_of(alloc: Global, path: &[u8], name: &[u8]) -> Result<Name, OutOfMemory>
     ensures { IfOk result (λ whole. whole ≡ spec.path_of path.now name.now) }
 {
     if path.is_empty() {
@@ -60,7 +60,7 @@ fn path_of(alloc: Global, path: &[u8], name: &[u8]) -> Result<Name, OutOfMemory>
 
 impl Names {
     /// No names.
-    pub fn new(alloc: Global) -> Names
+    pub(crate) fn new(alloc: Global) -> Names
         ensures { result ≡ spec.no_names }
     {
         Names {
@@ -104,7 +104,7 @@ impl Names {
 
     /// Takes a name, which has to be free.
     #[tactic(auto, unfolding(crate::specs::Names::take_name))]
-    pub fn take(&mut self, alloc: Global, path: &[u8], name: &[u8]) -> Building<()>
+    pub(crate) fn take(&mut self, alloc: Global, path: &[u8], name: &[u8]) -> Building<()>
         ensures { Becomes result self.new (spec.take_name path.now name.now self.old) }
     {
         let key = Name::new(alloc, name)?;
@@ -117,7 +117,7 @@ impl Names {
 
     /// Takes the next name of those that are made with one name.
     #[tactic(auto, unfolding(crate::specs::Names::new_name))]
-    pub fn next(&mut self, alloc: Global, path: &[u8], name: &[u8]) -> Building<Name>
+    pub(crate) fn next(&mut self, alloc: Global, path: &[u8], name: &[u8]) -> Building<Name>
         ensures { GivesInto result self.new (spec.new_name path.now name.now self.old) }
     {
         let own = self.numbered(alloc, name)?;

@@ -1,3 +1,6 @@
+ghost use Rattle.std.specs.Prelude.{◌≡◌};
+ghost use Rattle.bsv_elab.specs.AtHand as spec;
+
 use bsv_bits::Name;
 use bsv_design::{Attribute, Fault};
 use bsv_fail::Fail;
@@ -31,4 +34,14 @@ pub enum Refused {
 }
 
 /// Something, or the first refusal.
-pub type Building<A> = Result<A, Fail<Refused>>;
+pub(crate) type Building<A> = Result<A, Fail<Refused>>;
+
+/// What carrying out meets, as building meets it.
+pub(crate) fn from_carry(fail: Fail<Fault>) -> Fail<Refused>
+    ensures { result ≡ spec.from_carry fail }
+{
+    match fail {
+        Fail::Memory => Fail::Memory,
+        Fail::Fault(fault) => Fail::Fault(Refused::Carried(fault)),
+    }
+}

@@ -1,13 +1,14 @@
 ghost use Rattle.std.specs.Prelude.{◌≡◌, [], ◌∷◌, IfOk};
 ghost use Rattle.bsv_types.specs.Samples.{two_bits};
+ghost use Rattle.bsv_elab.specs.Samples.{empty_module};
 
-use crate::{Names, kind_of, marks_of, part_of, trees_are_right};
+use crate::{build, trees_are_right};
 use bsv_bits::{Name, Word};
 use bsv_carry::{Site, front, no_steps, no_variables, tick};
-use bsv_design::{Atom, Attribute, Binding, BuiltRule, Constant, Count, Kind, Pair, Static, Value};
+use bsv_design::{Atom, Binding, Constant, Count, Static, Value};
 use bsv_types::{
-    Attribute as Asked, Body, Enum, Expr, Field, Function, GivenMaker, Interface, Method,
-    MethodResult, Methods, Module, Op, Param, PartTy, Place, Stmt, Struct, Ty, Typed,
+    Body, Enum, Expr, Field, Function, Interface, Method, MethodResult, Methods, Module, Op, Param,
+    Place, Stmt, Struct, Ty, Typed,
 };
 use sqlite_items::Items;
 use std::alloc::Global;
@@ -173,42 +174,14 @@ fn the_front_of_a_list(rt: HostRuntime) -> Result<(), Fail> {
     Ok(())
 }
 
-#[test]
-fn the_second_of_a_name_has_a_number(rt: HostRuntime) -> Result<(), Fail> {
-    let alloc = rt.alloc();
-    trees_are_right();
-    let mut names = Names::new(alloc);
-    for wanted in [b"x".as_slice(), b"x_1".as_slice(), b"x_2".as_slice()] {
-        match names.next(alloc, b"c", b"x") {
-            Ok(name) => assert_eq!(rt; name.bytes(), wanted),
-            Err(_) => assert!(rt; false),
-        }
-    }
-    assert!(rt; names.take(alloc, b"c", b"y").is_ok());
-    assert!(rt; names.take(alloc, b"c", b"x_1").is_err());
-    Ok(())
-}
-
-#[test]
-fn a_queue_of_one_place(rt: HostRuntime) -> Result<(), Fail> {
-    assert_eq!(rt; part_of(GivenMaker::Fifo1), PartTy::Fifo);
-    match kind_of(GivenMaker::Fifo1, 8, 1, Word::bit(false)) {
-        Kind::Plain(kind) => assert_eq!(rt; (kind.width, kind.depth), (8, 1)),
-        _ => assert!(rt; false),
-    }
-    Ok(())
-}
-
-/// `(* descending_urgency = "a, b" *) module mkT(Empty);`
-fn with_a_list(alloc: Global) -> Result<Module, Fail> {
-    let mut names = Items::new(alloc);
-    names.push(Name::new(alloc, b"a")?)?;
-    names.push(Name::new(alloc, b"b")?)?;
-    let mut attributes = Items::new(alloc);
-    attributes.push(Asked::DescendingUrgency(names))?;
+/// `module mkT(Empty); endmodule`
+#[tactic(auto, unfolding(crate::specs::Samples::empty_module))]
+fn no_statements(alloc: Global) -> Result<Module, Fail>
+    ensures { IfOk result (λ m. m ≡ empty_module) }
+{
     Ok(Module {
         name: Name::new(alloc, b"mkT")?,
-        attributes,
+        attributes: Items::new(alloc),
         params: Items::new(alloc),
         interface: Ty::Interface(0),
         rules: Items::new(alloc),
@@ -217,35 +190,42 @@ fn with_a_list(alloc: Global) -> Result<Module, Fail> {
     })
 }
 
-/// A rule of this name at a position.
-fn rule_at(alloc: Global, name: &[u8], position: u32) -> Result<BuiltRule, Fail> {
-    Ok(BuiltRule {
-        name: Name::new(alloc, name)?,
-        rule: 0,
-        position,
-        bindings: Items::new(alloc),
-    })
+/// A program of one module.
+fn program_of_one(alloc: Global) -> Result<Typed, Fail> {
+    let enums: Items<Enum> = Items::new(alloc);
+    let structs: Items<Struct> = Items::new(alloc);
+    let mut interfaces = Items::new(alloc);
+    interfaces.push(Interface {
+        name: Name::new(alloc, b"Empty")?,
+        methods: Methods::new(alloc, Items::new(alloc))?,
+    })?;
+    let functions: Items<Function> = Items::new(alloc);
+    let mut modules = Items::new(alloc);
+    modules.push(no_statements(alloc)?)?;
+    Ok(Typed::new(enums, structs, interfaces, functions, modules))
 }
 
 #[test]
-fn a_list_pairs_its_rules(rt: HostRuntime) -> Result<(), Fail> {
+fn a_module_without_statements_is_built(rt: HostRuntime) -> Result<(), Fail> {
     let alloc = rt.alloc();
-    let module = with_a_list(alloc)?;
-    let mut rules = Items::new(alloc);
-    rules.push(rule_at(alloc, b"b", 3)?)?;
-    assert!(rt; marks_of(alloc, &module, rules.as_slice()).is_err());
-    rules.push(rule_at(alloc, b"a", 4)?)?;
-    match marks_of(alloc, &module, rules.as_slice()) {
-        Ok(marks) => {
-            let wanted = Pair {
-                attribute: Attribute::DescendingUrgency,
-                before: 4,
-                after: 3,
-            };
-            assert_eq!(rt; marks.pairs.as_slice(), [wanted].as_slice());
-            assert_eq!(rt; marks.asserts.len(), 0);
+    let top = Name::new(alloc, b"mkT")?;
+    trees_are_right();
+    match build(alloc, program_of_one(alloc)?, &top) {
+        Ok(tree) => {
+            assert_eq!(rt; tree.top, 0);
+            assert_eq!(rt; tree.instances.len(), 1);
+            assert_eq!(rt; tree.weight, 0);
         }
         Err(_) => assert!(rt; false),
     }
+    Ok(())
+}
+
+#[test]
+fn no_module_has_the_name(rt: HostRuntime) -> Result<(), Fail> {
+    let alloc = rt.alloc();
+    let top = Name::new(alloc, b"mkU")?;
+    let built = build(alloc, program_of_one(alloc)?, &top);
+    assert!(rt; built.is_err());
     Ok(())
 }

@@ -4,8 +4,10 @@ pub mod OneRefusal
 pub mod Outcomes
 pub mod Parsed
 pub mod Placed
+pub mod Programs
 pub mod Queued
 pub mod Sourced
 pub mod Steps
 pub mod Told
+pub mod Trees
 pub mod Yielded

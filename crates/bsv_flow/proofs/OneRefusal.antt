@@ -19,7 +19,7 @@ use Rattle.bsv_flow.specs.declared.refusal.Refusal.TheVariants as refusal
 use Rattle.bsv_flow.specs.Loads.{Reaches, Refuses}
 use Rattle.bsv_flow.specs.OneAnswer.{IsSameRefusal}
 use Rattle.bsv_flow.specs.Positions.{line, column}
-use Rattle.bsv_flow.specs.Typings.{typing_of, IsTyped, Rejects}
+use Rattle.bsv_flow.specs.Typings.{typing_of, IsTyped, IsUntyped}
 use Rattle.bsv_flow.specs.Yields.{Yields, most_bytes}
 use Rattle.bsv_flow.proofs.Decided as loading
 use Rattle.bsv_flow.proofs.Decided.{Same, Passes, once, same_file, passes_before, too_many}
@@ -153,10 +153,10 @@ module _ (first : List ℕ) (contents : List ℕ → List ℕ) where
   typed_refusal : (r s : Refusal) → ◌≡◌ {A = Result Made Refusal} (Err r) (Err s) → r ≡ s
   typed_refusal r s e = cc
 
-  pub of_typing : (r s : Refusal) → Rejects first contents r → Rejects first contents s → IsSameRefusal r s
-  of_typing r s (Rejects.loading one) (Rejects.loading other) = of_loading r s one other
-  of_typing r s (Rejects.loading one) (Rejects.typing m loaded refused) = absurd (loading.apart first contents m r loaded one)
-  of_typing r s (Rejects.typing l loaded refused) (Rejects.loading other) = absurd (loading.apart first contents l s loaded other)
-  of_typing r s (Rejects.typing l loaded refused) (Rejects.typing m also too) =
+  pub of_typing : (r s : Refusal) → IsUntyped first contents r → IsUntyped first contents s → IsSameRefusal r s
+  of_typing r s (IsUntyped.loading one) (IsUntyped.loading other) = of_loading r s one other
+  of_typing r s (IsUntyped.loading one) (IsUntyped.typing m loaded refused) = absurd (loading.apart first contents m r loaded one)
+  of_typing r s (IsUntyped.typing l loaded refused) (IsUntyped.loading other) = absurd (loading.apart first contents l s loaded other)
+  of_typing r s (IsUntyped.typing l loaded refused) (IsUntyped.typing m also too) =
       let same : l ≡ m = loading.same first contents l m loaded also in
       same_refusal r s (typed_refusal r s (sym refused ∙ ap typing_of same ∙ too))

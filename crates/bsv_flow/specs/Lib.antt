@@ -1,3 +1,4 @@
+pub mod Buildings
 pub mod Loads
 pub mod OneAnswer
 pub mod Positions

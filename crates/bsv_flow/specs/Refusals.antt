@@ -7,8 +7,15 @@ use Rattle.bsv_flow.specs.declared.refusal.Refusal.TheVariants as refusal
 abbrev pub place_text : List ℕ → ℕ → ℕ → List ℕ
 place_text file line column = file ++ codes ":" ++ decimal line ++ codes ":" ++ decimal column ++ codes "\n"
 
+-- a name and the end of the line
+abbrev pub name_text : List ℕ → List ℕ
+name_text name = name ++ codes "\n"
+
 abbrev pub limit_text : List ℕ → ℕ → List ℕ
 limit_text kind number = codes "refused 17 Limit " ++ (kind ++ (codes " " ++ (decimal number ++ codes "\n")))
+
+abbrev pub rule_text : List ℕ → List ℕ → List ℕ
+rule_text attribute name = codes "refused 26 NoSuchRule " ++ (attribute ++ (codes " " ++ (name ++ codes "\n")))
 
 -- the line of a refusal, with the LF at its end
 unfoldable pub refusal_line : Refusal → List ℕ
@@ -23,4 +30,10 @@ refusal_line (refusal.TwiceDefined file line column) = codes "refused 8 TwiceDef
 refusal_line (refusal.TypeFault file line column) = codes "refused 9 TypeFault " ++ place_text file line column
 refusal_line (refusal.WidthFault file line column) = codes "refused 10 WidthFault " ++ place_text file line column
 refusal_line (refusal.BadAttribute file line column) = codes "refused 11 BadAttribute " ++ place_text file line column
+refusal_line (refusal.NoSuchModule name) = codes "refused 12 NoSuchModule " ++ name_text name
+refusal_line (refusal.StaticFault name) = codes "refused 13 StaticFault " ++ name_text name
+refusal_line (refusal.Loop name) = codes "refused 14 Loop " ++ name_text name
+refusal_line (refusal.Recursion name) = codes "refused 15 Recursion " ++ name_text name
+refusal_line (refusal.NameTaken path) = codes "refused 16 NameTaken " ++ name_text path
 refusal_line (refusal.Limit kind number) = limit_text kind number
+refusal_line (refusal.NoSuchRule attribute name) = rule_text attribute name

@@ -59,7 +59,7 @@ pub record IsTyped (first : List ℕ) (contents : List ℕ → List ℕ) (l : Lo
   pub made : Made
   pub typed : typing_of l ≡ Ok made
 
--- the first refusal of a design: in loading, or behind it in typing
-pub data Rejects (first : List ℕ) (contents : List ℕ → List ℕ) (r : Refusal) : Type 0 where
-  loading : Refuses first contents r → Rejects first contents r
-  typing : (l : Loaded) → IsLoaded first contents l → typing_of l ≡ Err r → Rejects first contents r
+-- nothing is typed: the first refusal, in loading or behind it in typing
+pub data IsUntyped (first : List ℕ) (contents : List ℕ → List ℕ) (r : Refusal) : Type 0 where
+  loading : Refuses first contents r → IsUntyped first contents r
+  typing : (l : Loaded) → IsLoaded first contents l → typing_of l ≡ Err r → IsUntyped first contents r

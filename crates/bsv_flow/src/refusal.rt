@@ -1,7 +1,7 @@
 ghost use Rattle.std.specs.Prelude.{◌≡◌, ◌≤◌, ◌++◌, OnOk, OnErr};
 ghost use Rattle.bsv_io.specs.Faults.{MayFault};
 ghost use Rattle.bsv_io.specs.Writing.{appended, AppendsPrefix};
-ghost use Rattle.bsv_flow.specs.Refusals.{limit_text, place_text, refusal_line};
+ghost use Rattle.bsv_flow.specs.Refusals.{limit_text, name_text, place_text, refusal_line, rule_text};
 ghost use Rattle.bsv_flow.specs.declared.refusal.CompileFault.TheVariants as fault;
 
 use bsv_bits::{Name, OutOfMemory};
@@ -9,8 +9,8 @@ use bsv_io::{Failed, Sink, put_all};
 use itoa::Buffer;
 use std::alloc::{AllocError, AllocFailed};
 
-/// Why a design is refused. Of all but the last the fields are the file, the line and the column of
-/// the place, counted from 1 in bytes.
+/// Why a design is refused. Where a place is told, the fields are its file, its line and its column,
+/// counted from 1 in bytes.
 #[derive(Debug, Drop)]
 pub enum Refusal {
     /// A byte begins no token.
@@ -35,8 +35,20 @@ pub enum Refusal {
     WidthFault(Name, u64, u64),
     /// An attribute is malformed.
     BadAttribute(Name, u64, u64),
+    /// No module has the name of the top and no parameters.
+    NoSuchModule(Name),
+    /// In this module something is not static that has to be, or a static value leaves its range.
+    StaticFault(Name),
+    /// In this module a loop begins a turn after its 4,096th.
+    Loop(Name),
+    /// This module is made inside itself.
+    Recursion(Name),
+    /// An instance, a rule or a method gets a path that is there already.
+    NameTaken(Name),
     /// A count passes its limit: what is counted, and the limit.
     Limit(Name, u64),
+    /// An attribute names no rule of its module: the attribute, and the name.
+    NoSuchRule(Name, Name),
 }
 
 /// Why a design was not compiled.
@@ -120,7 +132,13 @@ impl Refusal {
             Refusal::BadAttribute(file, line, column) => {
                 put_placed(sink, b"refused 11 BadAttribute ", file, *line, *column)
             }
+            Refusal::NoSuchModule(name) => put_named(sink, b"refused 12 NoSuchModule ", name),
+            Refusal::StaticFault(name) => put_named(sink, b"refused 13 StaticFault ", name),
+            Refusal::Loop(name) => put_named(sink, b"refused 14 Loop ", name),
+            Refusal::Recursion(name) => put_named(sink, b"refused 15 Recursion ", name),
+            Refusal::NameTaken(path) => put_named(sink, b"refused 16 NameTaken ", path),
             Refusal::Limit(kind, number) => put_limit(sink, kind, *number),
+            Refusal::NoSuchRule(attribute, name) => put_rule(sink, attribute, name),
         }
     }
 }
@@ -157,6 +175,19 @@ fn put_placed<S: Sink>(
     )
 }
 
+/// Puts a line that ends with a name.
+fn put_named<S: Sink>(sink: &mut S, front: &[u8], name: &Name) -> Result<(), Failed>
+    ensures ok { OnOk result (S.writing sink.new
+        ≡ appended (front.now ++ name_text name.now) (S.writing sink.old)) }
+    ensures prefix { AppendsPrefix (front.now ++ name_text name.now) (S.writing sink.old)
+        (S.writing sink.new) }
+    ensures count { (S.writing sink.old).faults ≤ (S.writing sink.new).faults }
+    ensures counted { OnErr result (MayFault (S.writing sink.old).faults
+        (S.writing sink.new).faults) }
+{
+    put_all(sink, &[front, name.bytes(), b"\n"])
+}
+
 /// Puts the line of a limit that is passed.
 fn put_limit<S: Sink>(sink: &mut S, kind: &Name, number: u64) -> Result<(), Failed>
     ensures ok { OnOk result (S.writing sink.new
@@ -172,5 +203,27 @@ fn put_limit<S: Sink>(sink: &mut S, kind: &Name, number: u64) -> Result<(), Fail
     put_all(
         sink,
         &[b"refused 17 Limit ", kind.bytes(), b" ", digits, b"\n"],
+    )
+}
+
+/// Puts the line of an attribute that names no rule.
+fn put_rule<S: Sink>(sink: &mut S, attribute: &Name, name: &Name) -> Result<(), Failed>
+    ensures ok { OnOk result (S.writing sink.new
+        ≡ appended (rule_text attribute.now name.now) (S.writing sink.old)) }
+    ensures prefix { AppendsPrefix (rule_text attribute.now name.now) (S.writing sink.old)
+        (S.writing sink.new) }
+    ensures count { (S.writing sink.old).faults ≤ (S.writing sink.new).faults }
+    ensures counted { OnErr result (MayFault (S.writing sink.old).faults
+        (S.writing sink.new).faults) }
+{
+    put_all(
+        sink,
+        &[
+            b"refused 26 NoSuchRule ",
+            attribute.bytes(),
+            b" ",
+            name.bytes(),
+            b"\n",
+        ],
     )
 }

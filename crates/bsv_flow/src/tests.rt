@@ -1,5 +1,6 @@
-use crate::{CompileFault, Loaded, load, typed};
+use crate::{CompileFault, Loaded, load, tree, typed};
 use bsv_bits::{Name, OutOfMemory};
+use bsv_design::Tree;
 use bsv_io::{MemFiles, MemSink};
 use std::alloc::{AllocError, Global};
 use std::ops::Range;
@@ -276,6 +277,32 @@ fn packages_are_typed(rt: HostRuntime) -> Result<(), Fail> {
             Err(fault) => fault_text(alloc, &fault)?,
         };
         assert_eq!(rt; found.as_slice(), told, "{text:?}");
+    }
+    Ok(())
+}
+
+/// The tree of the greatest common divisor by the name of its top.
+fn built(alloc: Global, top: &str) -> Result<Tree, CompileFault> {
+    let mut source = files_of(alloc, &[(b"Gcd.bsv", GCD.as_bytes())], &[])?;
+    let loaded = load(alloc, &mut source, "Gcd.bsv")?;
+    tree(alloc, typed(alloc, &loaded)?, top)
+}
+
+/// How many instances a tree has, or why there is none.
+#[test]
+fn programs_are_built(rt: HostRuntime) -> Result<(), Fail> {
+    let alloc = rt.alloc();
+    let rows: [(&str, usize, &[u8]); 2] = [
+        ("mkGcd", 3, b""),
+        ("mkLcm", 0, b"refused 12 NoSuchModule mkLcm\n"),
+    ];
+    for (top, instances, told) in rows {
+        let (count, found) = match built(alloc, top) {
+            Ok(tree) => (tree.instances.len(), Vec::new(alloc)),
+            Err(fault) => (0, fault_text(alloc, &fault)?),
+        };
+        assert_eq!(rt; count, instances, "{top}");
+        assert_eq!(rt; found.as_slice(), told, "{top}");
     }
     Ok(())
 }

@@ -1,7 +1,7 @@
 ghost use Rattle.std.specs.Prelude.{◌≡◌, ◌⊎◌, ℕ, List, Some, Err, Ok, IfOk, option_map};
 ghost use Rattle.bsv_check.specs.Seen.{typed_seen};
 ghost use Rattle.bsv_flow.specs.OneAnswer.{IsSameRefusal};
-ghost use Rattle.bsv_flow.specs.Typings.{typing_of, file_of, line_of, column_of, source_of, placed, told, IsTyped, Rejects};
+ghost use Rattle.bsv_flow.specs.Typings.{typing_of, file_of, line_of, column_of, source_of, placed, told, IsTyped, IsUntyped};
 ghost use Rattle.bsv_flow.specs.declared.loading.Loaded.{Loaded as TheLoaded};
 ghost use Rattle.bsv_flow.specs.declared.refusal.CompileFault.TheVariants.{Refused, ReadFault};
 ghost use Rattle.bsv_flow.specs.declared.refusal.Refusal.{Refusal as TheRefusal};
@@ -99,13 +99,13 @@ pub fn one_typing()
     ensures same { (first : List ℕ) (contents : List ℕ → List ℕ) (l m : TheLoaded)
         → IsTyped first contents l → IsTyped first contents m → l ≡ m }
     ensures apart { (first : List ℕ) (contents : List ℕ → List ℕ) (l : TheLoaded) (r : TheRefusal)
-        → IsTyped first contents l → Rejects first contents r → ⊥ }
+        → IsTyped first contents l → IsUntyped first contents r → ⊥ }
     ensures some { (first : List ℕ) (contents : List ℕ → List ℕ)
         → ((l : TheLoaded) × IsTyped first contents l)
-        ⊎ ((r : TheRefusal) × Rejects first contents r) }
+        ⊎ ((r : TheRefusal) × IsUntyped first contents r) }
     ensures one_program { (first : List ℕ) (contents : List ℕ → List ℕ) (l m : TheLoaded)
         (one : IsTyped first contents l) (other : IsTyped first contents m)
         → one.made ≡ other.made }
     ensures one_refusal { (first : List ℕ) (contents : List ℕ → List ℕ) (r other : TheRefusal)
-        → Rejects first contents r → Rejects first contents other → IsSameRefusal r other }
+        → IsUntyped first contents r → IsUntyped first contents other → IsSameRefusal r other }
 {}

@@ -5,7 +5,7 @@ use Rattle.bsv_io.specs.Writing.{Writing, AppendsPrefix}
 use Rattle.bsv_io.proofs.Appended.{nothing_put}
 use Rattle.bsv_flow.specs.declared.loading.Loaded.{Loaded}
 use Rattle.bsv_flow.specs.declared.refusal.Refusal.{Refusal}
-use Rattle.bsv_flow.specs.Typings.{IsTyped, Rejects}
+use Rattle.bsv_flow.specs.Buildings.{IsBuilt, Rejects}
 use Rattle.bsv_flow.specs.Refusals.{refusal_line}
 use Rattle.bsv_top.specs.declared.machine.Machine.{Machine}
 use Rattle.bsv_top.specs.declared.status.Status.{Status}
@@ -118,8 +118,8 @@ same_trace words file top trace file' top' trace' first second = (same_parts fil
 
 -- what decides a run over words with a form
 pub data Decided (words : List (List ℕ)) (contents : List ℕ → List ℕ) (file top trace : List ℕ) : Status → Type 0 where
-  refused : (r : Refusal) → Rejects file contents r → Decided words contents file top trace status.Refused
-  not_yet : (l : Loaded) → IsTyped file contents l → ((m : Machine) → PlainLoaded top l m → ⊥) → Decided words contents file top trace status.Refused
+  refused : (r : Refusal) → Rejects file contents top r → Decided words contents file top trace status.Refused
+  not_yet : (l : Loaded) → IsBuilt file contents top l → ((m : Machine) → PlainLoaded top l m → ⊥) → Decided words contents file top trace status.Refused
   done : (m : Machine) → IsPlain file top contents m → IsClean (contents trace) → Decided words contents file top trace status.Done
   trace_fault : (m : Machine) → IsPlain file top contents m → HasBadLine (contents trace) → Decided words contents file top trace status.TraceFault
 

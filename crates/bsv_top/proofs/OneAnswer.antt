@@ -4,9 +4,8 @@ use Rattle.bsv_flow.specs.declared.loading.Loaded.{Loaded}
 use Rattle.bsv_flow.specs.declared.refusal.Refusal.{Refusal}
 use Rattle.bsv_flow.specs.OneAnswer.{IsSameRefusal}
 use Rattle.bsv_flow.specs.Refusals.{refusal_line}
-use Rattle.bsv_flow.specs.Typings.{IsTyped, Rejects}
-use Rattle.bsv_flow.proofs.OneRefusal.{of_typing}
-use Rattle.bsv_flow.proofs.Outcomes as typing
+use Rattle.bsv_flow.specs.Buildings.{IsBuilt, Rejects}
+use Rattle.bsv_flow.proofs.Trees as trees
 use Rattle.bsv_top.specs.declared.machine.Machine.{Machine}
 use Rattle.bsv_top.specs.declared.status.Status.{Status}
 use Rattle.bsv_top.specs.Answers as a
@@ -41,8 +40,8 @@ one_end trace text said (bad wrong e) (bad also f) = e ∙ sym f
 module _ (contents : List ℕ → List ℕ) where
   -- what is told where the words have a form
   data Tells (file top trace output text : List ℕ) : Type 0 where
-    refused : (r : Refusal) → Rejects file contents r → output ≡ [] → text ≡ refusal_line r → Tells file top trace output text
-    not_yet : (l : Loaded) → IsTyped file contents l → ((m : Machine) → PlainLoaded top l m → ⊥) → output ≡ [] → text ≡ not_yet_line → Tells file top trace output text
+    refused : (r : Refusal) → Rejects file contents top r → output ≡ [] → text ≡ refusal_line r → Tells file top trace output text
+    not_yet : (l : Loaded) → IsBuilt file contents top l → ((m : Machine) → PlainLoaded top l m → ⊥) → output ≡ [] → text ≡ not_yet_line → Tells file top trace output text
     runs : (m : Machine) (rows : List Row) → IsPlain file top contents m → Runs m rows → length rows ≡ clocks_of (contents trace) → output ≡ report m rows → EndText (contents trace) text → Tells file top trace output text
 
   tells_at : (file top trace file' top' trace' output text : List ℕ) → SameParts file top trace file' top' trace' → Tells file' top' trace' output text → Tells file top trace output text
@@ -65,10 +64,10 @@ module _ (contents : List ℕ → List ℕ) where
         e ∙ same_report m n rows others (plain_once file top contents m n is_plain also) run again (count ∙ sym length_is) ∙ sym d
 
     form_text : Tells file top trace output text → Tells file top trace more said → IsSameText text said
-    form_text (refused r h e f) (refused s g d b) = same_line text said r s f b (of_typing file contents r s h g)
-    form_text (refused r h e f) (not_yet l loaded other d b) = absurd (typing.apart file contents l r loaded h)
+    form_text (refused r h e f) (refused s g d b) = same_line text said r s f b (trees.of_building file contents top r s h g)
+    form_text (refused r h e f) (not_yet l loaded other d b) = absurd (trees.apart file contents top l r loaded h)
     form_text (refused r h e f) (runs m rows is_plain run count d b) = absurd (not_refused file top contents r h m is_plain)
-    form_text (not_yet l loaded other e f) (refused s g d b) = absurd (typing.apart file contents l s loaded g)
+    form_text (not_yet l loaded other e f) (refused s g d b) = absurd (trees.apart file contents top l s loaded g)
     form_text (not_yet l loaded other e f) (not_yet k also none d b) = same_text text said (f ∙ sym b)
     form_text (not_yet l loaded other e f) (runs m rows is_plain run count d b) = absurd (not_other file top contents l loaded other m is_plain)
     form_text (runs m rows is_plain run count e f) (refused s g d b) = absurd (not_refused file top contents s g m is_plain)

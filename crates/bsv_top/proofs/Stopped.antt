@@ -7,7 +7,7 @@ use Rattle.bsv_io.proofs.Appended.{AppendsPrefix-more, appended-nil}
 use Rattle.bsv_flow.specs.declared.loading.Loaded.{Loaded}
 use Rattle.bsv_flow.specs.declared.refusal.Refusal.{Refusal}
 use Rattle.bsv_flow.specs.Loads.{Reaches}
-use Rattle.bsv_flow.specs.Typings.{IsTyped, Rejects}
+use Rattle.bsv_flow.specs.Buildings.{IsBuilt, Rejects}
 use Rattle.bsv_flow.specs.Refusals.{refusal_line}
 use Rattle.bsv_top.specs.declared.answer.Stop.{Stop}
 use Rattle.bsv_top.specs.declared.answer.Stop.TheVariants as stop
@@ -52,8 +52,8 @@ only_bad (stop.BadLine number) e = (number, refl)
 module _ (words : List (List ℕ)) (contents : List ℕ → List ℕ) (file top trace : List ℕ) (out out' : Writing) where
   -- what is known where a run over these words stopped
   pub Known : Stop → Type 0
-  Known (stop.Refused r) = Rejects file contents r
-  Known stop.NotYet = (l : Loaded) × IsTyped file contents l × ((m : Machine) → PlainLoaded top l m → ⊥)
+  Known (stop.Refused r) = Rejects file contents top r
+  Known stop.NotYet = (l : Loaded) × IsBuilt file contents top l × ((m : Machine) → PlainLoaded top l m → ⊥)
   Known (stop.SourceUnread name) = Reaches file contents name
   Known stop.TraceUnread = (m : Machine) × IsPlain file top contents m
   Known stop.Unwritable = Unit {0}
@@ -61,8 +61,8 @@ module _ (words : List (List ℕ)) (contents : List ℕ → List ℕ) (file top 
   Known (stop.BadLine number) = (m : Machine) × IsPlain file top contents m × HasBadLine (contents trace) × (number ≡ clocks_of (contents trace) + 1) × HasReport m out (clocks_of (contents trace)) out'
 
   pub known : (s : Stop)
-      → ((r : Refusal) → s ≡ stop.Refused r → Rejects file contents r)
-      → (s ≡ stop.NotYet → (l : Loaded) × IsTyped file contents l × ((m : Machine) → PlainLoaded top l m → ⊥))
+      → ((r : Refusal) → s ≡ stop.Refused r → Rejects file contents top r)
+      → (s ≡ stop.NotYet → (l : Loaded) × IsBuilt file contents top l × ((m : Machine) → PlainLoaded top l m → ⊥))
       → ((name : List ℕ) → s ≡ stop.SourceUnread name → Reaches file contents name)
       → (s ≡ stop.TraceUnread → (m : Machine) × IsPlain file top contents m)
       → ((number : ℕ) → s ≡ stop.BadLine number → (m : Machine) × IsPlain file top contents m × HasBadLine (contents trace) × (number ≡ clocks_of (contents trace) + 1) × HasReport m out (clocks_of (contents trace)) out')

@@ -3,7 +3,7 @@
 use Rattle.std.specs.Prelude.{◌≡◌, ℕ, ◌+◌, List, [], ◌∷◌, ◌++◌, length, codes, decimal}
 use Rattle.bsv_flow.specs.declared.loading.Loaded.{Loaded}
 use Rattle.bsv_flow.specs.declared.refusal.Refusal.{Refusal}
-use Rattle.bsv_flow.specs.Typings.{IsTyped, Rejects}
+use Rattle.bsv_flow.specs.Buildings.{IsBuilt, Rejects}
 use Rattle.bsv_flow.specs.Refusals.{refusal_line}
 use Rattle.bsv_top.specs.declared.machine.Machine.{Machine}
 use Rattle.bsv_top.specs.declared.status.Status.{Status}
@@ -39,8 +39,8 @@ trace_fault_line number = codes "trace line " ++ decimal number ++ line_feed
 -- the status, the output and the fault text for words and the contents of the files by name
 pub data Answer (words : List (List ℕ)) (contents : List ℕ → List ℕ) : Status → List ℕ → List ℕ → Type 0 where
   usage : HasNoForm words → Answer words contents status.Usage [] usage_line
-  refused : {file top trace : List ℕ} (r : Refusal) → words ≡ sim_words file top trace → Rejects file contents r → Answer words contents status.Refused [] (refusal_line r)
-  not_yet : {file top trace : List ℕ} (l : Loaded) → words ≡ sim_words file top trace → IsTyped file contents l → ((m : Machine) → PlainLoaded top l m → ⊥) → Answer words contents status.Refused [] not_yet_line
+  refused : {file top trace : List ℕ} (r : Refusal) → words ≡ sim_words file top trace → Rejects file contents top r → Answer words contents status.Refused [] (refusal_line r)
+  not_yet : {file top trace : List ℕ} (l : Loaded) → words ≡ sim_words file top trace → IsBuilt file contents top l → ((m : Machine) → PlainLoaded top l m → ⊥) → Answer words contents status.Refused [] not_yet_line
   done : {file top trace : List ℕ} (m : Machine) (rows : List Row) → words ≡ sim_words file top trace → IsPlain file top contents m → IsClean (contents trace) → Runs m rows → length rows ≡ clocks_of (contents trace) → Answer words contents status.Done (report m rows) []
   trace_fault : {file top trace : List ℕ} (m : Machine) (rows : List Row) → words ≡ sim_words file top trace → IsPlain file top contents m → HasBadLine (contents trace) → Runs m rows → length rows ≡ clocks_of (contents trace) → Answer words contents status.TraceFault (report m rows) (trace_fault_line (clocks_of (contents trace) + 1))
 

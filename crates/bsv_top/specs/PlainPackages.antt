@@ -2,7 +2,7 @@
 use Rattle.std.specs.Prelude.{◌≡◌, ℕ, List, [], ◌∷◌, Option, Some, None}
 use Rattle.bsv_ast.specs.declared.package.Package.{Package}
 use Rattle.bsv_flow.specs.declared.loading.Loaded.{Loaded}
-use Rattle.bsv_flow.specs.Typings.{IsTyped}
+use Rattle.bsv_flow.specs.Buildings.{IsBuilt}
 use Rattle.bsv_top.specs.declared.machine.Machine.{Machine}
 use Rattle.bsv_top.specs.Plain.{machine_of}
 
@@ -15,6 +15,6 @@ machine_in top _ _ = None
 abbrev pub PlainLoaded : List ℕ → Loaded → Machine → Type 0
 PlainLoaded top l m = machine_in top l.sources l.packages ≡ Some m
 
--- the file is loaded as one package, that has a typing, and it is this machine
+-- the file is loaded as one package, which has a typing and a tree, and it is this machine
 abbrev pub IsPlain : List ℕ → List ℕ → (List ℕ → List ℕ) → Machine → Type 0
-IsPlain file top contents m = (l : Loaded) × IsTyped file contents l × PlainLoaded top l m
+IsPlain file top contents m = (l : Loaded) × IsBuilt file contents top l × PlainLoaded top l m

@@ -2,9 +2,9 @@ ghost use Rattle.std.specs.Prelude.{◌≡◌, ℕ, ◌+◌, ◌<◌, ◌≤◌,
 ghost use Rattle.bsv_io.specs.Faults.{MayFault};
 ghost use Rattle.bsv_io.specs.Reading.{bytes_given, current_name, rest};
 ghost use Rattle.bsv_io.specs.Writing.{AppendsPrefix};
+ghost use Rattle.bsv_flow.specs.Buildings.{IsBuilt, Rejects};
 ghost use Rattle.bsv_flow.specs.Loads.{Reaches};
 ghost use Rattle.bsv_flow.specs.Sources.{read_limit};
-ghost use Rattle.bsv_flow.specs.Typings.{IsTyped, Rejects};
 ghost use Rattle.bsv_flow.specs.declared.loading.Loaded.{Loaded as TheLoaded};
 ghost use Rattle.bsv_flow.specs.declared.refusal.CompileFault.TheVariants as fault;
 ghost use Rattle.bsv_flow.specs.declared.refusal.Refusal.{Refusal as TheRefusal};
@@ -26,7 +26,7 @@ use crate::report::write_opening;
 use crate::simulate::Halt;
 use crate::trace::Lines;
 use bsv_bits::{Name, OutOfMemory, Word};
-use bsv_flow::{CompileFault, Loaded, Refusal, load, typed};
+use bsv_flow::{CompileFault, Loaded, Refusal, load, tree, typed};
 use bsv_io::{Failed, Files, Sink};
 use std::alloc::{AllocError, Global};
 
@@ -194,13 +194,18 @@ fn simulate<F: Files, O: Sink>(
     report_clocks(files, machine, &mut state, &mut next, &mut buffer, out)
 }
 
-/// Loads the file and what it imports, where it has a typing.
-fn load_typed<F: Files>(alloc: Global, files: &mut F, name: &str) -> Result<Loaded, CompileFault>
+/// Loads the file and what it imports, where it has a typing and a tree.
+fn load_built<F: Files>(
+    alloc: Global,
+    files: &mut F,
+    name: &str,
+    top: &str,
+) -> Result<Loaded, CompileFault>
     ensures loaded { IfOk result (λ l. (contents : List ℕ → List ℕ)
-        → (F.reading files.old).contents ≡ Some contents → IsTyped name.now contents l) }
+        → (F.reading files.old).contents ≡ Some contents → IsBuilt name.now contents top.now l) }
     ensures refused { (r : TheRefusal) → result ≡ Err (fault.Refused r)
         → (contents : List ℕ → List ℕ)
-        → (F.reading files.old).contents ≡ Some contents → Rejects name.now contents r }
+        → (F.reading files.old).contents ≡ Some contents → Rejects name.now contents top.now r }
     ensures read_fault { (blamed : List ℕ) → result ≡ Err (fault.ReadFault blamed)
         → MayFault (F.reading files.old).faults (F.reading files.new).faults
         × ((F.reading files.new).blamed ≡ Some blamed) }
@@ -215,11 +220,12 @@ fn load_typed<F: Files>(alloc: Global, files: &mut F, name: &str) -> Result<Load
         → (F.reading files.new).faults ≡ (F.reading files.old).faults }
 {
     let loaded = load(alloc, files, name)?;
-    let _program = typed(alloc, &loaded)?;
+    let program = typed(alloc, &loaded)?;
+    let _tree = tree(alloc, program, top)?;
     Ok(loaded)
 }
 
-/// Loads the file and what it imports, types it, and runs its machine over the trace.
+/// Loads the file and what it imports, types and builds it, and runs its machine over the trace.
 pub(crate) fn answer<F: Files, O: Sink>(
     alloc: Global,
     form: Form<'_>,
@@ -241,10 +247,11 @@ pub(crate) fn answer<F: Files, O: Sink>(
         (O.writing out.new) }
     ensures refused { (r : TheRefusal) → result ≡ Err (Stop.Refused r)
         → (contents : List ℕ → List ℕ)
-        → (F.reading files.old).contents ≡ Some contents → Rejects form.entry.file.now contents r }
+        → (F.reading files.old).contents ≡ Some contents
+        → Rejects form.entry.file.now contents form.entry.top.now r }
     ensures not_yet { result ≡ Err Stop.NotYet → (contents : List ℕ → List ℕ)
         → (F.reading files.old).contents ≡ Some contents
-        → (l : TheLoaded) × IsTyped form.entry.file.now contents l
+        → (l : TheLoaded) × IsBuilt form.entry.file.now contents form.entry.top.now l
         × ((m : TheMachine) → PlainLoaded form.entry.top.now l m → ⊥) }
     ensures source_unread { (name : List ℕ) → result ≡ Err (Stop.SourceUnread name)
         → MayFault (F.reading files.old).faults (F.reading files.new).faults
@@ -283,7 +290,7 @@ pub(crate) fn answer<F: Files, O: Sink>(
     ensures out_kept { (result ≡ Err Stop.Unwritable → ⊥)
         → (O.writing out.new).faults ≡ (O.writing out.old).faults }
 {
-    let loaded = load_typed(alloc, files, form.file)?;
+    let loaded = load_built(alloc, files, form.file, form.top)?;
     match machine_of(alloc, &loaded, form.top.as_bytes())? {
         None => Err(Stop::NotYet),
         Some(machine) => simulate(alloc, files, &machine, form.trace, out),

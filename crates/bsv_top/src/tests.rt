@@ -124,7 +124,7 @@ const COUNTER_PUTS: [&[u8]; 7] = [
     b"clock 6\nfired\nx = 4'h3\n",
 ];
 
-const NOT_YET: &[u8] = b"refused 0 NotYet\n";
+const NO_SUCH_MODULE: &[u8] = b"refused 12 NoSuchModule mkB\n";
 
 const USAGE: &[u8] =
     b"usage: bsvc verilog FILE TOP | schedule FILE TOP | sim FILE TOP TRACE | made N\n";
@@ -181,7 +181,8 @@ fn blanks_and_empty_words(rt: HostRuntime) -> Result<(), Fail> {
         &["sim", "A.bsv", "", "t"],
         sound(&COUNTER_FILES),
     )?;
-    expect_seen(&rt, 2, &seen, Status::Refused, b"", NOT_YET);
+    let told = b"refused 12 NoSuchModule \n".as_slice();
+    expect_seen(&rt, 2, &seen, Status::Refused, b"", told);
     let files: [(&str, &[u8]); 3] = [
         ("main.bsv", b"import A::*; import B::*;"),
         ("A.bsv", b"\n module"),
@@ -277,7 +278,7 @@ fn fault_text_faults(rt: HostRuntime) -> Result<(), Fail> {
             &[],
             Status::Refused,
             0,
-            NOT_YET,
+            NO_SUCH_MODULE,
         ),
         (
             &["sim", "B.bsv", "mkA", "t"],
@@ -370,7 +371,8 @@ fn register_counts(rt: HostRuntime) -> Result<(), Fail> {
     names.push(Name::new(alloc, b"x")?)?;
     let (source, _state) = with_registers(alloc, names.as_slice())?;
     let seen = run_of(&rt, alloc, source.as_slice(), b"\n")?;
-    expect_seen(&rt, 4_097, &seen, Status::Refused, b"", NOT_YET);
+    let told = b"refused 17 Limit instances 4096\n".as_slice();
+    expect_seen(&rt, 4_097, &seen, Status::Refused, b"", told);
     // The longest name has 255 bytes.
     let (source, state) = with_registers(alloc, &[Name::new(alloc, &[b'a'; 255])?])?;
     let seen = run_of(&rt, alloc, source.as_slice(), b"")?;

@@ -1,16 +1,26 @@
 //! The program: it hands the words behind its name, the real files and the real outputs to the
 //! top call, and ends with the exit status that this answers.
+//!
+//! The top call has a thread of its own, since its stack may have to be larger than that of a
+//! program.
 #![tactic(auto)]
 
 ghost use Rattle.std.specs.Prelude.{◌≡◌};
 
-use bsv_io::{DiskFiles, StdSink};
+use bsv_io::{DiskFiles, Failed, Sink, StdSink};
 use bsv_top::{Status, run};
-use std::io;
+use std::io::{self, Stderr, Stdout};
 use std::process::ExitCode;
+use std::rt::Files;
+use std::thread::{Builder, Threads};
 
 /// The exit status where the system does not give the words of the command.
 const NO_WORDS: u8 = 9;
+
+/// The stack of the top call, in bytes of address space: what is not used takes no memory. Reading
+/// and building go one call deeper for each bracket, each call and each module inside another one,
+/// which may be 64 deep each.
+const STACK: usize = 512 * 1024 * 1024;
 
 /// The words behind the program's name.
 fn words_of(rt: &HostRuntime) -> io::Result<Vec<String>> {
@@ -39,20 +49,38 @@ fn code(status: Status) -> u8
     }
 }
 
+/// Does all that the program does with these words, over the real files and outputs.
+fn run_really<R: Files + AllocGlobal + Threads + Sync>(
+    rt: &R,
+    words: &[String],
+    out: Stdout,
+    err: Stderr,
+) -> Status {
+    let mut files = DiskFiles::new(rt);
+    let mut out = StdSink::new(out);
+    let mut err = StdSink::new(err);
+    run(rt, rt.alloc(), words, &mut files, &mut out, &mut err)
+}
+
+/// Tells that there is no memory for the thread.
+fn tell_no_memory(rt: HostRuntime) -> Status {
+    let mut err = StdSink::new(rt.stderr());
+    match err.put(b"out of memory\n") {
+        Ok(()) => Status::OutOfMemory,
+        Err(Failed) => Status::WriteFault,
+    }
+}
+
 fn main(rt: HostRuntime) -> ExitCode {
     let Ok(words) = words_of(&rt) else {
         return ExitCode::from(NO_WORDS);
     };
-    let mut files = DiskFiles::new(&rt);
-    let mut out = StdSink::new(rt.stdout());
-    let mut err = StdSink::new(rt.stderr());
-    let status = run(
-        &rt,
-        rt.alloc(),
-        words.as_slice(),
-        &mut files,
-        &mut out,
-        &mut err,
-    );
+    let thread = Builder::new().stack_size(STACK).spawn(&rt, move || {
+        run_really(&rt, words.as_slice(), rt.stdout(), rt.stderr())
+    });
+    let status = match thread {
+        Ok(thread) => thread.join(&rt),
+        Err(_) => tell_no_memory(rt),
+    };
     ExitCode::from(code(status))
 }

@@ -68,19 +68,19 @@ returns-clause-none g c =
 
 pub returns-in_err-loaded-clause-within : goal.returns-in_err-loaded-clause-within
 returns-in_err-loaded-clause-within g c = λ contents told.
-    loaded_within c.args.form.trace.now contents (g.F.Files.reading c.args.files.now) (g.F.Files.reading c.load_typed.new.files) c.in_err-loaded.ensures.within
+    loaded_within c.args.form.trace.now contents (g.F.Files.reading c.args.files.now) (g.F.Files.reading c.load_built.new.files) c.in_err-loaded.ensures.within
 
 pub returns-in_err-machine_of-clause-within : goal.returns-in_err-machine_of-clause-within
 returns-in_err-machine_of-clause-within g c = λ contents told.
-    loaded_within c.args.form.trace.now contents (g.F.Files.reading c.args.files.now) (g.F.Files.reading c.load_typed.new.files) c.in_ok-loaded.ensures.within
+    loaded_within c.args.form.trace.now contents (g.F.Files.reading c.args.files.now) (g.F.Files.reading c.load_built.new.files) c.in_ok-loaded.ensures.within
 
 pub returns-in-None-clause-within : goal.returns-in-None-clause-within
 returns-in-None-clause-within g c = λ contents told.
-    loaded_within c.args.form.trace.now contents (g.F.Files.reading c.args.files.now) (g.F.Files.reading c.load_typed.new.files) c.in_ok-loaded.ensures.within
+    loaded_within c.args.form.trace.now contents (g.F.Files.reading c.args.files.now) (g.F.Files.reading c.load_built.new.files) c.in_ok-loaded.ensures.within
 
 pub returns-clause-within : goal.returns-clause-within
 returns-clause-within g c = λ contents told.
-    run_within c.args.form.trace.now contents (g.F.Files.reading c.args.files.now) (g.F.Files.reading c.load_typed.new.files) c.in_ok-loaded.ensures.within (g.F.Files.reading c.simulate.new.files)
+    run_within c.args.form.trace.now contents (g.F.Files.reading c.args.files.now) (g.F.Files.reading c.load_built.new.files) c.in_ok-loaded.ensures.within (g.F.Files.reading c.simulate.new.files)
     (c.simulate.ensures.within contents (c.in_ok-loaded.ensures.contents ∙ told))
 
 pub returns-clause-done_within : goal.returns-clause-done_within

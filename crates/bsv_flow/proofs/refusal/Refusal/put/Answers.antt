@@ -59,7 +59,37 @@ unfolding refusal_line
 returns-in-BadAttribute-clause-ok g c =
     subst (λ (r : Refusal). OnOk c.put_placed-in-BadAttribute.result (g.S.Sink.writing c.put_placed-in-BadAttribute.new.sink ≡ appended (refusal_line r) (g.S.Sink.writing c.args.sink.now))) (sym c.in-BadAttribute.is) c.put_placed-in-BadAttribute.ensures.ok
 
+pub returns-in-NoSuchModule-clause-ok : goal.returns-in-NoSuchModule-clause-ok
+unfolding refusal_line
+returns-in-NoSuchModule-clause-ok g c =
+    subst (λ (r : Refusal). OnOk c.put_named.result (g.S.Sink.writing c.put_named.new.sink ≡ appended (refusal_line r) (g.S.Sink.writing c.args.sink.now))) (sym c.in-NoSuchModule.is) c.put_named.ensures.ok
+
+pub returns-in-StaticFault-clause-ok : goal.returns-in-StaticFault-clause-ok
+unfolding refusal_line
+returns-in-StaticFault-clause-ok g c =
+    subst (λ (r : Refusal). OnOk c.put_named-in-StaticFault.result (g.S.Sink.writing c.put_named-in-StaticFault.new.sink ≡ appended (refusal_line r) (g.S.Sink.writing c.args.sink.now))) (sym c.in-StaticFault.is) c.put_named-in-StaticFault.ensures.ok
+
+pub returns-in-Loop-clause-ok : goal.returns-in-Loop-clause-ok
+unfolding refusal_line
+returns-in-Loop-clause-ok g c =
+    subst (λ (r : Refusal). OnOk c.put_named-in-Loop.result (g.S.Sink.writing c.put_named-in-Loop.new.sink ≡ appended (refusal_line r) (g.S.Sink.writing c.args.sink.now))) (sym c.in-Loop.is) c.put_named-in-Loop.ensures.ok
+
+pub returns-in-Recursion-clause-ok : goal.returns-in-Recursion-clause-ok
+unfolding refusal_line
+returns-in-Recursion-clause-ok g c =
+    subst (λ (r : Refusal). OnOk c.put_named-in-Recursion.result (g.S.Sink.writing c.put_named-in-Recursion.new.sink ≡ appended (refusal_line r) (g.S.Sink.writing c.args.sink.now))) (sym c.in-Recursion.is) c.put_named-in-Recursion.ensures.ok
+
+pub returns-in-NameTaken-clause-ok : goal.returns-in-NameTaken-clause-ok
+unfolding refusal_line
+returns-in-NameTaken-clause-ok g c =
+    subst (λ (r : Refusal). OnOk c.put_named-in-NameTaken.result (g.S.Sink.writing c.put_named-in-NameTaken.new.sink ≡ appended (refusal_line r) (g.S.Sink.writing c.args.sink.now))) (sym c.in-NameTaken.is) c.put_named-in-NameTaken.ensures.ok
+
 pub returns-in-Limit-clause-ok : goal.returns-in-Limit-clause-ok
 unfolding refusal_line
 returns-in-Limit-clause-ok g c =
     subst (λ (r : Refusal). OnOk c.put_limit.result (g.S.Sink.writing c.put_limit.new.sink ≡ appended (refusal_line r) (g.S.Sink.writing c.args.sink.now))) (sym c.in-Limit.is) c.put_limit.ensures.ok
+
+pub returns-in-NoSuchRule-clause-ok : goal.returns-in-NoSuchRule-clause-ok
+unfolding refusal_line
+returns-in-NoSuchRule-clause-ok g c =
+    subst (λ (r : Refusal). OnOk c.put_rule.result (g.S.Sink.writing c.put_rule.new.sink ≡ appended (refusal_line r) (g.S.Sink.writing c.args.sink.now))) (sym c.in-NoSuchRule.is) c.put_rule.ensures.ok
