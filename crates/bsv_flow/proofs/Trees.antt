@@ -8,12 +8,10 @@ use Rattle.bsv_check.specs.Rightness.{is_in_order}
 use Rattle.bsv_check.specs.Seen.{typed_seen}
 use Rattle.bsv_design.specs.Trees.{Hierarchy}
 use Rattle.bsv_design.specs.declared.values.Fault.TheVariants as carry
-use Rattle.bsv_elab.specs.declared.fault.ElabFault.{ElabFault}
-use Rattle.bsv_elab.specs.declared.fault.ElabFault.TheVariants as elab
 use Rattle.bsv_elab.specs.declared.refused.Refused.{Refused}
 use Rattle.bsv_elab.specs.declared.refused.Refused.TheVariants as met
 use Rattle.bsv_elab.specs.Building as elaboration
-use Rattle.bsv_elab.specs.Told.{told_as, Builds, Tells}
+use Rattle.bsv_elab.specs.Told.{told_as, Builds}
 use Rattle.bsv_flow.specs.declared.loading.Loaded.{Loaded}
 use Rattle.bsv_flow.specs.declared.refusal.Refusal.{Refusal}
 use Rattle.bsv_flow.specs.Buildings.{refusal_of, tree_of, HasTree, IsProgram, IsBuilt, Rejects}
@@ -27,22 +25,8 @@ use Rattle.bsv_flow.proofs.Programs.{made_is, one_program, program_at}
 
 -- ---- what building answers, as a refusal
 
-at_top : (program : Typed) (name top : List ℕ) (e : ElabFault) (r : Refusal) → name ≡ top → Builds program name ≡ Err e → refusal_of e ≡ Some r → tree_of program top ≡ Err (Some r)
-at_top program name top e r same is told =
-    subst (λ (n : List ℕ). tree_of program n ≡ Err (Some r)) same (ap (over refusal_of) is ∙ ap Err told)
-
 pub built_at : (program : Typed) (name top : List ℕ) (t : Hierarchy) → name ≡ top → Builds program name ≡ Ok t → tree_of program top ≡ Ok t
 built_at program name top t same is = subst (λ (n : List ℕ). tree_of program n ≡ Ok t) same (ap (over refusal_of) is)
-
-pub refused_at : (program : Typed) (name top : List ℕ) (e : ElabFault) (r : Refusal) → name ≡ top → Tells e (Builds program name) → refusal_of e ≡ Some r → tree_of program top ≡ Err (Some r)
-refused_at program name top (elab.NoSuchModule n) r same is told = at_top program name top (elab.NoSuchModule n) r same is told
-refused_at program name top (elab.StaticFault n) r same is told = at_top program name top (elab.StaticFault n) r same is told
-refused_at program name top (elab.Loop n) r same is told = at_top program name top (elab.Loop n) r same is told
-refused_at program name top (elab.Recursion n) r same is told = at_top program name top (elab.Recursion n) r same is told
-refused_at program name top (elab.NameTaken path) r same is told = at_top program name top (elab.NameTaken path) r same is told
-refused_at program name top (elab.Limit kind most) r same is told = at_top program name top (elab.Limit kind most) r same is told
-refused_at program name top (elab.NoSuchRule attribute n) r same is told = at_top program name top (elab.NoSuchRule attribute n) r same is told
-refused_at program name top elab.OutOfMemory r same is told = absurd cc
 
 -- what refuses is told as a refusal
 is_told : (top : List ℕ) (ms : List Module) (r : Refused) → refusal_of (told_as top ms r) ≡ None → ⊥
