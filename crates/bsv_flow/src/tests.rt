@@ -2,6 +2,7 @@ use crate::{CompileFault, Loaded, load, tree, typed};
 use bsv_bits::{Name, OutOfMemory};
 use bsv_design::Tree;
 use bsv_io::{MemFiles, MemSink};
+use bsv_types::Typed;
 use std::alloc::{AllocError, Global};
 use std::ops::Range;
 use std::process::Abort;
@@ -252,6 +253,14 @@ fn files_are_loaded_in_their_order(rt: HostRuntime) -> Result<(), Fail> {
     Ok(())
 }
 
+/// The typed program of files, of which the first one is `T.bsv`.
+fn typed_as(alloc: Global, text: &str) -> Result<Typed, CompileFault> {
+    let files = named_files(alloc, text)?;
+    let mut source = files_of(alloc, files.as_slice(), &[])?;
+    let loaded = load(alloc, &mut source, "T.bsv")?;
+    typed(alloc, &loaded)
+}
+
 /// What is loaded is typed, or refused.
 #[test]
 fn packages_are_typed(rt: HostRuntime) -> Result<(), Fail> {
@@ -267,13 +276,8 @@ fn packages_are_typed(rt: HostRuntime) -> Result<(), Fail> {
         ),
     ];
     for (text, told) in rows {
-        let files = named_files(alloc, text)?;
-        let mut source = files_of(alloc, files.as_slice(), &[])?;
-        let found = match load(alloc, &mut source, "T.bsv") {
-            Ok(loaded) => match typed(alloc, &loaded) {
-                Ok(_) => Vec::new(alloc),
-                Err(fault) => fault_text(alloc, &fault)?,
-            },
+        let found = match typed_as(alloc, text) {
+            Ok(_program) => Vec::new(alloc),
             Err(fault) => fault_text(alloc, &fault)?,
         };
         assert_eq!(rt; found.as_slice(), told, "{text:?}");
