@@ -1,0 +1,101 @@
+ghost use Rattle.std.specs.Prelude.{◌≡◌};
+ghost use Rattle.bsv_inline.specs.Leaving.{Leaves};
+ghost use Rattle.bsv_inline.specs.Flat as spec;
+
+use crate::node::Node;
+use crate::state::{Asked, Laid, State, add, put};
+use sqlite_items::Items;
+use std::alloc::Global;
+
+/// The node that is 0, behind the first one, which is 1.
+pub(crate) const NO: u32 = 1;
+
+/// An arm, with the nodes of the values that it gives.
+#[derive(Drop)]
+pub struct Given {
+    pub given: Items<u32>,
+    pub asked: Asked,
+}
+
+/// The nodes of a test: whether its arm is taken, and whether what comes behind it is; and what its condition asks.
+#[derive(Drop)]
+pub struct Tested {
+    pub test: u32,
+    pub taken: u32,
+    pub left: u32,
+    pub asked: Asked,
+}
+
+/// An arm behind its condition.
+#[derive(Drop)]
+pub struct Head {
+    pub test: u32,
+    pub asked: Asked,
+    pub body: Given,
+}
+
+/// The values of the arm where the test is 1, else the others.
+#[tactic(auto, unfolding(crate::specs::Flat::picks, crate::specs::Flat::picks_from))]
+fn picks(
+    alloc: Global,
+    test: u32,
+    first: &[u32],
+    second: &[u32],
+    state: &mut State,
+) -> Laid<Items<u32>>
+    ensures { Leaves result state.new (spec.picks test first.now second.now state.old) }
+{
+    let mut found = Items::new(alloc);
+    let mut left = first;
+    let mut right = second;
+    while let Some((one, ones)) = left.split_first() {
+        let Some((other, others)) = right.split_first() else {
+            return Ok(found);
+        };
+        let node = put(Node::Pick(test, *one, *other), state)?;
+        found.push(node)?;
+        left = ones;
+        right = others;
+    }
+    Ok(found)
+}
+
+/// An arm before the others.
+fn join_one(alloc: Global, head: Head, others: Given, state: &mut State) -> Laid<Given>
+    ensures { Leaves result state.new (spec.join_one head (others, state.old)) }
+{
+    let Head {
+        test,
+        asked: mut all,
+        body,
+    } = head;
+    let given = picks(
+        alloc,
+        test,
+        body.given.as_slice(),
+        others.given.as_slice(),
+        state,
+    )?;
+    let mut asked = body.asked;
+    add(&mut asked, others.asked)?;
+    add(&mut all, asked)?;
+    Ok(Given { given, asked: all })
+}
+
+/// All arms, of which the last one is given.
+#[tactic(auto, using(crate::proofs::Joins::joins))]
+pub(crate) fn join_all(
+    alloc: Global,
+    heads: Items<Head>,
+    joined: Given,
+    state: &mut State,
+) -> Laid<Given>
+    ensures { Leaves result state.new (spec.join_all heads (joined, state.old)) }
+{
+    let mut heads = heads;
+    let mut joined = joined;
+    while let Some(head) = heads.pop() {
+        joined = join_one(alloc, head, joined, state)?;
+    }
+    Ok(joined)
+}

@@ -1,0 +1,50 @@
+use bsv_bits::{Operator, Word};
+use bsv_design::MethodPlace;
+use sqlite_items::Items;
+
+/// A word, computed of words before it. A number names a node by its place.
+#[derive(Clone, Copy, Debug, PartialEq, Eq)]
+pub enum Node {
+    Constant(Word),
+    /// The argument of this place.
+    Argument(u32),
+    /// What the call of this place gives.
+    Result(u32),
+    Not(u32),
+    Two(Operator, u32, u32),
+    /// The second one where the first one is 1, else the third one.
+    Pick(u32, u32, u32),
+    /// The bits from the second number to the first one.
+    Slice(u32, u32, u32),
+    /// The bits of the first one above those of the second one.
+    Join(u32, u32),
+    Extend(u32, u32),
+    SignExtend(u32, u32),
+}
+
+/// An arm, by its choice and its place there. Choices are numbered in the order in which they are met.
+#[derive(Clone, Copy, Debug, PartialEq, Eq)]
+pub struct Branch {
+    pub choice: u32,
+    pub arm: u32,
+}
+
+/// A call of a method of a primitive, at its site.
+#[derive(Drop)]
+pub struct Call {
+    pub method: MethodPlace,
+    pub action: bool,
+    /// The node that is 1 where the arms are taken in which it stands.
+    pub taken: u32,
+    /// These arms, from the outside.
+    pub branches: Items<Branch>,
+    pub arguments: Items<u32>,
+}
+
+/// A condition that has to hold: that of a method of a module, or else the element's own.
+#[derive(Clone, Copy, Debug, PartialEq, Eq)]
+pub struct Condition {
+    pub name: Option<MethodPlace>,
+    pub truth: u32,
+    pub taken: u32,
+}
