@@ -1,2 +1,3 @@
 mod Numbered
 mod Meeting
+pub mod Asked

@@ -2,13 +2,22 @@
 //!
 //! Modules in reading order: `names` (the names of the methods), `kind` (the nine kinds), `statics` (what
 //! the variables of a module are), `steps` (what is left to do of an element), `values` (what carrying out
-//! speaks of), `tree` (the instances), `whole` (the tree, and what holds of it). The
-//! tables stand in `specs/Kinds.antt`, and the names in `specs/MethodNames.antt`.
+//! speaks of), `tree` (the instances), `whole` (the tree, and what holds of it), `node` and `element` (an
+//! element as a flat body), `design` (the design of such elements, and what holds of it), `state`,
+//! `requests`, `fired` and `schedule` (what a clock takes and gives). The tables stand in `specs/Kinds.antt`,
+//! the names in `specs/MethodNames.antt`, and what all later definitions speak of in `specs/Schemes.antt`.
 #![tactic(auto)]
 
+mod design;
+mod element;
+mod fired;
 mod interface;
 mod kind;
 mod names;
+mod node;
+mod requests;
+mod schedule;
+mod state;
 mod statics;
 mod steps;
 #[cfg(test)]
@@ -17,8 +26,15 @@ mod tree;
 mod values;
 mod whole;
 
+pub use design::{Design, NamedPart};
+pub use element::{Call, Condition, Element, Port, Role};
+pub use fired::Fired;
 pub use interface::part_method_number;
 pub use kind::Kind;
+pub use node::{Branch, Node};
+pub use requests::Requests;
+pub use schedule::{Guards, Need, Schedule};
+pub use state::State;
 pub use statics::{Binding, Static};
 pub use steps::{Arm, Atom, Choice, Compute, MethodPlace, Step};
 pub use tree::{Assert, Attribute, Built, BuiltRule, Instance, Made, Pair};
