@@ -1,6 +1,6 @@
 -- Calls in different arms of one choice, and what two runs of one element have in common where they differ in calls alone
 -- that are not taken (Bluespec reference guide, "Conditional statements").
-use Rattle.std.specs.Prelude.{◌≡◌, ℕ, ◌==◌, Bool, true, false, not, ◌&&◌, ◌||◌, IsTrue, List, [], ◌∷◌, slice_get, Option, Some, None}
+use Rattle.std.specs.Prelude.{◌≡◌, ℕ, ◌==◌, Bool, true, false, not, ◌&&◌, ◌||◌, IsTrue, List, [], ◌∷◌, slice_get, Some}
 use Rattle.bsv_design.specs.declared.node.Branch.{Branch}
 use Rattle.bsv_design.specs.Bodies.{Answers}
 use Rattle.bsv_design.specs.Traces.{Site, Demand, Trace}

@@ -1,6 +1,6 @@
 -- What holds of every design of flat bodies: names, widths, and that calls in different arms are never both taken, and a
 -- call that is not taken decides nothing.
-use Rattle.std.specs.Prelude.{◌≡◌, ℕ, ◌≤◌, Bool, true, false, IsTrue, List, [], ◌∷◌, map, length, slice_get, Option, Some, None}
+use Rattle.std.specs.Prelude.{◌≡◌, ℕ, ◌≤◌, IsTrue, List, [], ◌∷◌, map, length, slice_get, Some}
 use Rattle.std.specs.List.{list_all}
 use Rattle.bsv_bits.specs.Words.{Bits}
 use Rattle.bsv_ast.specs.Names.{is_lower}

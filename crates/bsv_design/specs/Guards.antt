@@ -9,7 +9,7 @@ use Rattle.bsv_design.specs.declared.schedule.Need.{Need}
 use Rattle.bsv_design.specs.Bodies.{target, at, words}
 use Rattle.bsv_design.specs.Kinds.{kind_table}
 use Rattle.bsv_design.specs.Running.{is_one}
-use Rattle.bsv_design.specs.Schemes.{Scheme, Asking, Look, is_open, answers, given, all_hold}
+use Rattle.bsv_design.specs.Schemes.{Look, is_open, answers, all_hold}
 use Rattle.bsv_design.specs.Traces.{kind_at, demand_at}
 
 abbrev pub is_guarded : Option Kind → ℕ → Bool

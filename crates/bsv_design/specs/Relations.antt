@@ -1,7 +1,7 @@
 -- How elements stand to one another, and calls inside one (Hoe and Arvind 2004, "conflict free and sequentially
 -- composable rules").
-use Rattle.std.specs.Prelude.{◌≡◌, ℕ, ◌==◌, ◌<◌, ◌≤◌, nat_eq, Bool, true, false, not, ◌&&◌, ◌||◌, IsTrue, IsFalse, List, [], ◌∷◌, length, slice_get, Option, Some, None, ◌⊎◌}
-use Rattle.bsv_bits.specs.Words.{Bits, bit}
+use Rattle.std.specs.Prelude.{◌≡◌, ℕ, ◌==◌, ◌<◌, ◌≤◌, Bool, true, false, not, ◌&&◌, ◌||◌, List, [], ◌∷◌, slice_get, Option, Some, None, ◌⊎◌}
+use Rattle.bsv_bits.specs.Words.{bit}
 use Rattle.bsv_prim.specs.Table.{goes_before, in_one_element}
 use Rattle.bsv_design.specs.declared.kind.Kind.{Kind}
 use Rattle.bsv_design.specs.Bodies.{Target, Answers}

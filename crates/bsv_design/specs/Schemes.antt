@@ -1,6 +1,6 @@
 -- What a design is, however its elements are written: as text that is carried out, or as flat bodies. All that is said of
 -- schedules and clocks is said of a scheme (Hoe and Arvind 2004, guarded atomic actions; Bluespec reference guide, "Rules").
-use Rattle.std.specs.Prelude.{◌≡◌, ℕ, zero, suc, ◌<◌, Bool, true, false, cond, not, ◌&&◌, ◌||◌, List, [], ◌∷◌, ◌++◌, map, length, slice_get, Option, Some, None, option_map}
+use Rattle.std.specs.Prelude.{◌≡◌, ℕ, zero, suc, Bool, true, false, cond, not, ◌&&◌, ◌||◌, List, [], ◌∷◌, ◌++◌, map, length, slice_get, Option, Some, None}
 use Rattle.bsv_bits.specs.Words.{Bits, bit, zero_word}
 use Rattle.bsv_prim.specs.declared.part.Part.{Part}
 use Rattle.bsv_design.specs.declared.element.Element.{Element}

@@ -1,5 +1,5 @@
 -- Elements run whole, one at a time (Hoe and Arvind 2004, "term rewriting semantics").
-use Rattle.std.specs.Prelude.{◌≡◌, ℕ, nat_le, Bool, true, List, [], ◌∷◌, ◌++◌, Option, Some, None, ◌⊎◌, if◌then◌else◌}
+use Rattle.std.specs.Prelude.{◌≡◌, ℕ, nat_le, Bool, true, List, [], ◌∷◌, Option, Some, None, ◌⊎◌, if◌then◌else◌}
 use Rattle.bsv_prim.specs.declared.part.Part.{Part}
 use Rattle.bsv_design.specs.declared.kind.Kind.{Kind}
 use Rattle.bsv_design.specs.Kinds.{kind_table}

@@ -1,6 +1,6 @@
 -- The elements of a tree: the methods of the top, in the order of its interface, and then the rules, in building order
 -- (Bluespec reference guide, "Rules", "Module and interface instantiation"). Each is carried out alone.
-use Rattle.std.specs.Prelude.{◌≡◌, ℕ, ◌+◌, ◌-◌, ◌==◌, nat_lt, Bool, true, false, List, [], ◌∷◌, ◌++◌, map, take, length, slice_get, Option, Some, None, Result, Ok, Err, if◌then◌else◌}
+use Rattle.std.specs.Prelude.{ℕ, ◌+◌, ◌==◌, nat_lt, List, [], ◌∷◌, map, take, length, slice_get, Option, Some, None, Result, Ok, Err, if◌then◌else◌}
 use Rattle.bsv_types.specs.declared.definitions.MethodResult.{MethodResult}
 use Rattle.bsv_types.specs.declared.definitions.MethodResult.TheVariants as result
 use Rattle.bsv_types.specs.declared.definitions.Param.{Param}
@@ -12,7 +12,6 @@ use Rattle.bsv_types.specs.Shapes.{Shapes}
 use Rattle.bsv_design.specs.declared.element.Port.{Port}
 use Rattle.bsv_design.specs.declared.element.Role.{Role}
 use Rattle.bsv_design.specs.declared.element.Role.TheVariants as role
-use Rattle.bsv_design.specs.declared.statics.Binding.{Binding}
 use Rattle.bsv_design.specs.declared.steps.Atom.{Atom}
 use Rattle.bsv_design.specs.declared.steps.Step.{Step}
 use Rattle.bsv_design.specs.declared.tree.Built.{Built}
@@ -21,7 +20,6 @@ use Rattle.bsv_design.specs.declared.tree.Instance.{Instance}
 use Rattle.bsv_design.specs.declared.tree.Made.{Made}
 use Rattle.bsv_design.specs.declared.tree.Made.TheVariants as made
 use Rattle.bsv_design.specs.declared.values.Fault.{Fault}
-use Rattle.bsv_design.specs.declared.values.Value.{Value}
 use Rattle.bsv_design.specs.declared.values.Work.{Work}
 use Rattle.bsv_design.specs.Applied.{width}
 use Rattle.bsv_design.specs.Calls.{made_of}

@@ -1,5 +1,5 @@
 -- States and requests of a design (Bluespec reference guide, "Registers", "FIFOs", "Wires").
-use Rattle.std.specs.Prelude.{◌≡◌, ℕ, Bool, true, false, cond, List, [], ◌∷◌, map, length, slice_get, slice_set, Option, Some, None}
+use Rattle.std.specs.Prelude.{◌≡◌, ℕ, Bool, false, cond, List, [], ◌∷◌, map, slice_get, slice_set, Option, Some, None}
 use Rattle.bsv_bits.specs.Words.{Bits, zero_word}
 use Rattle.bsv_prim.specs.declared.part.Part.{Part}
 use Rattle.bsv_prim.specs.declared.part.Part.TheVariants as part

@@ -1,6 +1,6 @@
 -- What an element does, with a word for each call of a value method: its trace. It is the same thing of an element as it
 -- stands in the text and of its flat body (Bluespec reference guide, "Rules", "Implicit conditions").
-use Rattle.std.specs.Prelude.{ℕ, zero, suc, ◌+◌, Bool, true, false, List, [], ◌∷◌, ◌++◌, map, length, codes, slice_get, Option, Some, None, option_map}
+use Rattle.std.specs.Prelude.{ℕ, zero, suc, ◌+◌, Bool, true, false, List, [], ◌∷◌, ◌++◌, map, codes, slice_get, Option, Some, None, option_map}
 use Rattle.bsv_bits.specs.Words.{Bits}
 use Rattle.bsv_types.specs.declared.modules.Method.{Method}
 use Rattle.bsv_types.specs.declared.modules.Module.{Module}
@@ -16,7 +16,6 @@ use Rattle.bsv_design.specs.declared.tree.Instance.{Instance}
 use Rattle.bsv_design.specs.declared.tree.Made.{Made}
 use Rattle.bsv_design.specs.declared.tree.Made.TheVariants as made
 use Rattle.bsv_design.specs.Bodies.{Target, target, Answers, at, words}
-use Rattle.bsv_design.specs.Calls.{made_of}
 use Rattle.bsv_design.specs.Kinds.{kind_table}
 use Rattle.bsv_design.specs.Running.{SiteCall, Need, Happening, word_of, is_one, happening}
 

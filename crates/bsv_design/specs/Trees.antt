@@ -7,7 +7,6 @@ use Rattle.bsv_types.specs.declared.modules.Method.{Method}
 use Rattle.bsv_types.specs.declared.modules.Module.{Module}
 use Rattle.bsv_types.specs.declared.modules.Rule.{Rule}
 use Rattle.bsv_types.specs.declared.typed.Typed.{Typed}
-use Rattle.bsv_types.specs.declared.types.PartTy.{PartTy}
 use Rattle.bsv_types.specs.Expressions.{Slot, one, many, Frame, World}
 use Rattle.bsv_types.specs.Kinds.{Kind as Sort, part, bare, kind}
 use Rattle.bsv_types.specs.Methods.{methods}

@@ -1,6 +1,7 @@
 -- The widths of the nodes of a flat body, in bits. A node has one where its operands have the widths that its operator
 -- needs (Bluespec reference guide, "Bit, UInt and Int").
-use Rattle.std.specs.Prelude.{ℕ, ◌+◌, ◌-◌, ◌==◌, nat_le, nat_lt, Bool, true, false, not, ◌&&◌, List, [], ◌∷◌, ◌++◌, length, slice_get, Option, Some, None, option_map, if◌then◌else◌}
+use Rattle.std.specs.Prelude.{ℕ, ◌+◌, ◌-◌, ◌==◌, ◌^◌, nat_le, nat_lt, Bool, true, false, not, ◌&&◌, List, [], ◌∷◌, ◌++◌, length, slice_get, Option, Some, None, option_map, if◌then◌else◌}
+use Rattle.bsv_bits.specs.Words.{Bits}
 use Rattle.bsv_bits.specs.Operators.{is_shift}
 use Rattle.bsv_bits.specs.declared.operator.Operator.{Operator}
 use Rattle.bsv_bits.specs.declared.operator.Operator.TheVariants as operator
@@ -21,6 +22,10 @@ has_width (Some w) width = w == width
 abbrev pub if_width : Bool → ℕ → Option ℕ
 if_width true width = Some width
 if_width false width = None
+
+-- a word has 1 to 128 bits, and no value that they can't hold
+abbrev pub word_width : Bits → Option ℕ
+word_width w = if_width (nat_le 1 w.width && nat_le w.width 128 && nat_lt w.value (2 ^ w.width)) w.width
 
 -- a comparison gives one bit
 abbrev pub gives_bit : Operator → Bool
@@ -75,7 +80,7 @@ if_some (Some w) f = f w
 module _ (ports : List Port) (ks : List Kind) (cs : List Call) where
   -- the width of a node behind nodes of these widths
   abbrev pub node_width : List ℕ → Node → Option ℕ
-  node_width ws (node.Constant w) = Some w.width
+  node_width ws (node.Constant w) = word_width w
   node_width ws (node.Argument k) = option_map (λ p. p.width) (slice_get ports k)
   node_width ws (node.Result c) = result_width ks ws (slice_get cs c)
   node_width ws (node.Not a) = slice_get ws a

@@ -26,7 +26,8 @@ impl Requests {
         ensures fit { IfOk result (λ requests.
             states.AskingFits design.now.elements (asking requests)) }
     {
-        unasked(alloc, design)
+        let requests = unasked(alloc, design)?;
+        Ok(requests)
     }
 }
 
