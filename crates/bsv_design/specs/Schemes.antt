@@ -7,15 +7,14 @@ use Rattle.bsv_design.specs.declared.element.Element.{Element}
 use Rattle.bsv_design.specs.declared.element.Port.{Port}
 use Rattle.bsv_design.specs.declared.element.Role.{Role}
 use Rattle.bsv_design.specs.declared.kind.Kind.{Kind}
+use Rattle.bsv_design.specs.declared.source.Source.{Source}
 use Rattle.bsv_design.specs.declared.tree.Assert.{Assert}
 use Rattle.bsv_design.specs.declared.tree.Instance.{Instance}
-use Rattle.bsv_design.specs.declared.tree.Made.{Made}
-use Rattle.bsv_design.specs.declared.tree.Made.TheVariants as made
 use Rattle.bsv_design.specs.declared.tree.Pair.{Pair}
 use Rattle.bsv_design.specs.Bodies.{Target, target, Answers}
 use Rattle.bsv_design.specs.Designs.{Blueprint}
 use Rattle.bsv_design.specs.Kinds.{kind_table}
-use Rattle.bsv_design.specs.Sources.{Source, source_at, element_count}
+use Rattle.bsv_design.specs.Sources.{source_at, element_count, parts_among}
 use Rattle.bsv_design.specs.Traces.{Site, Demand, Trace, kind_at, target_of, body_trace, step_trace}
 use Rattle.bsv_design.specs.Trees.{Hierarchy}
 use Rattle.bsv_design.specs.Uses.{uses}
@@ -68,14 +67,6 @@ design_scheme b = record {
   asserts = b.asserts;
 }
 
-abbrev pub kind_made : Made → List Kind
-kind_made (made.Primitive p k) = k ∷ []
-kind_made (made.Module b) = []
-
-abbrev pub kinds_among : List Instance → List Kind
-kinds_among [] = []
-kinds_among (i ∷ is) = kind_made i.made ++ kinds_among is
-
 abbrev pub outline_of : Source → Outline
 outline_of s = record { name = s.name; role = s.role; ports = s.ports }
 
@@ -99,7 +90,7 @@ carried_trace h (Some s) r arguments = step_trace h.typed.modules h.instances s.
 -- the elements as text
 unfoldable pub tree_scheme : Hierarchy → Scheme
 tree_scheme h = record {
-  kinds = kinds_among h.instances;
+  kinds = map (λ p. p.kind) (parts_among h.instances);
   elements = outlines_below h (element_count h);
   uses = λ n. uses_of h.instances (source_at h n);
   trace = λ n. carried_trace h (source_at h n);

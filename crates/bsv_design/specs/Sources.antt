@@ -1,6 +1,6 @@
 -- The elements of a tree: the methods of the top, in the order of its interface, and then the rules, in building order
 -- (Bluespec reference guide, "Rules", "Module and interface instantiation"). Each is carried out alone.
-use Rattle.std.specs.Prelude.{ℕ, ◌+◌, ◌==◌, nat_lt, List, [], ◌∷◌, map, take, length, slice_get, Option, Some, None, Result, Ok, Err, if◌then◌else◌}
+use Rattle.std.specs.Prelude.{ℕ, ◌+◌, ◌==◌, nat_lt, List, [], ◌∷◌, ◌++◌, map, take, length, slice_get, Option, Some, None, Result, Ok, Err, if◌then◌else◌}
 use Rattle.bsv_types.specs.declared.definitions.MethodResult.{MethodResult}
 use Rattle.bsv_types.specs.declared.definitions.MethodResult.TheVariants as result
 use Rattle.bsv_types.specs.declared.definitions.Param.{Param}
@@ -12,8 +12,8 @@ use Rattle.bsv_types.specs.Shapes.{Shapes}
 use Rattle.bsv_design.specs.declared.element.Port.{Port}
 use Rattle.bsv_design.specs.declared.element.Role.{Role}
 use Rattle.bsv_design.specs.declared.element.Role.TheVariants as role
-use Rattle.bsv_design.specs.declared.steps.Atom.{Atom}
-use Rattle.bsv_design.specs.declared.steps.Step.{Step}
+use Rattle.bsv_design.specs.declared.design.NamedPart.{NamedPart}
+use Rattle.bsv_design.specs.declared.source.Source.{Source}
 use Rattle.bsv_design.specs.declared.tree.Built.{Built}
 use Rattle.bsv_design.specs.declared.tree.BuiltRule.{BuiltRule}
 use Rattle.bsv_design.specs.declared.tree.Instance.{Instance}
@@ -29,15 +29,6 @@ use Rattle.bsv_design.specs.Traces.{with_dot}
 use Rattle.bsv_design.specs.Trees.{Hierarchy, shapes, methods_of, rule_count, site_of}
 use Rattle.bsv_design.specs.Values.{atom_of}
 use Rattle.bsv_design.specs.Working.{Valued, no_steps}
-
--- an element as it was carried out
-pub record Source : Type 0 where
-  pub name : List ℕ
-  pub role : Role
-  pub ports : List Port
-  pub steps : List Step
-  -- the word that it gives
-  pub gives : Option Atom
 
 abbrev pub role_of : MethodResult → Role
 role_of (result.Value t) = role.Value
@@ -106,6 +97,17 @@ rule_carried h r (Some source) =
 abbrev pub rule_source : Hierarchy → Option Standing → Option Source
 rule_source h None = None
 rule_source h (Some r) = rule_carried h r (rule_text (slice_get h.typed.modules r.built.«module») r.rule.rule)
+
+-- ---- primitives
+
+abbrev pub part_made : List ℕ → Made → List NamedPart
+part_made path (made.Primitive p k) = record { path = path; kind = k } ∷ []
+part_made path (made.Module b) = []
+
+-- the primitives, in building order
+abbrev pub parts_among : List Instance → List NamedPart
+parts_among [] = []
+parts_among (i ∷ is) = part_made i.path i.made ++ parts_among is
 
 -- ---- all elements
 

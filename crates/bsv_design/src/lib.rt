@@ -3,9 +3,10 @@
 //! Modules in reading order: `names` (the names of the methods), `kind` (the nine kinds), `statics` (what
 //! the variables of a module are), `steps` (what is left to do of an element), `values` (what carrying out
 //! speaks of), `tree` (the instances), `whole` (the tree, and what holds of it), `node` and `element` (an
-//! element as a flat body), `design` (the design of such elements, and what holds of it), `state`,
-//! `requests`, `fired` and `schedule` (what a clock takes and gives). The tables stand in `specs/Kinds.antt`,
-//! the names in `specs/MethodNames.antt`, and what all later definitions speak of in `specs/Schemes.antt`.
+//! element as a flat body), `source` (an element as it was carried out), `design` (the design of such
+//! bodies, and what holds of it), `state`, `requests`, `fired` and `schedule` (what a clock takes and
+//! gives). The tables stand in `specs/Kinds.antt`, the names in `specs/MethodNames.antt`, and what all
+//! later definitions speak of in `specs/Schemes.antt`.
 #![tactic(auto)]
 
 mod design;
@@ -17,6 +18,7 @@ mod names;
 mod node;
 mod requests;
 mod schedule;
+mod source;
 mod state;
 mod statics;
 mod steps;
@@ -34,6 +36,7 @@ pub use kind::Kind;
 pub use node::{Branch, Node};
 pub use requests::Requests;
 pub use schedule::{Guards, Need, Schedule};
+pub use source::Source;
 pub use state::State;
 pub use statics::{Binding, Static};
 pub use steps::{Arm, Atom, Choice, Compute, MethodPlace, Step};
