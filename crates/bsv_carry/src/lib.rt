@@ -32,4 +32,5 @@ pub use count::tick;
 pub use fault::{Counted, Got};
 pub use frame::{Locals, front, no_variables};
 pub use site::Site;
+pub use value::atom_of;
 pub use work::{Valued, no_steps};

@@ -16,7 +16,7 @@ pub(crate) fn constant_word(constant: Constant) -> Word
 }
 
 /// The word that a step names for the value.
-pub(crate) fn atom_of(value: Value) -> Atom
+pub fn atom_of(value: Value) -> Atom
     ensures { result ≡ spec.atom_of value }
 {
     match value {
