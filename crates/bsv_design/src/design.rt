@@ -47,13 +47,13 @@ impl Design {
         pairs: Items<Pair>,
         asserts: Items<Assert>,
     ) -> Design
-        requires { IsDesign (record {
+        requires { ∥ IsDesign (record {
           name = name;
           elements = elements;
           parts = parts;
           pairs = pairs;
           asserts = asserts;
-        }) }
+        }) ∥₁ }
         ensures name { result.name ≡ name }
         ensures elements { result.elements ≡ elements }
         ensures parts { result.parts ≡ parts }
