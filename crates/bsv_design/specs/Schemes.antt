@@ -14,7 +14,7 @@ use Rattle.bsv_design.specs.declared.tree.Pair.{Pair}
 use Rattle.bsv_design.specs.Bodies.{Target, target, Answers}
 use Rattle.bsv_design.specs.Designs.{Blueprint}
 use Rattle.bsv_design.specs.Kinds.{kind_table}
-use Rattle.bsv_design.specs.Sources.{source_at, element_count, parts_among}
+use Rattle.bsv_design.specs.Sources.{element_at, element_count, parts_among}
 use Rattle.bsv_design.specs.Traces.{Site, Demand, Trace, kind_at, target_of, body_trace, step_trace}
 use Rattle.bsv_design.specs.Trees.{Hierarchy}
 use Rattle.bsv_design.specs.Uses.{uses}
@@ -77,7 +77,7 @@ outline_at (Some s) = outline_of s ∷ []
 
 abbrev pub outlines_below : Hierarchy → ℕ → List Outline
 outlines_below h zero = []
-outlines_below h (suc n) = outlines_below h n ++ outline_at (source_at h n)
+outlines_below h (suc n) = outlines_below h n ++ outline_at (element_at h n)
 
 abbrev pub uses_of : List Instance → Option Source → List Target
 uses_of is None = []
@@ -92,8 +92,8 @@ unfoldable pub tree_scheme : Hierarchy → Scheme
 tree_scheme h = record {
   kinds = map (λ p. p.kind) (parts_among h.instances);
   elements = outlines_below h (element_count h);
-  uses = λ n. uses_of h.instances (source_at h n);
-  trace = λ n. carried_trace h (source_at h n);
+  uses = λ n. uses_of h.instances (element_at h n);
+  trace = λ n. carried_trace h (element_at h n);
   pairs = h.pairs;
   asserts = h.asserts;
 }

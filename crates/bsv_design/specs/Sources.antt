@@ -122,7 +122,11 @@ top_source h n _ = None
 unfoldable pub element_count : Hierarchy → ℕ
 element_count h = length (top_methods h) + rule_count h.instances
 
--- the element of a position
+-- what has a position
 unfoldable pub source_at : Hierarchy → ℕ → Option Source
 source_at h n =
     if nat_lt n (length (top_methods h)) then top_source h n (made_of (slice_get h.instances 0)) else rule_source h (rule_at h.instances n)
+
+-- the element of a position
+abbrev pub element_at : Hierarchy → ℕ → Option Source
+element_at h n = if nat_lt n (element_count h) then source_at h n else None
