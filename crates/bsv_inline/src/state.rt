@@ -2,9 +2,10 @@ ghost use Rattle.std.specs.Prelude.{◌≡◌, ◌+◌, length, OnOk, IfOk};
 ghost use Rattle.bsv_inline.specs.Leaving.{Leaves};
 ghost use Rattle.bsv_inline.specs.Flat as spec;
 
-use crate::node::{Call, Condition, Node};
+use crate::calls::{Call, Condition};
 use bsv_bits::OutOfMemory;
 use bsv_carry::front;
+use bsv_design::Node;
 use sqlite_items::Items;
 use std::alloc::{AllocError, Global};
 use std::mem::replace;
