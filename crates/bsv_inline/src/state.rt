@@ -42,7 +42,7 @@ pub(crate) fn numbered(count: usize) -> Laid<u32>
 }
 
 /// The number behind this one.
-fn next(number: u32) -> Laid<u32>
+pub(crate) fn next(number: u32) -> Laid<u32>
     ensures { IfOk result (λ n. n ≡ number + 1) }
 {
     match number.checked_add(1) {
