@@ -6,3 +6,5 @@ pub mod Words
 pub mod StepsSame
 pub mod ArmsSame
 pub mod Whole
+pub mod PartNumbers
+pub mod SameTrace

@@ -1,6 +1,6 @@
 -- The arguments stand one after the other.
-use Rattle.std.proofs.Common.{◌≡◌, ℕ, zero, suc, ◌+◌, ◌-◌, ◌<◌, ◌≤◌, ap, refl, arith}
-use Rattle.bsv_inline.specs.declared.node.Node.TheVariants as node
+use Rattle.std.proofs.Common.{◌≡◌, ℕ, suc, ◌+◌, ◌-◌, ◌<◌, ◌≤◌, ap, arith}
+use Rattle.bsv_design.specs.declared.node.Node.TheVariants as node
 use Rattle.bsv_inline.specs.declared.state.State.{State}
 use Rattle.bsv_inline.specs.Flat.{stand}
 use Rattle.bsv_inline.specs.Opening.{arguments_from}

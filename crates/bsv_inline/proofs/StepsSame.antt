@@ -1,5 +1,5 @@
 -- A step's nodes do what the step does.
-use Rattle.std.proofs.Common.{◌≡◌, ◌∙◌, ℕ, zero, suc, ◌+◌, Bool, true, false, List, [], ◌∷◌, ◌++◌, length, map, Option, Some, None, refl, sym, ap, ap₂, subst, arith, append_assoc, append-nil, length-append}
+use Rattle.std.proofs.Common.{◌≡◌, ◌∙◌, ℕ, suc, ◌+◌, Bool, true, false, List, [], ◌∷◌, ◌++◌, length, Option, Some, refl, sym, ap, ap₂, subst, arith, append_assoc, append-nil, length-append}
 use Rattle.std.specs.Prelude.{slice_get}
 use Rattle.bsv_bits.specs.Words.{Bits, bit}
 use Rattle.bsv_design.specs.declared.steps.Atom.{Atom}
@@ -7,15 +7,15 @@ use Rattle.bsv_design.specs.declared.steps.Compute.{Compute}
 use Rattle.bsv_design.specs.declared.steps.MethodPlace.{MethodPlace}
 use Rattle.bsv_design.specs.Running as steps
 use Rattle.bsv_design.specs.Running.{Results, Run, Standing, Happening, SiteCall, Need, followed, quiet, word_of, words_of, is_one}
-use Rattle.bsv_inline.specs.declared.node.Call.{Call}
-use Rattle.bsv_inline.specs.declared.node.Condition.{Condition}
-use Rattle.bsv_inline.specs.declared.node.Node.TheVariants as node
+use Rattle.bsv_inline.specs.declared.calls.Call.{Call}
+use Rattle.bsv_inline.specs.declared.calls.Condition.{Condition}
+use Rattle.bsv_design.specs.declared.node.Node.TheVariants as node
 use Rattle.bsv_inline.specs.declared.state.Asked.{Asked}
 use Rattle.bsv_inline.specs.declared.state.State.{State}
-use Rattle.bsv_inline.specs.Bodies.{Shows, stands, IsSite, AreSites, IsNeed, AreNeeds}
-use Rattle.bsv_inline.specs.Flat.{Flat, Spot, no, nothing, both, stand, operand, operands, compute, one_call, call_at, with_call, with_condition, in_turn_from, in_turn, called, read, act, needed}
-use Rattle.bsv_inline.specs.Nodes.{at, answer}
-use Rattle.bsv_inline.proofs.Words.{Within, shows_within, shows_words, seen, word_at, Keeps, keeps_shows, operand_worth, operands_worth, Worth, Worths, StandsMore, stand_more, compute_worth}
+use Rattle.bsv_inline.specs.Bodies.{Shows, AreSites, AreNeeds}
+use Rattle.bsv_inline.specs.Flat.{Flat, Spot, no, nothing, both, operand, operands, compute, one_call, in_turn_from, in_turn, called, read, act, needed}
+use Rattle.bsv_inline.specs.Nodes.{answer}
+use Rattle.bsv_inline.proofs.Words.{Within, shows_within, shows_words, seen, word_at, keeps_shows, operand_worth, operands_worth, stand_more, compute_worth}
 
 -- ---- calls and conditions
 
@@ -61,7 +61,7 @@ holds_right full (x ∷ xs) ys k h = let e : k + 1 + length xs ≡ k + suc (leng
 -- where steps stand; and the node that is 0
 pub record IsSpot (vs : List Bits) (p : Spot) (q : Standing) : Type 0 where
   pub taken : slice_get vs p.taken ≡ Some (bit q.taken)
-  pub branches : map stands p.branches ≡ q.branches
+  pub branches : p.branches ≡ q.branches
   pub none : slice_get vs no ≡ Some (bit false)
 
 pub spot_within : (vs ws : List Bits) → Within vs ws → (p : Spot) (q : Standing) → IsSpot vs p q → IsSpot ws p q
@@ -78,14 +78,15 @@ module _ (r : Results) (arguments : List Bits) (full : List Call) where
     pub longer : m.1.slots ≡ s.slots ++ more
     pub shows : Shows (words m.1) m.1.slots o.words
     pub choices : m.1.choices ≡ o.choices
+    pub sites : m.1.calls ≡ o.sites
     pub counted : m.1.calls ≡ s.calls + length m.0.calls
     pub calls : AreSites (words m.1) m.0.calls o.calls
     pub needs : AreNeeds (words m.1) m.0.conditions o.needs
 
   -- the nodes of steps, and what these do
   abbrev pub Matches : Flat → Run → Type 0
-  Matches f o = (p : Spot) (q : Standing) (s : State) (ws : List Bits) (n : ℕ) → Shows (words s) s.slots ws → IsSpot (words s) p q → s.choices ≡ n
-      → Holds full s.calls (f p s).0.calls → Follows s (f p s) (o r q ws n)
+  Matches f o = (p : Spot) (q : Standing) (s : State) (ws : List Bits) (n k : ℕ) → Shows (words s) s.slots ws → IsSpot (words s) p q → s.choices ≡ n → s.calls ≡ k
+      → Holds full s.calls (f p s).0.calls → Follows s (f p s) (o r q ws n k)
 
   -- ---- one after the other
 
@@ -123,6 +124,7 @@ module _ (r : Results) (arguments : List Bits) (full : List Call) where
     longer = k.longer ∙ ap (λ (ks : List ℕ). ks ++ k.more) h.longer ∙ append_assoc s.slots h.more k.more;
     shows = k.shows;
     choices = k.choices;
+    sites = k.sites;
     counted = omega (arith, h.counted, k.counted, length-append a.0.calls b.0.calls);
     calls = sites_append _ a.0.calls o.calls b.0.calls u.calls (sites_within _ _ k.within a.0.calls o.calls h.calls) k.calls;
     needs = needs_append _ a.0.conditions o.needs b.0.conditions u.needs (needs_within _ _ k.within a.0.conditions o.needs h.needs) k.needs;
@@ -130,33 +132,33 @@ module _ (r : Results) (arguments : List Bits) (full : List Call) where
 
   pub in_turn_same : (fs : List Flat) (os : List Run) → AllMatch fs os → Matches (in_turn fs) (steps.in_turn os)
   unfolding in_turn in_turn_from steps.in_turn
-  in_turn_same [] [] h p q s ws n shows spot e holds = record { within = λ k w i. i; more = []; longer = sym (append-nil s.slots); shows = shows; choices = e; counted = omega arith; calls = tt; needs = tt }
-  in_turn_same (f ∷ fs) (o ∷ os) h p q s ws n shows spot e holds =
+  in_turn_same [] [] h p q s ws n k shows spot e i holds = record { within = λ k w i. i; more = []; longer = sym (append-nil s.slots); shows = shows; choices = e; sites = i; counted = omega arith; calls = tt; needs = tt }
+  in_turn_same (f ∷ fs) (o ∷ os) h p q s ws n k shows spot e i holds =
       let a = f p s in
-      let u = o r q ws n in
+      let u = o r q ws n k in
       let rest = in_turn fs p a.1 in
       let all : Holds full s.calls (a.0.calls ++ rest.0.calls) = subst (λ (m : Asked × State). Holds full s.calls m.0.calls) (in_turn_one f fs p s) holds in
-      let first = h.0 p q s ws n shows spot e (holds_left full a.0.calls rest.0.calls s.calls all) in
-      let behind = in_turn_same fs os h.1 p q a.1 u.words u.choices first.shows (spot_within _ _ first.within p q spot) first.choices
+      let first = h.0 p q s ws n k shows spot e i (holds_left full a.0.calls rest.0.calls s.calls all) in
+      let behind = in_turn_same fs os h.1 p q a.1 u.words u.choices u.sites first.shows (spot_within _ _ first.within p q spot) first.choices first.sites
       (subst (λ k. Holds full k rest.0.calls) (sym first.counted) (holds_right full a.0.calls rest.0.calls s.calls all)) in
-      subst (λ (m : Asked × State). Follows s m (followed u (steps.in_turn os r q u.words u.choices))) (sym (in_turn_one f fs p s)) (follows_then s a rest u _ first behind)
-  in_turn_same [] (o ∷ os) h p q s ws n shows spot e holds = absurd h
-  in_turn_same (f ∷ fs) [] h p q s ws n shows spot e holds = absurd h
+      subst (λ (m : Asked × State). Follows s m (followed u (steps.in_turn os r q u.words u.choices u.sites))) (sym (in_turn_one f fs p s)) (follows_then s a rest u _ first behind)
+  in_turn_same [] (o ∷ os) h p q s ws n k shows spot e i holds = absurd h
+  in_turn_same (f ∷ fs) [] h p q s ws n k shows spot e i holds = absurd h
 
   -- ---- the steps, one by one
 
-  pub let_same : (c : Compute) → Matches (λ p s. (nothing, compute c s)) (λ r q ws n. quiet (ws ++ steps.computed ws c ∷ []) n)
-  let_same c p q s ws n shows spot e holds =
+  pub let_same : (c : Compute) → Matches (λ p s. (nothing, compute c s)) (λ r q ws n k. quiet (ws ++ steps.computed ws c ∷ []) n k)
+  let_same c p q s ws n k shows spot e i holds =
       let h = compute_worth r arguments full c s ws shows in
-      record { within = h.within; more = h.slot ∷ []; longer = h.longer; shows = h.shows; choices = h.choices ∙ e; counted = omega (arith, h.calls); calls = tt; needs = tt }
+      record { within = h.within; more = h.slot ∷ []; longer = h.longer; shows = h.shows; choices = h.choices ∙ e; sites = h.calls ∙ i; counted = omega (arith, h.calls); calls = tt; needs = tt }
 
   pub need_same : (name : Option MethodPlace) (x : Atom) (fs : List Flat) (os : List Run) → AllMatch fs os
-      → Matches (needed name x fs) (λ r q ws n. let a = steps.in_turn os r q ws n in record a { needs = record { name = name; truth = is_one (word_of a.words x); taken = q.taken } ∷ a.needs })
+      → Matches (needed name x fs) (λ r q ws n k. let a = steps.in_turn os r q ws n k in record a { needs = record { name = name; truth = is_one (word_of a.words x); taken = q.taken } ∷ a.needs })
   unfolding needed
-  need_same name x fs os all p q s ws n shows spot e holds =
+  need_same name x fs os all p q s ws n k shows spot e i holds =
       let a = in_turn fs p s in
-      let u = steps.in_turn os r q ws n in
-      let f = in_turn_same fs os all p q s ws n shows spot e holds in
+      let u = steps.in_turn os r q ws n k in
+      let f = in_turn_same fs os all p q s ws n k shows spot e i holds in
       let o = operand x a.1 in
       let h = operand_worth r arguments full x a.1 u.words f.shows in
       record {
@@ -165,6 +167,7 @@ module _ (r : Results) (arguments : List Bits) (full : List Call) where
         longer = h.keeps.slots ∙ f.longer;
         shows = keeps_shows r arguments full a.1 o.1 u.words h.keeps f.shows;
         choices = h.keeps.choices ∙ f.choices;
+        sites = h.keeps.calls ∙ f.sites;
         counted = omega (arith, h.keeps.calls, f.counted);
         calls = sites_within _ _ h.keeps.within a.0.calls u.calls f.calls;
         needs = (record { name = refl; word = word_of u.words x; truth = h.word; holds = refl; taken = h.keeps.within _ _ (f.within _ _ spot.taken) }, needs_within _ _ h.keeps.within a.0.conditions u.needs f.needs);
@@ -174,23 +177,23 @@ module _ (r : Results) (arguments : List Bits) (full : List Call) where
   record Calls (s : State) (c : (ℕ × Asked) × State) (o : Happening) (m : MethodPlace) (given : List Bits) : Type 0 where
     follows : Follows s (c.0.1, c.1) o
     place : c.0.0 ≡ s.calls
-    answers : slice_get full s.calls ≡ slice_get full s.calls → answer r (words c.1) (slice_get full s.calls) ≡ r m given
+    answers : answer r s.calls (words c.1) (slice_get full s.calls) ≡ r s.calls m given
 
   abbrev happens : Bool → MethodPlace → List Atom → List Run → Run
-  happens action m xs os r q ws n =
-      let a = steps.in_turn os r q ws n in
-      record { words = a.words; choices = a.choices; calls = record { method = m; action = action; taken = q.taken; branches = q.branches; arguments = words_of a.words xs } ∷ a.calls; needs = a.needs }
+  happens action m xs os r q ws n k =
+      let a = steps.in_turn os r q ws n (k + 1) in
+      record { words = a.words; choices = a.choices; sites = a.sites; calls = record { method = m; action = action; taken = q.taken; branches = q.branches; arguments = words_of a.words xs } ∷ a.calls; needs = a.needs }
 
   called_same : (action : Bool) (m : MethodPlace) (xs : List Atom) (fs : List Flat) (os : List Run) → AllMatch fs os
-      → (p : Spot) (q : Standing) (s : State) (ws : List Bits) (n : ℕ) → Shows (words s) s.slots ws → IsSpot (words s) p q → s.choices ≡ n
+      → (p : Spot) (q : Standing) (s : State) (ws : List Bits) (n k : ℕ) → Shows (words s) s.slots ws → IsSpot (words s) p q → s.choices ≡ n → s.calls ≡ k
       → Holds full s.calls (called action m xs fs p s).0.1.calls
-      → Calls s (called action m xs fs p s) (happens action m xs os r q ws n) m (words_of (steps.in_turn os r q ws n).words xs)
+      → Calls s (called action m xs fs p s) (happens action m xs os r q ws n k) m (words_of (steps.in_turn os r q ws n (k + 1)).words xs)
   unfolding called
-  called_same action m xs fs os all p q s ws n shows spot e holds =
+  called_same action m xs fs os all p q s ws n k shows spot e i holds =
       let z = (one_call s).1 in
       let a = in_turn fs p z in
-      let u = steps.in_turn os r q ws n in
-      let f = in_turn_same fs os all p q z ws n shows spot e holds.1 in
+      let u = steps.in_turn os r q ws n (k + 1) in
+      let f = in_turn_same fs os all p q z ws n (k + 1) shows spot e (ap (λ (j : ℕ). j + 1) i) holds.1 in
       let x = operands xs a.1 in
       let h = operands_worth r arguments full xs a.1 u.words f.shows in
       record {
@@ -200,19 +203,20 @@ module _ (r : Results) (arguments : List Bits) (full : List Call) where
           longer = h.keeps.slots ∙ f.longer;
           shows = keeps_shows r arguments full a.1 x.1 u.words h.keeps f.shows;
           choices = h.keeps.choices ∙ f.choices;
+          sites = h.keeps.calls ∙ f.sites;
           counted = omega (arith, h.keeps.calls, f.counted);
           calls = (record { method = refl; action = refl; taken = h.keeps.within _ _ (f.within _ _ spot.taken); branches = spot.branches; arguments = h.words }, sites_within _ _ h.keeps.within a.0.calls u.calls f.calls);
           needs = needs_within _ _ h.keeps.within a.0.conditions u.needs f.needs;
         };
         place = refl;
-        answers = λ i. ap (answer r (words x.1)) holds.0 ∙ ap (r m) (shows_words _ x.0 (words_of u.words xs) h.words);
+        answers = ap (answer r s.calls (words x.1)) holds.0 ∙ ap (r s.calls m) (shows_words _ x.0 (words_of u.words xs) h.words);
       }
 
   pub act_same : (m : MethodPlace) (xs : List Atom) (fs : List Flat) (os : List Run) → AllMatch fs os
       → Matches (act m xs fs) (steps.call_run true m xs os (λ given. []))
-  act_same m xs fs os all p q s ws n shows spot e holds =
-      let u = steps.in_turn os r q ws n in
-      let c = called_same true m xs fs os all p q s ws n shows spot e holds in
+  act_same m xs fs os all p q s ws n k shows spot e i holds =
+      let u = steps.in_turn os r q ws n (k + 1) in
+      let c = called_same true m xs fs os all p q s ws n k shows spot e i holds in
       let f = c.follows in
       record {
         within = f.within;
@@ -220,27 +224,30 @@ module _ (r : Results) (arguments : List Bits) (full : List Call) where
         longer = f.longer;
         shows = subst (λ us. Shows (words (called true m xs fs p s).1) (called true m xs fs p s).1.slots us) (sym (append-nil u.words)) f.shows;
         choices = f.choices;
+        sites = f.sites;
         counted = f.counted;
         calls = f.calls;
         needs = f.needs;
       }
 
   pub read_same : (m : MethodPlace) (xs : List Atom) (fs : List Flat) (os : List Run) → AllMatch fs os
-      → Matches (read m xs fs) (steps.call_run false m xs os (λ given. r m given ∷ []))
-  read_same m xs fs os all p q s ws n shows spot e holds =
-      let u = steps.in_turn os r q ws n in
+      → Matches (read m xs fs) (λ r q ws n k. steps.call_run false m xs os (λ given. r k m given ∷ []) r q ws n k)
+  read_same m xs fs os all p q s ws n k shows spot e i holds =
+      let u = steps.in_turn os r q ws n (k + 1) in
       let given = called false m xs fs p s in
-      let c = called_same false m xs fs os all p q s ws n shows spot e holds in
+      let c = called_same false m xs fs os all p q s ws n k shows spot e i holds in
       let f = c.follows in
       let node = node.Result given.0.0 in
-      let is : word_at r arguments full (words given.1) node ≡ r m (words_of u.words xs) = ap (λ k. answer r (words given.1) (slice_get full k)) c.place ∙ c.answers refl in
-      let h = stand_more r arguments full node given.1 given.1 u.words (r m (words_of u.words xs)) (record { within = λ k w i. i; slots = refl; calls = refl; choices = refl }) f.shows is in
+      let is : word_at r arguments full (words given.1) node ≡ r k m (words_of u.words xs) =
+      ap (λ (j : ℕ). answer r j (words given.1) (slice_get full j)) c.place ∙ c.answers ∙ ap (λ (j : ℕ). r j m (words_of u.words xs)) i in
+      let h = stand_more r arguments full node given.1 given.1 u.words (r k m (words_of u.words xs)) (record { within = λ k w i. i; slots = refl; calls = refl; choices = refl }) f.shows is in
       record {
         within = λ k w i. h.within k w (f.within k w i);
         more = f.more ++ h.slot ∷ [];
         longer = h.longer ∙ ap (λ (ks : List ℕ). ks ++ h.slot ∷ []) f.longer ∙ append_assoc s.slots f.more (h.slot ∷ []);
         shows = h.shows;
         choices = h.choices ∙ f.choices;
+        sites = h.calls ∙ f.sites;
         counted = omega (arith, h.calls, f.counted);
         calls = sites_within _ _ h.within given.0.1.calls _ f.calls;
         needs = needs_within _ _ h.within given.0.1.conditions _ f.needs;

@@ -1,5 +1,5 @@
 -- A whole body does what its steps do.
-use Rattle.std.proofs.Common.{◌≡◌, ◌∙◌, ℕ, zero, suc, ◌+◌, Bool, true, false, List, [], ◌∷◌, ◌++◌, map, length, drop, Option, Some, None, refl, sym, ap, subst, arith, append_assoc, append-nil, length-append}
+use Rattle.std.proofs.Common.{◌≡◌, ◌∙◌, ℕ, ◌+◌, true, false, List, [], ◌∷◌, ◌++◌, map, length, Option, Some, None, refl, sym, ap, subst, arith, append_assoc, append-nil, length-append}
 use Rattle.std.specs.Prelude.{slice_get}
 use Rattle.bsv_bits.specs.Words.{Bits, bit}
 use Rattle.bsv_design.specs.declared.steps.Arm.{Arm, roll-Arm, map-Arm, fold-Arm, fold-roll-Arm}
@@ -10,18 +10,17 @@ use Rattle.bsv_design.specs.declared.steps.Step.TheOpen.{Step-F, Choice-F, Arm-F
 use Rattle.bsv_design.specs.Running as steps
 use Rattle.bsv_design.specs.Running.{Results, Run, happening, or_zero, word_of, step_run, choice_run, arm_run}
 use Rattle.bsv_inline.specs.declared.body.Body.{Body}
-use Rattle.bsv_inline.specs.declared.node.Call.{Call}
-use Rattle.bsv_inline.specs.declared.node.Node.TheVariants as node
+use Rattle.bsv_inline.specs.declared.calls.Call.{Call}
+use Rattle.bsv_design.specs.declared.node.Node.TheVariants as node
 use Rattle.bsv_inline.specs.declared.state.Asked.{Asked}
 use Rattle.bsv_inline.specs.declared.state.State.{State}
 use Rattle.bsv_inline.specs.Bodies.{Shows, AreSites, AreNeeds, IsResult, IsBody}
-use Rattle.bsv_inline.specs.Bodies as bodies
 use Rattle.bsv_inline.specs.Flat as nodes
 use Rattle.bsv_inline.specs.Flat.{Flat, Alternative, Spot, flat, alternative, choice, step_flat, choice_flat, arm_flat, in_turn, put, stand}
 use Rattle.bsv_inline.specs.Nodes.{values}
 use Rattle.bsv_inline.specs.Opening.{no_nodes, arguments_from, opened, given}
-use Rattle.bsv_inline.proofs.Words.{put_within, put_word, keeps_all, operand_worth, shows_append, stand_more, StandsMore}
-use Rattle.bsv_inline.proofs.StepsSame.{Holds, IsSpot, words, Follows, Matches, AllMatch, let_same, need_same, act_same, read_same, in_turn_same, sites_within, needs_within}
+use Rattle.bsv_inline.proofs.Words.{keeps_all, operand_worth, stand_more}
+use Rattle.bsv_inline.proofs.StepsSame.{Holds, words, Follows, Matches, AllMatch, let_same, need_same, act_same, read_same, in_turn_same, sites_within, needs_within}
 use Rattle.bsv_inline.proofs.ArmsSame.{AllAlternatives, none, more, chosen, choose_same}
 
 abbrev run_arm : Arm → steps.Alternative
@@ -188,8 +187,8 @@ module _ (count : ℕ) (ss : List Step) (gives : Option Atom) (r : Results) (arg
   unfolding happening
   follows =
       let b = opened_begun r arguments m.0.calls count long in
-      in_turn_same r arguments m.0.calls (map flat ss) (map steps.run ss) (all_same r arguments m.0.calls ss) whole (record { taken = true; branches = [] }) (opened count) arguments 0
-      b.shows (record { taken = b.yes; branches = refl; none = b.none }) b.choices (subst (λ k. Holds m.0.calls k m.0.calls) (sym b.calls) (holds_after [] m.0.calls))
+      in_turn_same r arguments m.0.calls (map flat ss) (map steps.run ss) (all_same r arguments m.0.calls ss) whole (record { taken = true; branches = [] }) (opened count) arguments 0 0
+      b.shows (record { taken = b.yes; branches = refl; none = b.none }) b.choices b.calls (subst (λ k. Holds m.0.calls k m.0.calls) (sym b.calls) (holds_after [] m.0.calls))
 
   record Ends (g : Option ℕ × State) : Type 0 where
     calls : AreSites (words r arguments m.0.calls g.1) m.0.calls (happening ss r arguments).calls

@@ -6,8 +6,8 @@ use Rattle.bsv_design.specs.declared.steps.Choice.{Choice, out-Choice}
 use Rattle.bsv_design.specs.declared.steps.MethodPlace.{MethodPlace}
 use Rattle.bsv_design.specs.declared.steps.Step.{Step}
 use Rattle.bsv_inline.specs.declared.flattener.Flattener.{Flattener}
-use Rattle.bsv_inline.specs.declared.node.Branch.{Branch}
-use Rattle.bsv_inline.specs.declared.node.Call.{Call}
+use Rattle.bsv_design.specs.declared.node.Branch.{Branch}
+use Rattle.bsv_inline.specs.declared.calls.Call.{Call}
 use Rattle.bsv_inline.specs.declared.state.Asked.{Asked}
 use Rattle.bsv_inline.specs.declared.state.State.{State}
 use Rattle.bsv_inline.specs.declared.choices.Given.{Given}

@@ -1,13 +1,12 @@
 -- What is promised of a flat body: its nodes mean what the steps do, whatever methods give.
-use Rattle.std.specs.Prelude.{◌≡◌, ℕ, Bool, List, [], ◌∷◌, map, length, Option, Some, None, slice_get}
+use Rattle.std.specs.Prelude.{◌≡◌, ℕ, List, [], ◌∷◌, length, Option, Some, None, slice_get}
 use Rattle.bsv_bits.specs.Words.{Bits, bit}
 use Rattle.bsv_design.specs.declared.steps.Atom.{Atom}
 use Rattle.bsv_design.specs.declared.steps.Step.{Step}
-use Rattle.bsv_design.specs.Running.{Results, Branch as Stands, SiteCall, Need, word_of, is_one, happening}
+use Rattle.bsv_design.specs.Running.{Results, SiteCall, Need, word_of, is_one, happening}
 use Rattle.bsv_inline.specs.declared.body.Body.{Body}
-use Rattle.bsv_inline.specs.declared.node.Branch.{Branch}
-use Rattle.bsv_inline.specs.declared.node.Call.{Call}
-use Rattle.bsv_inline.specs.declared.node.Condition.{Condition}
+use Rattle.bsv_inline.specs.declared.calls.Call.{Call}
+use Rattle.bsv_inline.specs.declared.calls.Condition.{Condition}
 use Rattle.bsv_inline.specs.Nodes.{values}
 
 -- the nodes of these numbers have these words
@@ -16,15 +15,12 @@ Shows vs [] [] = Unit {0}
 Shows vs (k ∷ ks) (w ∷ ws) = (slice_get vs k ≡ Some w) × Shows vs ks ws
 Shows vs _ _ = ⊥
 
-abbrev pub stands : Branch → Stands
-stands b = record { choice = b.choice; arm = b.arm }
-
 -- where the nodes have these words, the call is the one at the site
 pub record IsSite (vs : List Bits) (c : Call) (s : SiteCall) : Type 0 where
   pub method : c.method ≡ s.method
   pub action : c.action ≡ s.action
   pub taken : slice_get vs c.taken ≡ Some (bit s.taken)
-  pub branches : map stands c.branches ≡ s.branches
+  pub branches : c.branches ≡ s.branches
   pub arguments : Shows vs c.arguments s.arguments
 
 abbrev pub AreSites : List Bits → List Call → List SiteCall → Type 0

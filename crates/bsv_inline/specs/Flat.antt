@@ -1,5 +1,5 @@
 -- Steps laid out as nodes, one after the other.
-use Rattle.std.specs.Prelude.{ℕ, ◌+◌, Bool, true, false, List, [], ◌∷◌, ◌++◌, map, length, take, slice_get, Option, Some, None, if◌then◌else◌}
+use Rattle.std.specs.Prelude.{ℕ, ◌+◌, Bool, true, false, List, [], ◌∷◌, ◌++◌, length, take, slice_get, Option, Some, None, if◌then◌else◌}
 use Rattle.bsv_bits.specs.Words.{bit}
 use Rattle.bsv_design.specs.declared.steps.Atom.{Atom}
 use Rattle.bsv_design.specs.declared.steps.Atom.TheVariants as atom
@@ -10,11 +10,11 @@ use Rattle.bsv_design.specs.declared.steps.Arm.{Arm, fold-Arm}
 use Rattle.bsv_design.specs.declared.steps.Choice.{Choice, fold-Choice}
 use Rattle.bsv_design.specs.declared.steps.Step.{Step, fold-Step}
 use Rattle.bsv_design.specs.declared.steps.Step.TheOpen.{Step-F, Choice-F, Arm-F}
-use Rattle.bsv_inline.specs.declared.node.Branch.{Branch}
-use Rattle.bsv_inline.specs.declared.node.Call.{Call}
-use Rattle.bsv_inline.specs.declared.node.Condition.{Condition}
-use Rattle.bsv_inline.specs.declared.node.Node.{Node}
-use Rattle.bsv_inline.specs.declared.node.Node.TheVariants as node
+use Rattle.bsv_design.specs.declared.node.Branch.{Branch}
+use Rattle.bsv_inline.specs.declared.calls.Call.{Call}
+use Rattle.bsv_inline.specs.declared.calls.Condition.{Condition}
+use Rattle.bsv_design.specs.declared.node.Node.{Node}
+use Rattle.bsv_design.specs.declared.node.Node.TheVariants as node
 use Rattle.bsv_inline.specs.declared.state.Asked.{Asked}
 use Rattle.bsv_inline.specs.declared.state.State.{State}
 use Rattle.bsv_inline.specs.declared.choices.Given.{Given}

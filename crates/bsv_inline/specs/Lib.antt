@@ -4,3 +4,4 @@ pub mod Flat
 pub mod AtHand
 pub mod Opening
 pub mod Bodies
+pub mod Placed

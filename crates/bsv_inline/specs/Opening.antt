@@ -2,7 +2,7 @@
 use Rattle.std.specs.Prelude.{ℕ, zero, suc, ◌+◌, true, false, [], Option, Some, None}
 use Rattle.bsv_bits.specs.Words.{bit}
 use Rattle.bsv_design.specs.declared.steps.Atom.{Atom}
-use Rattle.bsv_inline.specs.declared.node.Node.TheVariants as node
+use Rattle.bsv_design.specs.declared.node.Node.TheVariants as node
 use Rattle.bsv_inline.specs.declared.state.State.{State}
 use Rattle.bsv_inline.specs.Flat.{put, stand, operand}
 

@@ -4,12 +4,12 @@ ghost use Rattle.bsv_inline.specs.Bodies.{IsBody};
 ghost use Rattle.bsv_inline.specs.Leaving.{Leaves};
 ghost use Rattle.bsv_inline.specs.Opening as opening;
 
+use crate::calls::{Call, Condition};
 use crate::flattener::Flattener;
-use crate::node::{Call, Condition, Node};
 use crate::operands::operand;
 use crate::state::{Laid, State, put, stand};
 use bsv_bits::{OutOfMemory, Word};
-use bsv_design::{Atom, Step};
+use bsv_design::{Atom, Node, Step};
 use sqlite_items::Items;
 use std::alloc::Global;
 

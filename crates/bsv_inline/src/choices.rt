@@ -2,8 +2,8 @@ ghost use Rattle.std.specs.Prelude.{◌≡◌};
 ghost use Rattle.bsv_inline.specs.Leaving.{Leaves};
 ghost use Rattle.bsv_inline.specs.Flat as spec;
 
-use crate::node::Node;
 use crate::state::{Asked, Laid, State, add, put};
+use bsv_design::Node;
 use sqlite_items::Items;
 use std::alloc::Global;
 

@@ -1,9 +1,9 @@
 ghost use Rattle.std.specs.Prelude.{◌≡◌, IfOk};
 ghost use Rattle.bsv_inline.specs.AtHand as spec;
 
-use crate::node::{Branch, Call};
+use crate::calls::Call;
 use crate::state::Laid;
-use bsv_design::MethodPlace;
+use bsv_design::{Branch, MethodPlace};
 use sqlite_items::Items;
 use std::alloc::Global;
 

@@ -1,20 +1,27 @@
 //! Flat bodies: the steps of an element as nodes, each computed of nodes before it, with the same meaning.
 //!
-//! Modules in reading order: `node` (nodes, calls and conditions), `state` (the nodes so far), `operands` (the nodes
+//! Modules in reading order: `calls` (calls and conditions), `state` (the nodes so far), `operands` (the nodes
 //! of what steps name), `choices` (where arms join), `flattener` (what each call has at hand), `walk` (the steps),
-//! `body` (the whole). The definition of what nodes mean is `specs/Nodes.antt`, and what is promised of a body
-//! `specs/Bodies.antt`. The other files of `specs/` say how the code goes about it; no promise rests on them.
+//! `body` (the whole); `parts` (the places of instances among the primitives), `naming` (the names of methods) and
+//! `placer` (a body as an element of a design). The definition of what nodes mean is `specs/Nodes.antt`, what is
+//! promised of a body `specs/Bodies.antt`, and of its element `specs/Placed.antt`. The other files of `specs/` say
+//! how the code goes about it; no promise rests on them.
 #![tactic(auto)]
 
 mod body;
+mod calls;
 mod choices;
 mod flattener;
-mod node;
+mod naming;
 mod operands;
+mod parts;
+mod placer;
 mod state;
 #[cfg(test)]
 mod tests;
 mod walk;
 
 pub use body::{Body, flat_body};
-pub use node::{Branch, Call, Condition, Node};
+pub use calls::{Call, Condition};
+pub use parts::part_numbers;
+pub use placer::Placer;

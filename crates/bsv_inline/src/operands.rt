@@ -2,10 +2,9 @@ ghost use Rattle.std.specs.Prelude.{◌≡◌, OnOk, slice_get};
 ghost use Rattle.bsv_inline.specs.Leaving.{Leaves};
 ghost use Rattle.bsv_inline.specs.Flat as spec;
 
-use crate::node::Node;
 use crate::state::{Laid, State, put, stand};
 use bsv_bits::Word;
-use bsv_design::{Atom, Compute};
+use bsv_design::{Atom, Compute, Node};
 use sqlite_items::Items;
 use std::alloc::Global;
 

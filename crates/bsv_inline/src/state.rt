@@ -2,9 +2,10 @@ ghost use Rattle.std.specs.Prelude.{◌≡◌, ◌+◌, length, OnOk, IfOk};
 ghost use Rattle.bsv_inline.specs.Leaving.{Leaves};
 ghost use Rattle.bsv_inline.specs.Flat as spec;
 
-use crate::node::{Call, Condition, Node};
+use crate::calls::{Call, Condition};
 use bsv_bits::OutOfMemory;
 use bsv_carry::front;
+use bsv_design::Node;
 use sqlite_items::Items;
 use std::alloc::{AllocError, Global};
 use std::mem::replace;
@@ -41,7 +42,7 @@ pub(crate) fn numbered(count: usize) -> Laid<u32>
 }
 
 /// The number behind this one.
-fn next(number: u32) -> Laid<u32>
+pub(crate) fn next(number: u32) -> Laid<u32>
     ensures { IfOk result (λ n. n ≡ number + 1) }
 {
     match number.checked_add(1) {

@@ -1,6 +1,6 @@
-use crate::{Branch, Condition, Node, flat_body};
+use crate::{Condition, flat_body};
 use bsv_bits::Word;
-use bsv_design::{Arm, Atom, Choice, Compute, MethodPlace, Step};
+use bsv_design::{Arm, Atom, Branch, Choice, Compute, MethodPlace, Node, Step};
 use sqlite_items::Items;
 use std::alloc::Global;
 use std::process::Abort;

@@ -3,15 +3,15 @@ ghost use Rattle.bsv_inline.specs.AtHand as spec;
 ghost use Rattle.bsv_inline.specs.Flat as flat;
 ghost use Rattle.bsv_inline.specs.Leaving.{Leaves};
 
+use crate::calls::Condition;
 use crate::choices::{Given, Head, NO, Tested, join_all};
 use crate::flattener::Flattener;
-use crate::node::{Branch, Condition, Node};
 use crate::operands::{compute, operand, operands};
 use crate::state::{
     Asked, Laid, State, add, cut, nothing, numbered, one_call, one_choice, put, stand, standing,
     with_call, with_condition,
 };
-use bsv_design::{Arm, Atom, Choice, MethodPlace, Step};
+use bsv_design::{Arm, Atom, Branch, Choice, MethodPlace, Node, Step};
 use sqlite_items::Items;
 use std::alloc::Global;
 

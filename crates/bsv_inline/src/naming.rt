@@ -1,0 +1,56 @@
+ghost use Rattle.std.specs.Prelude.{◌≡◌, IfOk, slice_get};
+ghost use Rattle.bsv_design.specs.Traces.{with_dot, method_text, place_name};
+ghost use Rattle.bsv_inline.specs.Placed.{method_of};
+
+use crate::state::Laid;
+use bsv_bits::Name;
+use bsv_design::{Instance, Made, MethodPlace};
+use bsv_types::Module;
+use std::alloc::Global;
+
+/// The path of what has the name in the instance of a path.
+fn path_of(alloc: Global, path: &[u8], name: &[u8]) -> Laid<Name>
+    ensures { IfOk result (λ whole. whole ≡ with_dot path.now name.now) }
+{
+    if path.is_empty() {
+        return Name::new(alloc, name);
+    }
+    let mut text = Vec::from_slice(alloc, path)?;
+    text.extend_from_slice(b".")?;
+    text.extend_from_slice(name)?;
+    Name::new(alloc, text.as_slice())
+}
+
+/// The name of a method of a module.
+fn method_name(modules: &[Module], place: u32, method: u32) -> &[u8]
+    ensures { result.now ≡ method_text (method_of (slice_get modules.now place) method) }
+{
+    match modules.get(place as usize) {
+        Some(module) => match module.methods.get(method as usize) {
+            Some(method) => method.name.bytes(),
+            None => b"",
+        },
+        None => b"",
+    }
+}
+
+/// The path and the name of a method of a module.
+pub(crate) fn name_of(
+    alloc: Global,
+    modules: &[Module],
+    instances: &[Instance],
+    place: MethodPlace,
+) -> Laid<Name>
+    ensures { IfOk result (λ name. name ≡ place_name modules.now instances.now place) }
+{
+    let Some(instance) = instances.get(place.instance as usize) else {
+        return Name::new(alloc, b"");
+    };
+    let path = instance.path.bytes();
+    match &instance.made {
+        Made::Primitive(..) => Name::new(alloc, path),
+        Made::Module(built) => {
+            path_of(alloc, path, method_name(modules, built.module, place.method))
+        }
+    }
+}

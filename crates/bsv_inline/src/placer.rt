@@ -1,0 +1,110 @@
+ghost use Rattle.std.specs.Prelude.{◌≡◌, IfOk, map};
+ghost use Rattle.bsv_inline.specs.Placed as placed;
+ghost use Rattle.bsv_inline.specs.Placed.{ArePartNumbers};
+
+use crate::body::Body;
+use crate::calls::{Call, Condition};
+use crate::naming::name_of;
+use crate::parts::part_of;
+use crate::state::Laid;
+use bsv_bits::{Name, OutOfMemory};
+use bsv_design as design;
+use bsv_design::{Element, Instance, Port, Role};
+use bsv_types::Module;
+use sqlite_items::Items;
+use std::alloc::Global;
+
+/// What each call has at hand: the modules and the instances of a tree.
+#[derive(Clone, Copy)]
+pub struct Placer<'a> {
+    pub alloc: Global,
+    pub modules: &'a [Module],
+    pub instances: &'a [Instance],
+    /// Of each instance, how many primitives stand before it, and at the end how many there are.
+    pub parts: &'a [u32],
+}
+
+impl Placer<'_> {
+    /// The call, of a method of a part.
+    fn call(self, call: &Call) -> Laid<design::Call>
+        requires { ArePartNumbers self.instances.now self.parts.now }
+        ensures { IfOk result
+            (λ own. own ≡ placed.placed_call self.entry.instances.now call.now) }
+    {
+        Ok(design::Call {
+            part: part_of(self.instances, self.parts, call.method.instance),
+            method: call.method.method,
+            taken: call.taken,
+            branches: Items::from_slice(self.alloc, call.branches.as_slice())?,
+            args: Items::from_slice(self.alloc, call.arguments.as_slice())?,
+        })
+    }
+
+    /// The calls, of methods of parts.
+    fn calls(self, calls: &[Call]) -> Laid<Items<design::Call>>
+        requires { ArePartNumbers self.instances.now self.parts.now }
+        ensures { IfOk result
+            (λ own. own ≡ map (placed.placed_call self.entry.instances.now) calls.now) }
+    {
+        let mut own = Items::new(self.alloc);
+        let mut rest = calls;
+        while let Some((call, after)) = rest.split_first() {
+            own.push(self.call(call)?)?;
+            rest = after;
+        }
+        Ok(own)
+    }
+
+    /// The condition, with its name.
+    fn condition(self, condition: &Condition) -> Laid<design::Condition>
+        ensures { IfOk result (λ own. own ≡ placed.named_condition
+            self.entry.modules.now self.entry.instances.now condition.now) }
+    {
+        let implicit = match condition.name {
+            Some(place) => Some(name_of(self.alloc, self.modules, self.instances, place)?),
+            None => None,
+        };
+        Ok(design::Condition {
+            truth: condition.truth,
+            taken: condition.taken,
+            implicit,
+        })
+    }
+
+    /// The conditions, with their names.
+    fn conditions(self, conditions: &[Condition]) -> Laid<Items<design::Condition>>
+        ensures { IfOk result (λ own. own ≡ map (placed.named_condition
+            self.entry.modules.now self.entry.instances.now) conditions.now) }
+    {
+        let mut own = Items::new(self.alloc);
+        let mut rest = conditions;
+        while let Some((condition, after)) = rest.split_first() {
+            own.push(self.condition(condition)?)?;
+            rest = after;
+        }
+        Ok(own)
+    }
+
+    /// The element of this body.
+    pub fn element(
+        self,
+        name: Name,
+        role: Role,
+        arguments: Items<Port>,
+        body: Body,
+    ) -> Result<Element, OutOfMemory>
+        requires { ArePartNumbers self.instances.now self.parts.now }
+        ensures { IfOk result (λ e. e ≡ placed.element
+            self.entry.modules.now self.entry.instances.now name role arguments body) }
+    {
+        Ok(Element {
+            name,
+            role,
+            arguments,
+            conditions: self.conditions(body.conditions.as_slice())?,
+            calls: self.calls(body.calls.as_slice())?,
+            nodes: body.nodes,
+            result: body.result,
+        })
+    }
+}
