@@ -1,0 +1,4 @@
+pub mod LastMethods
+pub mod Words
+pub mod Fitting
+pub mod NamesApart
