@@ -1,4 +1,4 @@
 pub mod LastMethods
-pub mod Words
+pub mod WordWidths
 pub mod Fitting
 pub mod NamesApart

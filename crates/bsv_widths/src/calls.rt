@@ -92,7 +92,8 @@ fn call_fits(parts: &[NamedPart], widths: &[u32], call: &Call) -> bool
 
 /// Whether each call fits.
 pub(crate) fn calls_fit(parts: &[NamedPart], widths: &[u32], calls: &[Call]) -> bool
-    ensures { result ≡ list_all (spec.call_fits (map (λ p. p.kind) parts.now) widths.now) calls.now }
+    ensures { result ≡
+        list_all (spec.call_fits (map (λ p. p.kind) parts.now) widths.now) calls.now }
 {
     let mut rest = calls;
     while let Some((call, after)) = rest.split_first() {

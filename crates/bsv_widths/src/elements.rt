@@ -7,7 +7,7 @@ ghost use Rattle.bsv_design.specs.Widths as spec;
 ghost use Rattle.bsv_widths.specs.Fitting as fitting;
 
 use crate::calls::{calls_fit, none_acts};
-use crate::nodes::widths;
+use crate::node_widths::widths;
 use crate::operators::{MOST, has_width, width_at};
 use bsv_bits::OutOfMemory;
 use bsv_design::{Condition, Element, NamedPart, Port};

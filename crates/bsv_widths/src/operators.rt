@@ -32,7 +32,7 @@ pub(crate) fn width_if(holds: bool, width: u32) -> Option<u32>
 }
 
 /// A word has its own width.
-#[tactic(auto, using(crate::proofs::Words::width_of_word))]
+#[tactic(auto, using(crate::proofs::WordWidths::width_of_word))]
 pub(crate) fn word_width(word: Word) -> Option<u32>
     ensures { result ≡ spec.word_width word }
 {
