@@ -1,0 +1,4 @@
+pub mod LastMethods
+pub mod WordWidths
+pub mod Fitting
+pub mod NamesApart
