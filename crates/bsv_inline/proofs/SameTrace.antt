@@ -111,8 +111,8 @@ module _ (ms : List Module) (is : List Instance) (ks : List Kind) (vs : List Bit
       ap₂ (λ (x : Target) (y : Bool). made x y (is_one (at vs c.taken)) c.branches (map (at vs) c.arguments)) t a
       ∙ ap₂ (λ (x : Bool) (y : List Branch). made (target_of is s.method) s.action x y (map (at vs) c.arguments)) k h.branches
       ∙ ap (λ (x : List Bits). made (target_of is s.method) s.action s.taken s.branches x) w where
-    made : Target → Bool → Bool → List Branch → List Bits → Site
-    made x y z u w = record { target = x; action = y; taken = z; branches = u; arguments = w }
+        made : Target → Bool → Bool → List Branch → List Bits → Site
+        made x y z u w = record { target = x; action = y; taken = z; branches = u; arguments = w }
 
   sites_same : (cs : List Call) (ss : List SiteCall) → AreSites vs cs ss → IsTrue (list_all (acts_rightly ks is) cs)
       → map (site_at ks vs) (map (placed_call is) cs) ≡ map (site_of is) ss
@@ -129,8 +129,8 @@ module _ (ms : List Module) (is : List Instance) (ks : List Kind) (vs : List Bit
       let k : is_one (at vs c.taken) ≡ n.taken = one_of vs c.taken n.taken h.taken in
       ap (λ (x : Option (List ℕ)). made x (is_one (at vs c.truth)) (is_one (at vs c.taken))) a
       ∙ ap₂ (λ (x : Bool) (y : Bool). made (option_map (place_name ms is) n.name) x y) t k where
-    made : Option (List ℕ) → Bool → Bool → Demand
-    made x y z = record { name = x; holds = y; taken = z }
+        made : Option (List ℕ) → Bool → Bool → Demand
+        made x y z = record { name = x; holds = y; taken = z }
 
   demands_same : (cs : List Condition) (ns : List Need) → AreNeeds vs cs ns → map (demand_at vs) (map (named_condition ms is) cs) ≡ map (demand_of ms is) ns
   demands_same [] [] h = refl
@@ -170,11 +170,11 @@ same_trace ms is ks count ss gives b e body of right r ws long =
     let vs = words own ws b in
     let h = happening ss own ws in
     let parts : trace_at ks (bodies.words e r ws) e.calls e.conditions e.result
-        ≡ trace_at ks vs (map (placed_call is) b.calls) (map (named_condition ms is) b.conditions) b.result =
+    ≡ trace_at ks vs (map (placed_call is) b.calls) (map (named_condition ms is) b.conditions) b.result =
     ap₂ (λ (us : List Bits) (cs : List PartCall). trace_at ks us cs e.conditions e.result) (same_words ms is b e of r ws) of.calls
     ∙ ap₂ (λ (ds : List NamedCondition) (k : Option ℕ). trace_at ks vs (map (placed_call is) b.calls) ds k) of.conditions of.result in
     trace_is ks e r ws ∙ parts
     ∙ ap₂ (λ (xs : List Site) (ys : List Demand). trace xs ys (option_map (at vs) b.result))
-        (sites_same ms is ks vs b.calls h.calls (body.calls own ws long) right) (demands_same ms is ks vs b.conditions h.needs (body.conditions own ws long))
+    (sites_same ms is ks vs b.calls h.calls (body.calls own ws long) right) (demands_same ms is ks vs b.conditions h.needs (body.conditions own ws long))
     ∙ ap (λ (z : Option Bits). trace (map (site_of is) h.calls) (map (demand_of ms is) h.needs) z) (result_same vs h.words b.result gives (body.result own ws long))
     ∙ steps_are ms is ss gives r ws

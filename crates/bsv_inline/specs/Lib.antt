@@ -5,3 +5,5 @@ pub mod AtHand
 pub mod Opening
 pub mod Bodies
 pub mod Placed
+pub mod Flattening
+pub mod SourcesAtHand

@@ -9,7 +9,7 @@ use bsv_types::Module;
 use std::alloc::Global;
 
 /// The path of what has the name in the instance of a path.
-fn path_of(alloc: Global, path: &[u8], name: &[u8]) -> Laid<Name>
+pub(crate) fn path_of(alloc: Global, path: &[u8], name: &[u8]) -> Laid<Name>
     ensures { IfOk result (λ whole. whole ≡ with_dot path.now name.now) }
 {
     if path.is_empty() {
@@ -50,7 +50,11 @@ pub(crate) fn name_of(
     match &instance.made {
         Made::Primitive(..) => Name::new(alloc, path),
         Made::Module(built) => {
-            path_of(alloc, path, method_name(modules, built.module, place.method))
+            path_of(
+                alloc,
+                path,
+                method_name(modules, built.module, place.method),
+            )
         }
     }
 }

@@ -1,4 +1,3 @@
 pub mod LastMethods
 pub mod WordWidths
 pub mod Fitting
-pub mod NamesApart

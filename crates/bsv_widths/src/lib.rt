@@ -1,11 +1,10 @@
 //! Whether a flat body has the widths that its operators need.
 //!
 //! Modules in reading order: `methods` (what a method of a kind answers), `operators` (the widths that operators give),
-//! `calls` (whether calls fit), `node_widths` (the widths of all nodes), `elements` (whether an element has its widths),
-//! `apart` (whether no two elements have one name). The definition is `specs/Widths.antt` of `bsv_design`.
+//! `calls` (whether calls fit), `node_widths` (the widths of all nodes), `elements` (whether an element has its widths).
+//! The definition is `specs/Widths.antt` of `bsv_design`.
 #![tactic(auto)]
 
-mod apart;
 mod calls;
 mod elements;
 mod methods;
@@ -14,6 +13,6 @@ mod operators;
 #[cfg(test)]
 mod tests;
 
-pub use apart::all_apart;
 pub use elements::{has_widths, is_countable, value_acts_not};
+pub use methods::acts;
 pub use node_widths::widths;

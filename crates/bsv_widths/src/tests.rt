@@ -1,4 +1,4 @@
-use crate::{all_apart, has_widths, is_countable, value_acts_not, widths};
+use crate::{acts, has_widths, is_countable, value_acts_not, widths};
 use bsv_bits::{Name, Operator, Word};
 use bsv_design::{Call, Condition, Element, Kind, NamedPart, Node, Port, Role};
 use bsv_prim::{RWireKind, RegUKind};
@@ -106,22 +106,16 @@ fn an_argument_of_another_width(rt: HostRuntime) -> Result<(), Fail> {
 fn a_value_calls_nothing_that_acts(rt: HostRuntime) -> Result<(), Fail> {
     let alloc = rt.alloc();
     let parts = parts(alloc)?;
-    let acts = element(alloc, "add", Role::Value, 8)?;
-    assert!(rt; has_widths(alloc, parts.as_slice(), &acts)?);
-    assert!(rt; !value_acts_not(parts.as_slice(), &acts));
+    let acting = element(alloc, "add", Role::Value, 8)?;
+    assert!(rt; has_widths(alloc, parts.as_slice(), &acting)?);
+    assert!(rt; !value_acts_not(parts.as_slice(), &acting));
+    assert!(rt;
+        parts
+            .as_slice()
+            .iter()
+            .all(|part| acts(&part.kind, 0) || acts(&part.kind, 1))
+    );
     let may = element(alloc, "add", Role::ActionValue, 8)?;
     assert!(rt; value_acts_not(parts.as_slice(), &may));
-    Ok(())
-}
-
-#[test]
-fn names_of_elements(rt: HostRuntime) -> Result<(), Fail> {
-    let alloc = rt.alloc();
-    let mut elements = Items::new(alloc);
-    elements.push(element(alloc, "add", Role::ActionValue, 8)?)?;
-    elements.push(element(alloc, "sub", Role::ActionValue, 8)?)?;
-    assert!(rt; all_apart(elements.as_slice()));
-    elements.push(element(alloc, "add", Role::ActionValue, 8)?)?;
-    assert!(rt; !all_apart(elements.as_slice()));
     Ok(())
 }

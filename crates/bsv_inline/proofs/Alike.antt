@@ -1,0 +1,116 @@
+-- A design of flat bodies is the scheme of its tree.
+use Rattle.std.proofs.Common.{◌≡◌, ◌∙◌, ℕ, zero, suc, ◌+◌, ◌<◌, ◌≤◌, ◌⊎◌, inl, inr, Bool, true, false, List, [], ◌∷◌, ◌++◌, map, length, Option, Some, None, refl, sym, ap, ap₂, subst, arith, append_assoc, append-nil}
+use Rattle.std.specs.Prelude.{slice_get, nat_lt, if◌then◌else◌}
+use Rattle.std.proofs.lemmas.Bool.{ltb-true, cases_lt}
+use Rattle.std.proofs.lemmas.Option.{slice_get_past}
+use Rattle.bsv_bits.specs.Words.{Bits, bit}
+use Rattle.bsv_design.specs.declared.element.Element.{Element}
+use Rattle.bsv_design.specs.declared.design.NamedPart.{NamedPart}
+use Rattle.bsv_design.specs.declared.kind.Kind.{Kind}
+use Rattle.bsv_design.specs.declared.source.Source.{Source}
+use Rattle.bsv_design.specs.Bodies.{Target, Answers, target}
+use Rattle.bsv_design.specs.Designs.{Blueprint}
+use Rattle.bsv_design.specs.Relations.{no_answers}
+use Rattle.bsv_design.specs.Schemes.{Scheme, Outline, outline, outline_of, outline_at, outlines_below, calls_of, uses_of, trace_of, carried_trace, kinds_of, ports_of, filled, design_scheme, tree_scheme, AreAlike, AreArgumentsOf}
+use Rattle.bsv_design.specs.Sources.{source_at, element_at, element_count, parts_among}
+use Rattle.bsv_design.specs.Traces.{Site, Trace, body_trace, step_trace, target_of}
+use Rattle.bsv_design.specs.Trees.{Hierarchy}
+use Rattle.bsv_design.specs.Uses.{uses}
+use Rattle.bsv_inline.specs.Flattening.{kinds, IsFlat, AreFlat}
+use Rattle.bsv_inline.proofs.Flattened.{flat_at, targets_of}
+use Rattle.bsv_inline.proofs.StepUses.{targets_are_uses}
+
+has_at : {A : Type 0} (xs : List A) (n : ℕ) → n < length xs → (x : A) × (slice_get xs n ≡ Some x)
+has_at [] n l = absurd (omega (arith, l))
+has_at (x ∷ xs) zero l = (x, refl)
+has_at (x ∷ xs) (suc n) l = has_at xs n (omega (arith, l))
+
+get_map : {A B : Type 0} (f : A → B) (xs : List A) (n : ℕ) (x : A) → slice_get xs n ≡ Some x → slice_get (map f xs) n ≡ Some (f x)
+get_map f [] n x e = absurd cc
+get_map f (y ∷ xs) zero x e = let it : y ≡ x = cc in ap (λ z. Some (f z)) it
+get_map f (y ∷ xs) (suc n) x e = get_map f xs n x e
+
+outline_is : (h : Hierarchy) (n : ℕ) (e : Element) (f : IsFlat h n e) → outline e ≡ outline_of f.source
+outline_is h n e f =
+    ap (λ (x : List ℕ). let o : Outline = record { name = x; role = e.role; ports = e.arguments } in o) f.name
+    ∙ ap (λ x. let o : Outline = record { name = f.source.name; role = x; ports = e.arguments } in o) f.role
+    ∙ ap (λ x. let o : Outline = record { name = f.source.name; role = f.source.role; ports = x } in o) f.arguments
+
+outlines_from : (h : Hierarchy) (es : List Element) (k : ℕ) → AreFlat h k es → outlines_below h (k + length es) ≡ outlines_below h k ++ map outline es
+outlines_from h [] k f = (let at : k + 0 ≡ k = omega arith in ap (outlines_below h) at) ∙ sym (append-nil (outlines_below h k))
+outlines_from h (e ∷ es) k f =
+    let at : k + suc (length es) ≡ k + 1 + length es = omega arith in
+    let next : k + 1 ≡ suc k = omega arith in
+    let one : outline_at (element_at h k) ≡ outline e ∷ [] = ap outline_at f.0.at ∙ ap (λ o. o ∷ []) (sym (outline_is h k e f.0)) in
+    ap (outlines_below h) at ∙ outlines_from h es (k + 1) f.1
+    ∙ ap (λ j. outlines_below h j ++ map outline es) next
+    ∙ ap (λ os. (outlines_below h k ++ os) ++ map outline es) one
+    ∙ append_assoc (outlines_below h k) (outline e ∷ []) (map outline es)
+
+module _ (h : Hierarchy) (b : Blueprint) (parts : b.parts ≡ parts_among h.instances) (flat : AreFlat h 0 b.elements) (long : length b.elements ≡ element_count h) where
+  kinds_is : kinds_of b ≡ kinds h
+  kinds_is = ap (λ (ps : List NamedPart). map (λ p. p.kind) ps) parts
+
+  elements_is : outlines_below h (element_count h) ≡ map outline b.elements
+  elements_is =
+      let at : length b.elements ≡ 0 + length b.elements = omega arith in
+      ap (outlines_below h) (sym long ∙ at) ∙ outlines_from h b.elements 0 flat
+
+  none_past : (n : ℕ) → length b.elements ≤ n → element_at h n ≡ None
+  none_past n l = by (nat_lt n (element_count h)) refl where
+    by : (c : Bool) → nat_lt n (element_count h) ≡ c → (if c then source_at h n else None) ≡ None
+    by true is = absurd (let m : n < element_count h = ltb-true n (element_count h) is in omega (arith, m, l, long))
+    by false is = refl
+
+  uses_at : (n : ℕ) (e : Element) → slice_get b.elements n ≡ Some e → uses_of h.instances (element_at h n) ≡ calls_of (slice_get b.elements n)
+  uses_at n e is =
+      let f = flat_at h b.elements flat n e is in
+      let ws = filled f.source.ports [] in
+      ap (uses_of h.instances) f.at
+      ∙ sym (targets_are_uses h.typed.modules h.instances f.source.steps f.source.gives no_answers ws)
+      ∙ ap (λ (t : Trace). map (λ (s : Site). s.target) t.sites) (sym (f.trace no_answers ws (filled_long f.source.ports)))
+      ∙ targets_of (kinds h) e no_answers ws
+      ∙ ap calls_of (sym is) where
+        filled_long : (ps : List _) → length (filled ps []) ≡ length ps
+        filled_long [] = refl
+        filled_long (p ∷ ps) = ap suc (filled_long ps)
+
+  uses_are : (n : ℕ) → uses_of h.instances (element_at h n) ≡ calls_of (slice_get b.elements n)
+  uses_are n = by (cases_lt n (length b.elements)) where
+    by : (n < length b.elements) ⊎ (length b.elements ≤ n) → uses_of h.instances (element_at h n) ≡ calls_of (slice_get b.elements n)
+    by (inl l) = let x = has_at b.elements n l in uses_at n x.0 x.1
+    by (inr l) = ap (uses_of h.instances) (none_past n l) ∙ ap calls_of (sym (slice_get_past b.elements n l))
+
+  -- the arguments of an element
+  ports_at : (n : ℕ) (e : Element) → slice_get b.elements n ≡ Some e → ports_of (slice_get (outlines_below h (element_count h)) n) ≡ e.arguments
+  ports_at n e is = ap (λ os. ports_of (slice_get os n)) elements_is ∙ ap ports_of (get_map outline b.elements n e is)
+
+  abbrev Same : ℕ → Answers → List Bits → Type 0
+  Same n r ws = carried_trace h (element_at h n) r ws ≡ trace_of (kinds_of b) (slice_get b.elements n) r ws
+
+  trace_at : (n : ℕ) (e : Element) → slice_get b.elements n ≡ Some e → (r : Answers) (ws : List Bits)
+      → length ws ≡ length (ports_of (slice_get (outlines_below h (element_count h)) n)) → Same n r ws
+  trace_at n e is r ws many =
+      let f = flat_at h b.elements flat n e is in
+      let as_many : length ws ≡ length f.source.ports = many ∙ ap length (ports_at n e is ∙ f.arguments) in
+      ap (λ o. carried_trace h o r ws) f.at ∙ sym (f.trace r ws as_many)
+      ∙ ap (λ ks. body_trace ks e r ws) (sym kinds_is)
+      ∙ ap (λ o. trace_of (kinds_of b) o r ws) (sym is)
+
+  traces_are : (n : ℕ) (r : Answers) (ws : List Bits) → length ws ≡ length (ports_of (slice_get (outlines_below h (element_count h)) n)) → Same n r ws
+  traces_are n r ws many = by (cases_lt n (length b.elements)) where
+    by : (n < length b.elements) ⊎ (length b.elements ≤ n) → Same n r ws
+    by (inl l) = let x = has_at b.elements n l in trace_at n x.0 x.1 r ws many
+    by (inr l) =
+        ap (λ o. carried_trace h o r ws) (none_past n l) ∙ ap (λ o. trace_of (kinds_of b) o r ws) (sym (slice_get_past b.elements n l))
+
+  pub alike : b.pairs ≡ h.pairs → b.asserts ≡ h.asserts → AreAlike (tree_scheme h) (design_scheme b)
+  unfolding tree_scheme design_scheme
+  alike pairs asserts = record {
+    kinds = sym kinds_is;
+    elements = elements_is;
+    pairs = sym pairs;
+    asserts = sym asserts;
+    uses = uses_are;
+    traces = traces_are;
+  }

@@ -1,0 +1,62 @@
+-- What is at hand where a tree is laid out.
+use Rattle.std.specs.Prelude.{ℕ, List, slice_get, Option, Some, None, Result, Ok, Err, if◌then◌else◌}
+use Rattle.bsv_fail.specs.declared.fail.Fail.{Fail}
+use Rattle.bsv_types.specs.declared.modules.Method.{Method}
+use Rattle.bsv_types.specs.declared.modules.Rule.{Rule}
+use Rattle.bsv_types.specs.Shapes.{Shapes}
+use Rattle.bsv_design.specs.declared.element.Role.{Role}
+use Rattle.bsv_design.specs.declared.steps.Atom.{Atom}
+use Rattle.bsv_design.specs.Roles.{gives_value}
+use Rattle.bsv_design.specs.Values.{atom_of}
+use Rattle.bsv_design.specs.declared.source.Source.{Source}
+use Rattle.bsv_design.specs.declared.statics.Binding.{Binding}
+use Rattle.bsv_design.specs.declared.tree.Built.{Built}
+use Rattle.bsv_design.specs.declared.tree.Made.{Made}
+use Rattle.bsv_design.specs.declared.tree.Made.TheVariants as made
+use Rattle.bsv_design.specs.declared.values.Fault.{Fault}
+use Rattle.bsv_design.specs.declared.values.Value.{Value}
+use Rattle.bsv_design.specs.declared.values.Work.{Work}
+use Rattle.bsv_design.specs.Calls.{made_of}
+use Rattle.bsv_design.specs.Calls as calls
+use Rattle.bsv_design.specs.Seen.{hierarchy}
+use Rattle.bsv_design.specs.Sources as sources
+use Rattle.bsv_design.specs.Trees as trees
+use Rattle.bsv_design.specs.Trees.{Hierarchy}
+use Rattle.bsv_inline.specs.declared.rules.Placed.{Placed}
+use Rattle.bsv_inline.specs.declared.sources.Sources.{Sources}
+
+abbrev pub tree : Sources → Hierarchy
+tree s = hierarchy s.tree.now
+
+abbrev pub shapes : Sources → Shapes
+shapes s = trees.shapes (tree s).typed
+
+abbrev pub site : Sources → ℕ → List Binding → calls.Site
+site s place bindings = trees.site_of (tree s).typed (tree s).instances place bindings
+
+abbrev pub standing : Placed → sources.Standing
+standing p = record { path = p.path.now; built = p.built.now; rule = p.rule.now }
+
+-- what was carried out, where memory was not wanting
+abbrev pub method_done : Sources → Method → Result (Value × Work) (Fail Fault) → Option Source
+method_done s m (Err f) = None
+method_done s m (Ok x) = sources.method_done (shapes s) m (Ok x)
+
+abbrev pub method_source : Sources → Built → ℕ → Option Source
+method_source s b number = sources.method_source (tree s) b (slice_get b.methods number) (slice_get (sources.top_methods (tree s)) number)
+
+abbrev pub rule_text : Sources → Placed → Option Rule
+rule_text s p = sources.rule_text (slice_get (tree s).typed.modules p.built.now.«module») p.rule.now.rule
+
+abbrev pub built_of : Option Made → Option Built
+built_of (Some (made.Module b)) = Some b
+built_of _ = None
+
+abbrev pub top : Sources → Option Built
+top s = built_of (made_of (slice_get (tree s).instances 0))
+
+abbrev pub top_source : Sources → ℕ → Option Source
+top_source s n = sources.top_source (tree s) n (made_of (slice_get (tree s).instances 0))
+
+abbrev pub given_by : Role → Value → Option Atom
+given_by r x = if gives_value r then Some (atom_of x) else None

@@ -1,0 +1,215 @@
+ghost use Rattle.std.specs.Prelude.{◌≡◌, ◌+◌, ◌<◌, true, Some, length, map, IfOk};
+ghost use Rattle.std.specs.List.{list_all};
+ghost use Rattle.bsv_design.specs.Schemes.{design_scheme, tree_scheme, AreAlike};
+ghost use Rattle.bsv_design.specs.Seen.{blueprint, hierarchy};
+ghost use Rattle.bsv_design.specs.Sources as sources;
+ghost use Rattle.bsv_design.specs.Trees as trees;
+ghost use Rattle.bsv_inline.specs.Flattening as flattening;
+ghost use Rattle.bsv_inline.specs.Placed as placed;
+ghost use Rattle.bsv_inline.specs.Placed.{ArePartNumbers};
+ghost use Rattle.bsv_inline.specs.SourcesAtHand as at_hand;
+
+use crate::body::flat_body;
+use crate::calls::Call;
+use crate::parts::{part_numbers, part_of};
+use crate::placer::Placer;
+use crate::primitives::parts;
+use crate::sources::Sources;
+use crate::state::{Laid, numbered};
+use bsv_bits::{Name, OutOfMemory};
+use bsv_design::{Design, Element, Instance, Made, NamedPart, Source, Tree};
+use bsv_widths::{acts, has_widths, is_countable, value_acts_not};
+use sqlite_items::Items;
+use std::alloc::Global;
+
+/// How many rules there are with those of this instance.
+fn rules_counted(instance: &Instance, count: usize) -> Laid<usize>
+    ensures { IfOk result (λ n. n ≡ count + trees.rules_in instance.now.made) }
+{
+    match &instance.made {
+        Made::Primitive(..) => Ok(count),
+        Made::Module(built) => count.checked_add(built.rules.len()).ok_or(OutOfMemory),
+    }
+}
+
+/// How many rules there are behind so many.
+fn count_rules(instances: &[Instance], methods: usize) -> Laid<usize>
+    ensures { IfOk result (λ n. n ≡ methods + trees.rule_count instances.now) }
+{
+    let mut count = methods;
+    let mut rest = instances;
+    while let Some((instance, after)) = rest.split_first() {
+        count = rules_counted(instance, count)?;
+        rest = after;
+    }
+    Ok(count)
+}
+
+/// What is at hand where elements are laid out.
+#[derive(Clone, Copy)]
+pub(crate) struct Layout<'a> {
+    pub sources: Sources<'a>,
+    /// Of each instance, how many primitives stand before it, and at the end how many there are.
+    pub numbers: &'a [u32],
+    pub parts: &'a [NamedPart],
+}
+
+impl<'a> Layout<'a> {
+    fn placer(self) -> Placer<'a>
+        ensures modules { result.modules.now ≡ (at_hand.tree self.entry.sources).typed.modules }
+        ensures instances { result.instances.now ≡ (at_hand.tree self.entry.sources).instances }
+        ensures parts { result.parts.now ≡ self.entry.numbers.now }
+    {
+        Placer {
+            alloc: self.sources.alloc,
+            modules: self.sources.tree.typed.modules.as_slice(),
+            instances: self.sources.tree.instances.as_slice(),
+            parts: self.numbers,
+        }
+    }
+
+    /// Whether the call acts where its method does.
+    fn acts_rightly(self, call: &Call) -> bool
+        requires { ArePartNumbers (at_hand.tree self.sources).instances self.numbers.now }
+        ensures { result ≡ placed.acts_rightly (map (λ p. p.kind) self.entry.parts.now)
+            (at_hand.tree self.entry.sources).instances call.now }
+    {
+        let instances = self.sources.tree.instances.as_slice();
+        let part = part_of(instances, self.numbers, call.method.instance);
+        match self.parts.get(part as usize) {
+            Some(part) => acts(&part.kind, call.method.method) == call.action,
+            None => !call.action,
+        }
+    }
+
+    /// Whether each call acts where its method does.
+    fn all_act_rightly(self, calls: &[Call]) -> bool
+        requires { ArePartNumbers (at_hand.tree self.sources).instances self.numbers.now }
+        ensures { result ≡ list_all (placed.acts_rightly (map (λ p. p.kind) self.entry.parts.now)
+            (at_hand.tree self.entry.sources).instances) calls.now }
+    {
+        let mut rest = calls;
+        while let Some((call, after)) = rest.split_first() {
+            if !self.acts_rightly(call) {
+                return false;
+            }
+            rest = after;
+        }
+        true
+    }
+
+    /// The element of a position as a flat body.
+    #[tactic(auto, using(crate::proofs::Designed::laid_flat))]
+    fn laid(self, position: u32) -> Laid<Element>
+        requires numbers { ArePartNumbers (at_hand.tree self.sources).instances self.numbers.now }
+        requires parts { self.parts.now
+            ≡ sources.parts_among (at_hand.tree self.sources).instances }
+        requires within { position < sources.element_count (at_hand.tree self.sources) }
+        ensures { IfOk result (λ e.
+            flattening.IsFlat (at_hand.tree self.entry.sources) position e) }
+    {
+        let source = self.sources.source(position)?;
+        let Source {
+            name,
+            role,
+            ports,
+            steps,
+            gives,
+        } = source;
+        let count = numbered(ports.len())?;
+        let body = flat_body(self.sources.alloc, count, steps.as_slice(), gives)?;
+        if !self.all_act_rightly(body.calls.as_slice()) {
+            return Err(OutOfMemory);
+        }
+        let element = self.placer().element(name, role, ports, body)?;
+        Ok(element)
+    }
+
+    /// Whether the nodes have the words that they need, and there are not too many of them.
+    fn keeps_widths(self, element: &Element) -> Laid<bool>
+        requires { self.parts.now
+            ≡ sources.parts_among (at_hand.tree self.sources).instances }
+        ensures { IfOk result (λ b. b ≡ true
+            → flattening.KeepsWidths (at_hand.tree self.entry.sources) element.now) }
+    {
+        if !is_countable(&element.nodes) || !is_countable(&element.calls) {
+            return Ok(false);
+        }
+        if !value_acts_not(self.parts, element) {
+            return Ok(false);
+        }
+        has_widths(self.sources.alloc, self.parts, element)
+    }
+
+    /// The element of a position. What is typed has its widths, so that none is turned away.
+    fn element(self, position: u32) -> Laid<Element>
+        requires numbers { ArePartNumbers (at_hand.tree self.sources).instances self.numbers.now }
+        requires parts { self.parts.now
+            ≡ sources.parts_among (at_hand.tree self.sources).instances }
+        requires within { position < sources.element_count (at_hand.tree self.sources) }
+        ensures { IfOk result (λ e.
+            flattening.IsLaidOut (at_hand.tree self.entry.sources) position e) }
+    {
+        let element = self.laid(position)?;
+        if !self.keeps_widths(&element)? {
+            return Err(OutOfMemory);
+        }
+        Ok(element)
+    }
+
+    /// All elements.
+    #[tactic(auto, using(crate::proofs::Designed::laid_more))]
+    fn elements(self, count: u32) -> Laid<Items<Element>>
+        requires numbers { ArePartNumbers (at_hand.tree self.sources).instances self.numbers.now }
+        requires parts { self.parts.now
+            ≡ sources.parts_among (at_hand.tree self.sources).instances }
+        requires count { count ≡ sources.element_count (at_hand.tree self.sources) }
+        ensures laid { IfOk result (λ es.
+            flattening.AreLaidOut (at_hand.tree self.entry.sources) 0 es) }
+        ensures count { IfOk result (λ es. length es ≡ count) }
+    {
+        let mut elements = Items::new(self.sources.alloc);
+        for position in 0..count {
+            elements.push(self.element(position)?)?;
+        }
+        Ok(elements)
+    }
+}
+
+/// The name of the top's module.
+fn top_name(alloc: Global, tree: &Tree) -> Laid<Name>
+    ensures { IfOk result (λ name. flattening.top_name (hierarchy tree.now) ≡ Some name) }
+{
+    match tree.typed.modules.get(tree.top as usize) {
+        Some(module) => Name::new(alloc, module.name.bytes()),
+        None => Err(OutOfMemory),
+    }
+}
+
+/// The design of a tree: its elements as flat bodies, in the order of their positions, over its primitives.
+#[tactic(auto, using(crate::proofs::Designed::designed, crate::proofs::Designed::is_alike), unfolding(bsv_design::specs::Sources::element_count))]
+pub fn flatten(alloc: Global, tree: &Tree) -> Result<Design, OutOfMemory>
+    ensures alike { IfOk result (λ d.
+        AreAlike (tree_scheme (hierarchy tree.now)) (design_scheme (blueprint d))) }
+    ensures name { IfOk result (λ d. flattening.top_name (hierarchy tree.now) ≡ Some d.name) }
+    ensures parts { IfOk result (λ d. d.parts ≡ sources.parts_among tree.now.instances) }
+{
+    let sources = Sources { alloc, tree };
+    let instances = tree.instances.as_slice();
+    let numbers = part_numbers(alloc, instances)?;
+    let parts = parts(alloc, instances)?;
+    let count = numbered(count_rules(instances, sources.top_methods().len())?)?;
+    let layout = Layout {
+        sources,
+        numbers: numbers.as_slice(),
+        parts: parts.as_slice(),
+    };
+    let elements = layout.elements(count)?;
+    if !is_countable(&elements) || !is_countable(&parts) {
+        return Err(OutOfMemory);
+    }
+    let name = top_name(alloc, tree)?;
+    let pairs = Items::from_slice(alloc, tree.pairs.as_slice())?;
+    let asserts = Items::from_slice(alloc, tree.asserts.as_slice())?;
+    Ok(Design::new(name, elements, parts, pairs, asserts))
+}
