@@ -1,5 +1,5 @@
 -- A flat body and the element that it is in a design have one trace.
-use Rattle.std.proofs.Common.{◌≡◌, ◌∙◌, ℕ, Bool, true, false, List, [], ◌∷◌, ◌++◌, length, map, Option, Some, None, refl, sym, ap, ap₂, subst}
+use Rattle.std.proofs.Common.{◌≡◌, ◌∙◌, ℕ, Bool, true, false, List, [], ◌∷◌, ◌++◌, length, map, Option, Some, None, refl, ap, ap₂}
 use Rattle.std.specs.Bool.{beq}
 use Rattle.std.specs.Prelude.{slice_get, option_map, IsTrue, ◌&&◌}
 use Rattle.std.specs.List.{list_all}
@@ -18,7 +18,7 @@ use Rattle.bsv_design.specs.declared.steps.Step.{Step}
 use Rattle.bsv_design.specs.declared.tree.Instance.{Instance}
 use Rattle.bsv_design.specs.Bodies as bodies
 use Rattle.bsv_design.specs.Bodies.{Answers, Target, at}
-use Rattle.bsv_design.specs.Running.{Results, Happening, SiteCall, Need, or_zero, is_one, word_of, happening}
+use Rattle.bsv_design.specs.Running.{Results, SiteCall, Need, or_zero, is_one, word_of, happening}
 use Rattle.bsv_design.specs.Traces.{Site, Demand, Trace, acts, kind_at, site_at, demand_at, body_trace, target_of, place_name, site_of, demand_of, step_trace}
 use Rattle.bsv_inline.specs.declared.body.Body.{Body}
 use Rattle.bsv_inline.specs.declared.calls.Call.{Call}
@@ -90,16 +90,16 @@ one_of vs k b e = ap (λ (o : Option Bits). is_one (or_zero o)) e ∙ by b where
 same_bool : (x y : Bool) → IsTrue (beq x y) → x ≡ y
 same_bool true true h = refl
 same_bool false false h = refl
-same_bool true false h = absurd h
-same_bool false true h = absurd h
+same_bool true false h = absurd cc
+same_bool false true h = absurd cc
 
 first_of_both : (x y : Bool) → IsTrue (x && y) → IsTrue x
-first_of_both true y h = tt
-first_of_both false y h = absurd h
+first_of_both true y h = refl
+first_of_both false y h = absurd cc
 
 second_of_both : (x y : Bool) → IsTrue (x && y) → IsTrue y
 second_of_both true y h = h
-second_of_both false y h = absurd h
+second_of_both false y h = absurd cc
 
 module _ (ms : List Module) (is : List Instance) (ks : List Kind) (vs : List Bits) where
   site_same : (c : Call) (s : SiteCall) → IsSite vs c s → IsTrue (acts_rightly ks is c) → site_at ks vs (placed_call is c) ≡ site_of is s
