@@ -1,7 +1,7 @@
 -- A flat body and the element that it is in a design have one trace.
 use Rattle.std.proofs.Common.{◌≡◌, ◌∙◌, ℕ, Bool, true, false, List, [], ◌∷◌, ◌++◌, length, map, Option, Some, None, refl, ap, ap₂}
 use Rattle.std.specs.Bool.{beq}
-use Rattle.std.specs.Prelude.{slice_get, option_map, IsTrue, ◌&&◌}
+use Rattle.std.specs.Prelude.{nat_lt, slice_get, option_map, IsTrue, ◌&&◌}
 use Rattle.std.specs.List.{list_all}
 use Rattle.std.proofs.lemmas.Option.{slice_get-map}
 use Rattle.bsv_bits.specs.Words.{Bits, bit}
@@ -9,6 +9,8 @@ use Rattle.bsv_types.specs.declared.modules.Module.{Module}
 use Rattle.bsv_design.specs.declared.element.Call.{Call as PartCall}
 use Rattle.bsv_design.specs.declared.element.Condition.{Condition as NamedCondition}
 use Rattle.bsv_design.specs.declared.element.Element.{Element}
+use Rattle.bsv_design.specs.declared.element.Port.{Port}
+use Rattle.bsv_design.specs.declared.element.Role.{Role}
 use Rattle.bsv_design.specs.declared.kind.Kind.{Kind}
 use Rattle.bsv_design.specs.declared.node.Branch.{Branch}
 use Rattle.bsv_design.specs.declared.node.Node.{Node}
@@ -18,6 +20,7 @@ use Rattle.bsv_design.specs.declared.steps.Step.{Step}
 use Rattle.bsv_design.specs.declared.tree.Instance.{Instance}
 use Rattle.bsv_design.specs.Bodies as bodies
 use Rattle.bsv_design.specs.Bodies.{Answers, Target, at}
+use Rattle.bsv_design.specs.Kinds.{kind_table}
 use Rattle.bsv_design.specs.Running.{Results, SiteCall, Need, or_zero, is_one, word_of, happening}
 use Rattle.bsv_design.specs.Traces.{Site, Demand, Trace, acts, kind_at, site_at, demand_at, body_trace, target_of, place_name, site_of, demand_of, step_trace}
 use Rattle.bsv_inline.specs.declared.body.Body.{Body}
@@ -25,7 +28,7 @@ use Rattle.bsv_inline.specs.declared.calls.Call.{Call}
 use Rattle.bsv_inline.specs.declared.calls.Condition.{Condition}
 use Rattle.bsv_inline.specs.Bodies.{IsSite, AreSites, IsNeed, AreNeeds, IsResult, IsBody, words}
 use Rattle.bsv_inline.specs.Nodes as nodes
-use Rattle.bsv_inline.specs.Placed.{placed_call, named_condition, acts_rightly}
+use Rattle.bsv_inline.specs.Placed.{placed_call, named_condition, element, kind_fits, call_fits, acts_rightly}
 use Rattle.bsv_inline.proofs.Words.{shows_words}
 
 -- what parts give, as what methods of instances give
@@ -38,6 +41,15 @@ pub record IsElementOf (ms : List Module) (is : List Instance) (b : Body) (e : E
   pub calls : e.calls ≡ map (placed_call is) b.calls
   pub conditions : e.conditions ≡ map (named_condition ms is) b.conditions
   pub result : e.result ≡ b.result
+
+pub is_element : (ms : List Module) (is : List Instance) (name : List ℕ) (role : Role) (ports : List Port) (b : Body) (e : Element)
+    → e ≡ element ms is name role ports b → IsElementOf ms is b e
+is_element ms is name role ports b e made = record {
+  nodes = ap (λ (x : Element). x.nodes) made;
+  calls = ap (λ (x : Element). x.calls) made;
+  conditions = ap (λ (x : Element). x.conditions) made;
+  result = ap (λ (x : Element). x.result) made;
+}
 
 -- ---- words
 
@@ -101,6 +113,19 @@ second_of_both : (x y : Bool) → IsTrue (x && y) → IsTrue y
 second_of_both true y h = h
 second_of_both false y h = absurd cc
 
+both_of : (x y : Bool) → IsTrue x → IsTrue y → IsTrue (x && y)
+both_of true y h k = k
+both_of false y h k = absurd cc
+
+-- calls that fit act where their methods do
+pub acts_where_fits : (ks : List Kind) (is : List Instance) (cs : List Call) → IsTrue (list_all (call_fits ks is) cs) → IsTrue (list_all (acts_rightly ks is) cs)
+acts_where_fits ks is [] h = refl
+acts_where_fits ks is (c ∷ cs) h =
+    both_of _ _ (of_kind (kind_at ks (target_of is c.method)) c (first_of_both _ _ h)) (acts_where_fits ks is cs (second_of_both (call_fits ks is c) _ h)) where
+      of_kind : (o : Option Kind) (x : Call) → IsTrue (kind_fits o x) → IsTrue (beq (acts o x.method.method) x.action)
+      of_kind None x h = absurd cc
+      of_kind (Some k) x h = second_of_both (nat_lt x.method.method (kind_table k).methods) _ h
+
 module _ (ms : List Module) (is : List Instance) (ks : List Kind) (vs : List Bits) where
   site_same : (c : Call) (s : SiteCall) → IsSite vs c s → IsTrue (acts_rightly ks is c) → site_at ks vs (placed_call is c) ≡ site_of is s
   site_same c s h right =
@@ -111,8 +136,8 @@ module _ (ms : List Module) (is : List Instance) (ks : List Kind) (vs : List Bit
       ap₂ (λ (x : Target) (y : Bool). made x y (is_one (at vs c.taken)) c.branches (map (at vs) c.arguments)) t a
       ∙ ap₂ (λ (x : Bool) (y : List Branch). made (target_of is s.method) s.action x y (map (at vs) c.arguments)) k h.branches
       ∙ ap (λ (x : List Bits). made (target_of is s.method) s.action s.taken s.branches x) w where
-    made : Target → Bool → Bool → List Branch → List Bits → Site
-    made x y z u w = record { target = x; action = y; taken = z; branches = u; arguments = w }
+        made : Target → Bool → Bool → List Branch → List Bits → Site
+        made x y z u w = record { target = x; action = y; taken = z; branches = u; arguments = w }
 
   sites_same : (cs : List Call) (ss : List SiteCall) → AreSites vs cs ss → IsTrue (list_all (acts_rightly ks is) cs)
       → map (site_at ks vs) (map (placed_call is) cs) ≡ map (site_of is) ss
@@ -129,8 +154,8 @@ module _ (ms : List Module) (is : List Instance) (ks : List Kind) (vs : List Bit
       let k : is_one (at vs c.taken) ≡ n.taken = one_of vs c.taken n.taken h.taken in
       ap (λ (x : Option (List ℕ)). made x (is_one (at vs c.truth)) (is_one (at vs c.taken))) a
       ∙ ap₂ (λ (x : Bool) (y : Bool). made (option_map (place_name ms is) n.name) x y) t k where
-    made : Option (List ℕ) → Bool → Bool → Demand
-    made x y z = record { name = x; holds = y; taken = z }
+        made : Option (List ℕ) → Bool → Bool → Demand
+        made x y z = record { name = x; holds = y; taken = z }
 
   demands_same : (cs : List Condition) (ns : List Need) → AreNeeds vs cs ns → map (demand_at vs) (map (named_condition ms is) cs) ≡ map (demand_of ms is) ns
   demands_same [] [] h = refl
@@ -170,11 +195,11 @@ same_trace ms is ks count ss gives b e body of right r ws long =
     let vs = words own ws b in
     let h = happening ss own ws in
     let parts : trace_at ks (bodies.words e r ws) e.calls e.conditions e.result
-        ≡ trace_at ks vs (map (placed_call is) b.calls) (map (named_condition ms is) b.conditions) b.result =
+    ≡ trace_at ks vs (map (placed_call is) b.calls) (map (named_condition ms is) b.conditions) b.result =
     ap₂ (λ (us : List Bits) (cs : List PartCall). trace_at ks us cs e.conditions e.result) (same_words ms is b e of r ws) of.calls
     ∙ ap₂ (λ (ds : List NamedCondition) (k : Option ℕ). trace_at ks vs (map (placed_call is) b.calls) ds k) of.conditions of.result in
     trace_is ks e r ws ∙ parts
     ∙ ap₂ (λ (xs : List Site) (ys : List Demand). trace xs ys (option_map (at vs) b.result))
-        (sites_same ms is ks vs b.calls h.calls (body.calls own ws long) right) (demands_same ms is ks vs b.conditions h.needs (body.conditions own ws long))
+    (sites_same ms is ks vs b.calls h.calls (body.calls own ws long) right) (demands_same ms is ks vs b.conditions h.needs (body.conditions own ws long))
     ∙ ap (λ (z : Option Bits). trace (map (site_of is) h.calls) (map (demand_of ms is) h.needs) z) (result_same vs h.words b.result gives (body.result own ws long))
     ∙ steps_are ms is ss gives r ws

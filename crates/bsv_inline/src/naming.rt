@@ -50,7 +50,11 @@ pub(crate) fn name_of(
     match &instance.made {
         Made::Primitive(..) => Name::new(alloc, path),
         Made::Module(built) => {
-            path_of(alloc, path, method_name(modules, built.module, place.method))
+            path_of(
+                alloc,
+                path,
+                method_name(modules, built.module, place.method),
+            )
         }
     }
 }
