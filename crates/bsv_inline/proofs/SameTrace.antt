@@ -1,7 +1,7 @@
 -- A flat body and the element that it is in a design have one trace.
-use Rattle.std.proofs.Common.{◌≡◌, ◌∙◌, ℕ, Bool, true, false, List, [], ◌∷◌, ◌++◌, length, map, Option, Some, None, refl, sym, ap, ap₂, subst}
+use Rattle.std.proofs.Common.{◌≡◌, ◌∙◌, ℕ, Bool, true, false, List, [], ◌∷◌, ◌++◌, length, map, Option, Some, None, refl, ap, ap₂}
 use Rattle.std.specs.Bool.{beq}
-use Rattle.std.specs.Prelude.{slice_get, option_map, IsTrue, ◌&&◌}
+use Rattle.std.specs.Prelude.{nat_lt, slice_get, option_map, IsTrue, ◌&&◌}
 use Rattle.std.specs.List.{list_all}
 use Rattle.std.proofs.lemmas.Option.{slice_get-map}
 use Rattle.bsv_bits.specs.Words.{Bits, bit}
@@ -9,6 +9,8 @@ use Rattle.bsv_types.specs.declared.modules.Module.{Module}
 use Rattle.bsv_design.specs.declared.element.Call.{Call as PartCall}
 use Rattle.bsv_design.specs.declared.element.Condition.{Condition as NamedCondition}
 use Rattle.bsv_design.specs.declared.element.Element.{Element}
+use Rattle.bsv_design.specs.declared.element.Port.{Port}
+use Rattle.bsv_design.specs.declared.element.Role.{Role}
 use Rattle.bsv_design.specs.declared.kind.Kind.{Kind}
 use Rattle.bsv_design.specs.declared.node.Branch.{Branch}
 use Rattle.bsv_design.specs.declared.node.Node.{Node}
@@ -18,14 +20,15 @@ use Rattle.bsv_design.specs.declared.steps.Step.{Step}
 use Rattle.bsv_design.specs.declared.tree.Instance.{Instance}
 use Rattle.bsv_design.specs.Bodies as bodies
 use Rattle.bsv_design.specs.Bodies.{Answers, Target, at}
-use Rattle.bsv_design.specs.Running.{Results, Happening, SiteCall, Need, or_zero, is_one, word_of, happening}
+use Rattle.bsv_design.specs.Kinds.{kind_table}
+use Rattle.bsv_design.specs.Running.{Results, SiteCall, Need, or_zero, is_one, word_of, happening}
 use Rattle.bsv_design.specs.Traces.{Site, Demand, Trace, acts, kind_at, site_at, demand_at, body_trace, target_of, place_name, site_of, demand_of, step_trace}
 use Rattle.bsv_inline.specs.declared.body.Body.{Body}
 use Rattle.bsv_inline.specs.declared.calls.Call.{Call}
 use Rattle.bsv_inline.specs.declared.calls.Condition.{Condition}
 use Rattle.bsv_inline.specs.Bodies.{IsSite, AreSites, IsNeed, AreNeeds, IsResult, IsBody, words}
 use Rattle.bsv_inline.specs.Nodes as nodes
-use Rattle.bsv_inline.specs.Placed.{placed_call, named_condition, acts_rightly}
+use Rattle.bsv_inline.specs.Placed.{placed_call, named_condition, element, kind_fits, call_fits, acts_rightly}
 use Rattle.bsv_inline.proofs.Words.{shows_words}
 
 -- what parts give, as what methods of instances give
@@ -38,6 +41,15 @@ pub record IsElementOf (ms : List Module) (is : List Instance) (b : Body) (e : E
   pub calls : e.calls ≡ map (placed_call is) b.calls
   pub conditions : e.conditions ≡ map (named_condition ms is) b.conditions
   pub result : e.result ≡ b.result
+
+pub is_element : (ms : List Module) (is : List Instance) (name : List ℕ) (role : Role) (ports : List Port) (b : Body) (e : Element)
+    → e ≡ element ms is name role ports b → IsElementOf ms is b e
+is_element ms is name role ports b e made = record {
+  nodes = ap (λ (x : Element). x.nodes) made;
+  calls = ap (λ (x : Element). x.calls) made;
+  conditions = ap (λ (x : Element). x.conditions) made;
+  result = ap (λ (x : Element). x.result) made;
+}
 
 -- ---- words
 
@@ -90,16 +102,29 @@ one_of vs k b e = ap (λ (o : Option Bits). is_one (or_zero o)) e ∙ by b where
 same_bool : (x y : Bool) → IsTrue (beq x y) → x ≡ y
 same_bool true true h = refl
 same_bool false false h = refl
-same_bool true false h = absurd h
-same_bool false true h = absurd h
+same_bool true false h = absurd cc
+same_bool false true h = absurd cc
 
 first_of_both : (x y : Bool) → IsTrue (x && y) → IsTrue x
-first_of_both true y h = tt
-first_of_both false y h = absurd h
+first_of_both true y h = refl
+first_of_both false y h = absurd cc
 
 second_of_both : (x y : Bool) → IsTrue (x && y) → IsTrue y
 second_of_both true y h = h
-second_of_both false y h = absurd h
+second_of_both false y h = absurd cc
+
+both_of : (x y : Bool) → IsTrue x → IsTrue y → IsTrue (x && y)
+both_of true y h k = k
+both_of false y h k = absurd cc
+
+-- calls that fit act where their methods do
+pub acts_where_fits : (ks : List Kind) (is : List Instance) (cs : List Call) → IsTrue (list_all (call_fits ks is) cs) → IsTrue (list_all (acts_rightly ks is) cs)
+acts_where_fits ks is [] h = refl
+acts_where_fits ks is (c ∷ cs) h =
+    both_of _ _ (of_kind (kind_at ks (target_of is c.method)) c (first_of_both _ _ h)) (acts_where_fits ks is cs (second_of_both (call_fits ks is c) _ h)) where
+      of_kind : (o : Option Kind) (x : Call) → IsTrue (kind_fits o x) → IsTrue (beq (acts o x.method.method) x.action)
+      of_kind None x h = absurd cc
+      of_kind (Some k) x h = second_of_both (nat_lt x.method.method (kind_table k).methods) _ h
 
 module _ (ms : List Module) (is : List Instance) (ks : List Kind) (vs : List Bits) where
   site_same : (c : Call) (s : SiteCall) → IsSite vs c s → IsTrue (acts_rightly ks is c) → site_at ks vs (placed_call is c) ≡ site_of is s

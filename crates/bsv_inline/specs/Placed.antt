@@ -1,6 +1,6 @@
 -- The element that a flat body is in a design: its calls name parts, and its conditions have the names of the methods that
 -- they stand for (Bluespec reference guide, "Module and interface instantiation").
-use Rattle.std.specs.Prelude.{◌≡◌, ℕ, ◌+◌, ◌≤◌, Bool, List, map, length, slice_get, Option, Some, None, option_map}
+use Rattle.std.specs.Prelude.{◌≡◌, ℕ, ◌+◌, ◌≤◌, nat_lt, Bool, false, ◌&&◌, List, map, length, slice_get, Option, Some, None, option_map}
 use Rattle.std.specs.Bool.{beq}
 use Rattle.bsv_types.specs.declared.modules.Method.{Method}
 use Rattle.bsv_types.specs.declared.modules.Module.{Module}
@@ -11,6 +11,7 @@ use Rattle.bsv_design.specs.declared.element.Port.{Port}
 use Rattle.bsv_design.specs.declared.element.Role.{Role}
 use Rattle.bsv_design.specs.declared.kind.Kind.{Kind}
 use Rattle.bsv_design.specs.declared.tree.Instance.{Instance}
+use Rattle.bsv_design.specs.Kinds.{kind_table}
 use Rattle.bsv_design.specs.Traces.{acts, kind_at, parts_before, target_of, place_name}
 use Rattle.bsv_inline.specs.declared.body.Body.{Body}
 use Rattle.bsv_inline.specs.declared.calls.Call.{Call}
@@ -48,6 +49,15 @@ element ms is name role ports b = record {
   result = b.result;
 }
 
--- the call acts where its method does, in a design of parts of these kinds
+-- the method is one of the kind, and acts where the call does
+abbrev pub kind_fits : Option Kind → Call → Bool
+kind_fits None c = false
+kind_fits (Some k) c = nat_lt c.method.method (kind_table k).methods && beq ((kind_table k).is_action c.method.method) c.action
+
+-- the same of a call, in a design of parts of these kinds
+abbrev pub call_fits : List Kind → List Instance → Call → Bool
+call_fits ks is c = kind_fits (kind_at ks (target_of is c.method)) c
+
+-- the call acts where its method does
 abbrev pub acts_rightly : List Kind → List Instance → Call → Bool
 acts_rightly ks is c = beq (acts (kind_at ks (target_of is c.method)) c.method.method) c.action

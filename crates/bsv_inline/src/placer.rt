@@ -1,4 +1,5 @@
 ghost use Rattle.std.specs.Prelude.{◌≡◌, IfOk, map};
+ghost use Rattle.std.specs.List.{list_all};
 ghost use Rattle.bsv_inline.specs.Placed as placed;
 ghost use Rattle.bsv_inline.specs.Placed.{ArePartNumbers};
 
@@ -9,7 +10,8 @@ use crate::parts::part_of;
 use crate::state::Laid;
 use bsv_bits::{Name, OutOfMemory};
 use bsv_design as design;
-use bsv_design::{Element, Instance, Port, Role};
+use bsv_design::{Element, Instance, NamedPart, Port, Role};
+use bsv_prim::Primitive;
 use bsv_types::Module;
 use sqlite_items::Items;
 use std::alloc::Global;
@@ -21,18 +23,18 @@ pub struct Placer<'a> {
     pub modules: &'a [Module],
     pub instances: &'a [Instance],
     /// Of each instance, how many primitives stand before it, and at the end how many there are.
-    pub parts: &'a [u32],
+    pub numbers: &'a [u32],
 }
 
 impl Placer<'_> {
     /// The call, of a method of a part.
     fn call(self, call: &Call) -> Laid<design::Call>
-        requires { ArePartNumbers self.instances.now self.parts.now }
+        requires { ArePartNumbers self.instances.now self.numbers.now }
         ensures { IfOk result
             (λ own. own ≡ placed.placed_call self.entry.instances.now call.now) }
     {
         Ok(design::Call {
-            part: part_of(self.instances, self.parts, call.method.instance),
+            part: part_of(self.instances, self.numbers, call.method.instance),
             method: call.method.method,
             taken: call.taken,
             branches: Items::from_slice(self.alloc, call.branches.as_slice())?,
@@ -42,7 +44,7 @@ impl Placer<'_> {
 
     /// The calls, of methods of parts.
     fn calls(self, calls: &[Call]) -> Laid<Items<design::Call>>
-        requires { ArePartNumbers self.instances.now self.parts.now }
+        requires { ArePartNumbers self.instances.now self.numbers.now }
         ensures { IfOk result
             (λ own. own ≡ map (placed.placed_call self.entry.instances.now) calls.now) }
     {
@@ -85,6 +87,38 @@ impl Placer<'_> {
         Ok(own)
     }
 
+    /// Whether the method is one of its part, and acts where the call does.
+    fn fits(self, parts: &[NamedPart], call: &Call) -> bool
+        requires { ArePartNumbers self.instances.now self.numbers.now }
+        ensures { result ≡ placed.call_fits
+            (map (λ p. p.kind) parts.now) self.entry.instances.now call.now }
+    {
+        let part = part_of(self.instances, self.numbers, call.method.instance);
+        let method = call.method.method;
+        match parts.get(part as usize) {
+            Some(part) => {
+                method < part.kind.methods() && part.kind.is_action(method) == call.action
+            }
+            None => false,
+        }
+    }
+
+    /// Whether the method of each call is one of its part, and acts where the call does.
+    pub fn all_fit(self, parts: &[NamedPart], calls: &[Call]) -> bool
+        requires { ArePartNumbers self.instances.now self.numbers.now }
+        ensures { result ≡ list_all (placed.call_fits
+            (map (λ p. p.kind) parts.now) self.entry.instances.now) calls.now }
+    {
+        let mut rest = calls;
+        while let Some((call, after)) = rest.split_first() {
+            if !self.fits(parts, call) {
+                return false;
+            }
+            rest = after;
+        }
+        true
+    }
+
     /// The element of this body.
     pub fn element(
         self,
@@ -93,7 +127,7 @@ impl Placer<'_> {
         arguments: Items<Port>,
         body: Body,
     ) -> Result<Element, OutOfMemory>
-        requires { ArePartNumbers self.instances.now self.parts.now }
+        requires { ArePartNumbers self.instances.now self.numbers.now }
         ensures { IfOk result (λ e. e ≡ placed.element
             self.entry.modules.now self.entry.instances.now name role arguments body) }
     {

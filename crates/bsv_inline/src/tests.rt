@@ -1,6 +1,11 @@
-use crate::{Condition, flat_body};
-use bsv_bits::Word;
-use bsv_design::{Arm, Atom, Branch, Choice, Compute, MethodPlace, Node, Step};
+use crate::{Condition, Placer, flat_body, part_numbers};
+use bsv_bits::{Name, Word};
+use bsv_design::{
+    Arm, Atom, Branch, Built, Choice, Compute, Instance, Kind, Made, MethodPlace, NamedPart, Node,
+    Role, Step,
+};
+use bsv_prim::PulseKind;
+use bsv_types::{Body as Statements, Method, MethodResult, Module, PartTy, Ty};
 use sqlite_items::Items;
 use std::alloc::Global;
 use std::process::Abort;
@@ -82,5 +87,125 @@ fn a_condition_and_a_result(rt: HostRuntime) -> Result<(), Fail> {
         }
         Err(_) => assert!(rt; false),
     }
+    Ok(())
+}
+
+/// A module with one method.
+fn module_with_go(alloc: Global) -> Result<Module, Fail> {
+    let mut methods = Items::new(alloc);
+    methods.push(Method {
+        name: Name::new(alloc, b"go")?,
+        params: Items::new(alloc),
+        result: MethodResult::Action,
+        condition: None,
+        body: Statements::Statements(Items::new(alloc)),
+    })?;
+    Ok(Module {
+        name: Name::new(alloc, b"mkT")?,
+        attributes: Items::new(alloc),
+        params: Items::new(alloc),
+        interface: Ty::Interface(0),
+        rules: Items::new(alloc),
+        methods,
+        body: Items::new(alloc),
+    })
+}
+
+/// An instance of the first module.
+fn of_module(alloc: Global, path: &[u8]) -> Result<Instance, Fail> {
+    Ok(Instance {
+        path: Name::new(alloc, path)?,
+        made: Made::Module(Built {
+            module: 0,
+            bindings: Items::new(alloc),
+            rules: Items::new(alloc),
+            methods: Items::new(alloc),
+        }),
+    })
+}
+
+/// A pulse wire.
+fn pulse(alloc: Global, path: &[u8]) -> Result<Instance, Fail> {
+    Ok(Instance {
+        path: Name::new(alloc, path)?,
+        made: Made::Primitive(PartTy::PulseWire, Kind::Pulse(PulseKind {})),
+    })
+}
+
+/// A call of `a.w.send()`, behind the condition of `a.go`.
+fn sent(alloc: Global) -> Result<Items<Step>, Fail> {
+    let go = MethodPlace {
+        instance: 2,
+        method: 0,
+    };
+    let send = MethodPlace {
+        instance: 3,
+        method: 0,
+    };
+    let mut steps = Items::new(alloc);
+    steps.push(Step::Need(Some(go), Atom::Slot(0), Items::new(alloc)))?;
+    steps.push(Step::Act(send, Items::new(alloc), Items::new(alloc)))?;
+    Ok(steps)
+}
+
+#[test]
+fn an_element_of_a_design(rt: HostRuntime) -> Result<(), Fail> {
+    let alloc = rt.alloc();
+    let mut modules = Items::new(alloc);
+    modules.push(module_with_go(alloc)?)?;
+    let mut instances = Items::new(alloc);
+    instances.push(of_module(alloc, b"")?)?;
+    instances.push(pulse(alloc, b"w")?)?;
+    instances.push(of_module(alloc, b"a")?)?;
+    instances.push(pulse(alloc, b"a.w")?)?;
+    let numbers = part_numbers(alloc, instances.as_slice())?;
+    assert_eq!(rt; numbers.as_slice(), [0, 0, 1, 1, 2].as_slice());
+    let placer = Placer {
+        alloc,
+        modules: modules.as_slice(),
+        instances: instances.as_slice(),
+        numbers: numbers.as_slice(),
+    };
+    let steps = sent(alloc)?;
+    let body = flat_body(alloc, 1, steps.as_slice(), None)?;
+    let name = Name::new(alloc, b"put")?;
+    let element = placer.element(name, Role::Action, Items::new(alloc), body)?;
+    assert_eq!(rt; element.name.bytes(), b"put".as_slice());
+    assert_eq!(rt; (element.calls.len(), element.conditions.len()), (1, 1));
+    if let Some(call) = element.calls.get(0) {
+        assert_eq!(rt; (call.part, call.method), (1, 0));
+    }
+    if let Some(condition) = element.conditions.get(0) {
+        if let Some(name) = &condition.implicit {
+            assert_eq!(rt; name.bytes(), b"a.go".as_slice());
+        }
+    }
+    Ok(())
+}
+
+#[test]
+fn a_call_acts_where_its_method_does(rt: HostRuntime) -> Result<(), Fail> {
+    let alloc = rt.alloc();
+    let mut instances = Items::new(alloc);
+    instances.push(pulse(alloc, b"w")?)?;
+    let numbers = part_numbers(alloc, instances.as_slice())?;
+    let placer = Placer {
+        alloc,
+        modules: &[],
+        instances: instances.as_slice(),
+        numbers: numbers.as_slice(),
+    };
+    let mut parts = Items::new(alloc);
+    parts.push(NamedPart {
+        path: Name::new(alloc, b"w")?,
+        kind: Kind::Pulse(PulseKind {}),
+    })?;
+    let mut steps = Items::new(alloc);
+    steps.push(Step::Act(method(0), Items::new(alloc), Items::new(alloc)))?;
+    let sends = flat_body(alloc, 0, steps.as_slice(), None)?;
+    assert!(rt; placer.all_fit(parts.as_slice(), sends.calls.as_slice()));
+    let steps = written_where(alloc)?;
+    let writes = flat_body(alloc, 1, steps.as_slice(), None)?;
+    assert!(rt; !placer.all_fit(parts.as_slice(), writes.calls.as_slice()));
     Ok(())
 }

@@ -1,0 +1,12 @@
+use Rattle.std.proofs.Common.{◌≡◌, length, map}
+use Rattle.std.specs.List.{list_all}
+use Rattle.bsv_inline.specs.Placed.{call_fits}
+use Rattle.bsv_inline.proofs.placer.Placer.all_fit.Given as goal
+
+abbrev pub decreases-loop-call : goal.decreases-loop-call
+decreases-loop-call l = length l.rest
+
+abbrev pub invariant-loop-call : goal.invariant-loop-call
+invariant-loop-call l =
+    list_all (call_fits (map (λ p. p.kind) l.parts) l.self.instances.now) l.calls
+    ≡ list_all (call_fits (map (λ p. p.kind) l.parts) l.self.instances.now) l.rest
