@@ -1,5 +1,5 @@
 -- The flat bodies of a tree are a design.
-use Rattle.std.proofs.Common.{◌≡◌, ◌∙◌, ℕ, zero, suc, ◌+◌, ◌<◌, IsTrue, Bool, true, false, List, [], ◌∷◌, ◌++◌, map, length, Option, Some, None, refl, sym, ap, subst, arith}
+use Rattle.std.proofs.Common.{◌≡◌, ◌∙◌, ℕ, zero, suc, ◌+◌, ◌<◌, IsTrue, Bool, true, false, List, [], ◌∷◌, ◌++◌, map, length, Option, Some, None, refl, sym, ap, subst, arith, length-append}
 use Rattle.std.specs.Prelude.{slice_get, nat_lt, option_map, if◌then◌else◌}
 use Rattle.std.specs.List.{list_all}
 use Rattle.std.proofs.Math.Logic.{∥∥₁_elim, ∥∥₁_prop}
@@ -7,6 +7,7 @@ use Rattle.std.proofs.lemmas.Bool.{lt-ltb}
 use Rattle.bsv_bits.specs.Words.{Bits}
 use Rattle.bsv_types.specs.declared.modules.Module.{Module}
 use Rattle.bsv_types.specs.Names.{countable}
+use Rattle.bsv_design.specs.declared.design.Design.{Design}
 use Rattle.bsv_design.specs.declared.design.NamedPart.{NamedPart}
 use Rattle.bsv_design.specs.declared.element.Element.{Element}
 use Rattle.bsv_design.specs.declared.element.Role.{Role}
@@ -14,25 +15,26 @@ use Rattle.bsv_design.specs.declared.element.Port.{Port}
 use Rattle.bsv_design.specs.declared.kind.Kind.{Kind}
 use Rattle.bsv_design.specs.declared.source.Source.{Source}
 use Rattle.bsv_design.specs.declared.tree.Assert.{Assert}
+use Rattle.bsv_design.specs.declared.tree.Instance.{Instance}
 use Rattle.bsv_design.specs.declared.tree.Pair.{Pair}
 use Rattle.bsv_design.specs.declared.whole.Tree.{Tree}
 use Rattle.bsv_design.specs.Bodies.{Answers}
 use Rattle.bsv_design.specs.Designs.{Blueprint, IsElement, IsDesign}
 use Rattle.bsv_design.specs.Schemes.{design_scheme, tree_scheme, AreAlike}
-use Rattle.bsv_design.specs.Seen.{hierarchy}
+use Rattle.bsv_design.specs.Seen.{blueprint, hierarchy}
 use Rattle.bsv_design.specs.Sources.{source_at, element_at, element_count, parts_among}
 use Rattle.bsv_design.specs.Traces.{body_trace, step_trace}
 use Rattle.bsv_design.specs.Trees.{Hierarchy, IsTree}
 use Rattle.bsv_inline.specs.declared.body.Body.{Body}
 use Rattle.bsv_inline.specs.Bodies.{IsBody}
 use Rattle.bsv_inline.specs.Flattening.{kinds, IsFlat, AreFlat, IsLaidOut, AreLaidOut, KeepsWidths, top_name}
-use Rattle.bsv_inline.specs.Placed.{element, acts_rightly}
+use Rattle.bsv_inline.specs.Placed.{element, call_fits}
 use Rattle.bsv_inline.proofs.Alike.{alike}
 use Rattle.bsv_inline.proofs.Flattened.{flat_at, exclusive, decided}
 use Rattle.bsv_inline.proofs.Outlined.{AreOutlined, KeepsNames}
 use Rattle.bsv_inline.proofs.OutlinedDesigns.{laid_out, is_design}
 use Rattle.bsv_inline.proofs.OutlinedNames.{keeps_names}
-use Rattle.bsv_inline.proofs.SameTrace.{IsElementOf, same_trace}
+use Rattle.bsv_inline.proofs.SameTrace.{IsElementOf, same_trace, acts_where_fits}
 
 -- ---- one element
 
@@ -57,19 +59,30 @@ stands h s b e made = record {
 }
 
 -- the element of a source, of a body that does what its steps do
-pub laid_flat : (h : Hierarchy) (n count : ℕ) (s : Source) (b : Body) (parts : List NamedPart) (e : Element)
+flat_of : (h : Hierarchy) (n count : ℕ) (s : Source) (b : Body) (parts : List NamedPart) (e : Element)
     → n < element_count h → source_at h n ≡ Some s → count ≡ length s.ports → parts ≡ parts_among h.instances
-    → IsBody count s.steps s.gives b → list_all (acts_rightly (map (λ p. p.kind) parts) h.instances) b.calls ≡ true
+    → IsBody count s.steps s.gives b → list_all (call_fits (map (λ p. p.kind) parts) h.instances) b.calls ≡ true
     → e ≡ element h.typed.modules h.instances s.name s.role s.ports b → IsFlat h n e
-laid_flat h n count s b parts e l at many among body right made = record {
+flat_of h n count s b parts e l at many among body right made = record {
   source = s;
   at = below h n s l at;
   name = ap (λ (x : Element). x.name) made;
   role = ap (λ (x : Element). x.role) made;
   arguments = ap (λ (x : Element). x.arguments) made;
   trace = λ r ws long. ap (λ ks. body_trace ks e r ws) (sym (kinds_are h parts among))
-      ∙ same_trace h.typed.modules h.instances (map (λ p. p.kind) parts) count s.steps s.gives b e body (stands h s b e made) right r ws (long ∙ sym many);
+      ∙ same_trace h.typed.modules h.instances (map (λ p. p.kind) parts) count s.steps s.gives b e body (stands h s b e made)
+      (acts_where_fits (map (λ p. p.kind) parts) h.instances b.calls right) r ws (long ∙ sym many);
 }
+
+pub laid_flat : (h : Hierarchy) (n count : ℕ) (s : Source) (b : Body) (parts : List NamedPart) (e : Element) (ms : List Module) (is : List Instance)
+    → n < element_count h → source_at h n ≡ Some s → count ≡ length s.ports → parts ≡ parts_among h.instances → ms ≡ h.typed.modules → is ≡ h.instances
+    → IsBody count s.steps s.gives b → list_all (call_fits (map (λ p. p.kind) parts) is) b.calls ≡ true
+    → e ≡ element ms is s.name s.role s.ports b → IsFlat h n e
+laid_flat h n count s b parts e ms is l at many among modules instances body right made =
+    let made_here : e ≡ element h.typed.modules is s.name s.role s.ports b = made ∙ ap (λ (x : List Module). element x is s.name s.role s.ports b) modules in
+    flat_of h n count s b parts e l at many among body
+    (subst (λ (x : List Instance). list_all (call_fits (map (λ p. p.kind) parts) x) b.calls ≡ true) instances right)
+    (made_here ∙ ap (λ (x : List Instance). element h.typed.modules x s.name s.role s.ports b) instances)
 
 -- ---- one more
 
@@ -79,8 +92,13 @@ more_from h (x ∷ es) e k f g =
     let at : k + suc (length es) ≡ k + 1 + length es = omega arith in
     (f.0, more_from h es e (k + 1) f.1 (subst (λ j. IsLaidOut h j e) at g))
 
-pub laid_more : (h : Hierarchy) (es : List Element) (e : Element) (n : ℕ) → AreLaidOut h 0 es → n ≡ length es → IsLaidOut h n e → AreLaidOut h 0 (es ++ e ∷ [])
-laid_more h es e n f at g = more_from h es e 0 f (let j : n ≡ 0 + length es = omega (arith, at) in subst (λ i. IsLaidOut h i e) j g)
+pub laid_more : (h : Hierarchy) (es all : List Element) (e : Element) (n : ℕ) → AreLaidOut h 0 es → n ≡ length es → IsLaidOut h n e → all ≡ es ++ e ∷ []
+    → AreLaidOut h 0 all × (n + 1 ≡ length all)
+laid_more h es all e n f at g is =
+    let from : n ≡ 0 + length es = omega (arith, at) in
+    let long : length (es ++ e ∷ []) ≡ length es + 1 = omega (arith, length-append es (e ∷ [])) in
+    (subst (AreLaidOut h 0) (sym is) (more_from h es e 0 f (subst (λ i. IsLaidOut h i e) from g)),
+     ap (λ k. k + 1) at ∙ sym long ∙ ap (λ (xs : List Element). length xs) (sym is))
 
 -- ---- all elements
 
@@ -114,9 +132,14 @@ is_element h es l names n e is =
       decided = decided h n e f;
     }
 
+record IsTop (h : Hierarchy) (name : List ℕ) : Type 0 where
+  «module» : Module
+  at : slice_get h.typed.modules h.top ≡ Some «module»
+  named : «module».name ≡ name
+
 of_top : (h : Hierarchy) (name : List ℕ) (o : Option Module) → slice_get h.typed.modules h.top ≡ o → option_map (λ m. m.name) o ≡ Some name
-    → (m : Module) × (slice_get h.typed.modules h.top ≡ Some m) × (m.name ≡ name)
-of_top h name (Some m) at is = let it : m.name ≡ name = cc in (m, at, it)
+    → IsTop h name
+of_top h name (Some m) at is = let it : m.name ≡ name = cc in record { «module» = m; at = at; named = it }
 of_top h name None at is = absurd cc
 
 of_tree : (h : Hierarchy) → IsTree h → (name : List ℕ) (es : List Element) (ps : List NamedPart) (pairs : List Pair) (asserts : List Assert)
@@ -127,8 +150,8 @@ of_tree h t name es ps pairs asserts l long few_elements few_parts top parts p a
     let names = keeps_names h t es (outlined h es l long) in
     let m = of_top h name (slice_get h.typed.modules h.top) refl top in
     let few : countable (parts_among h.instances) ≡ true = ap (λ (xs : List NamedPart). countable xs) (sym parts) ∙ few_parts in
-    let d = is_design h m.0 es names m.1.0 few_elements few (is_element h es l names) in
-    let one = subst (λ (x : List ℕ). IsDesign (record { name = x; elements = es; parts = parts_among h.instances; pairs = h.pairs; asserts = h.asserts })) m.1.1 d in
+    let d = is_design h m.«module» es names m.at few_elements few (is_element h es l names) in
+    let one = subst (λ (x : List ℕ). IsDesign (record { name = x; elements = es; parts = parts_among h.instances; pairs = h.pairs; asserts = h.asserts })) m.named d in
     let two = subst (λ (x : List NamedPart). IsDesign (record { name = name; elements = es; parts = x; pairs = h.pairs; asserts = h.asserts })) (sym parts) one in
     let three = subst (λ (x : List Pair). IsDesign (record { name = name; elements = es; parts = ps; pairs = x; asserts = h.asserts })) (sym p) two in
     subst (λ (x : List Assert). IsDesign (record { name = name; elements = es; parts = ps; pairs = pairs; asserts = x })) (sym a) three
@@ -140,6 +163,13 @@ pub designed : (t : Tree) (name : List ℕ) (es : List Element) (ps : List Named
 designed t name es ps pairs asserts l long few_elements few_parts top parts p a =
     ∥∥₁_elim t.right ∥∥₁_prop (λ right. ∣ of_tree (hierarchy t) right name es ps pairs asserts l long few_elements few_parts top parts p a ∣₁)
 
-pub is_alike : (t : Tree) (b : Blueprint) → AreLaidOut (hierarchy t) 0 b.elements → length b.elements ≡ element_count (hierarchy t)
+alike_of : (t : Tree) (b : Blueprint) → AreLaidOut (hierarchy t) 0 b.elements → length b.elements ≡ element_count (hierarchy t)
     → b.parts ≡ parts_among t.instances → b.pairs ≡ t.pairs → b.asserts ≡ t.asserts → AreAlike (tree_scheme (hierarchy t)) (design_scheme b)
-is_alike t b l long parts pairs asserts = alike (hierarchy t) b parts (flat_all (hierarchy t) b.elements 0 l) long pairs asserts
+alike_of t b l long parts pairs asserts = alike (hierarchy t) b parts (flat_all (hierarchy t) b.elements 0 l) long pairs asserts
+
+pub is_alike : (t : Tree) (d : Design) (es : List Element) (ps : List NamedPart) (pairs : List Pair) (asserts : List Assert)
+    → AreLaidOut (hierarchy t) 0 es → length es ≡ element_count (hierarchy t) → ps ≡ parts_among t.instances → pairs ≡ t.pairs → asserts ≡ t.asserts
+    → d.elements ≡ es → d.parts ≡ ps → d.pairs ≡ pairs → d.asserts ≡ asserts → AreAlike (tree_scheme (hierarchy t)) (design_scheme (blueprint d))
+is_alike t d es ps pairs asserts l long parts p a elements_is parts_is pairs_is asserts_is =
+    alike_of t (blueprint d) (subst (AreLaidOut (hierarchy t) 0) (sym elements_is) l) (ap (λ (xs : List Element). length xs) elements_is ∙ long)
+    (parts_is ∙ parts) (pairs_is ∙ p) (asserts_is ∙ a)

@@ -42,9 +42,9 @@ pub record IsElementOf (ms : List Module) (is : List Instance) (b : Body) (e : E
   pub conditions : e.conditions ≡ map (named_condition ms is) b.conditions
   pub result : e.result ≡ b.result
 
-pub is_element : (ms : List Module) (is : List Instance) (name : List ℕ) (role : Role) (ports : List Port) (b : Body) (e : Element)
-    → e ≡ element ms is name role ports b → IsElementOf ms is b e
-is_element ms is name role ports b e made = record {
+pub is_element : (ms : List Module) (is : List Instance) (name : List ℕ) (as_role : Role) (ports : List Port) (b : Body) (e : Element)
+    → e ≡ element ms is name as_role ports b → IsElementOf ms is b e
+is_element ms is name as_role ports b e made = record {
   nodes = ap (λ (x : Element). x.nodes) made;
   calls = ap (λ (x : Element). x.calls) made;
   conditions = ap (λ (x : Element). x.conditions) made;

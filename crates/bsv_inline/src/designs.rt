@@ -1,24 +1,21 @@
-ghost use Rattle.std.specs.Prelude.{◌≡◌, ◌+◌, ◌<◌, true, Some, length, map, IfOk};
-ghost use Rattle.std.specs.List.{list_all};
+ghost use Rattle.std.specs.Prelude.{◌≡◌, ◌+◌, ◌<◌, true, Some, length, IfOk};
 ghost use Rattle.bsv_design.specs.Schemes.{design_scheme, tree_scheme, AreAlike};
 ghost use Rattle.bsv_design.specs.Seen.{blueprint, hierarchy};
 ghost use Rattle.bsv_design.specs.Sources as sources;
 ghost use Rattle.bsv_design.specs.Trees as trees;
 ghost use Rattle.bsv_inline.specs.Flattening as flattening;
-ghost use Rattle.bsv_inline.specs.Placed as placed;
 ghost use Rattle.bsv_inline.specs.Placed.{ArePartNumbers};
 ghost use Rattle.bsv_inline.specs.SourcesAtHand as at_hand;
 
 use crate::body::flat_body;
-use crate::calls::Call;
-use crate::parts::{part_numbers, part_of};
+use crate::parts::part_numbers;
 use crate::placer::Placer;
 use crate::primitives::parts;
 use crate::sources::Sources;
 use crate::state::{Laid, numbered};
 use bsv_bits::{Name, OutOfMemory};
 use bsv_design::{Design, Element, Instance, Made, NamedPart, Source, Tree};
-use bsv_widths::{acts, has_widths, is_countable, value_acts_not};
+use bsv_widths::{has_widths, is_countable, value_acts_not};
 use sqlite_items::Items;
 use std::alloc::Global;
 
@@ -58,44 +55,14 @@ impl<'a> Layout<'a> {
     fn placer(self) -> Placer<'a>
         ensures modules { result.modules.now ≡ (at_hand.tree self.entry.sources).typed.modules }
         ensures instances { result.instances.now ≡ (at_hand.tree self.entry.sources).instances }
-        ensures parts { result.parts.now ≡ self.entry.numbers.now }
+        ensures numbers { result.numbers.now ≡ self.entry.numbers.now }
     {
         Placer {
             alloc: self.sources.alloc,
             modules: self.sources.tree.typed.modules.as_slice(),
             instances: self.sources.tree.instances.as_slice(),
-            parts: self.numbers,
+            numbers: self.numbers,
         }
-    }
-
-    /// Whether the call acts where its method does.
-    fn acts_rightly(self, call: &Call) -> bool
-        requires { ArePartNumbers (at_hand.tree self.sources).instances self.numbers.now }
-        ensures { result ≡ placed.acts_rightly (map (λ p. p.kind) self.entry.parts.now)
-            (at_hand.tree self.entry.sources).instances call.now }
-    {
-        let instances = self.sources.tree.instances.as_slice();
-        let part = part_of(instances, self.numbers, call.method.instance);
-        match self.parts.get(part as usize) {
-            Some(part) => acts(&part.kind, call.method.method) == call.action,
-            None => !call.action,
-        }
-    }
-
-    /// Whether each call acts where its method does.
-    fn all_act_rightly(self, calls: &[Call]) -> bool
-        requires { ArePartNumbers (at_hand.tree self.sources).instances self.numbers.now }
-        ensures { result ≡ list_all (placed.acts_rightly (map (λ p. p.kind) self.entry.parts.now)
-            (at_hand.tree self.entry.sources).instances) calls.now }
-    {
-        let mut rest = calls;
-        while let Some((call, after)) = rest.split_first() {
-            if !self.acts_rightly(call) {
-                return false;
-            }
-            rest = after;
-        }
-        true
     }
 
     /// The element of a position as a flat body.
@@ -118,10 +85,11 @@ impl<'a> Layout<'a> {
         } = source;
         let count = numbered(ports.len())?;
         let body = flat_body(self.sources.alloc, count, steps.as_slice(), gives)?;
-        if !self.all_act_rightly(body.calls.as_slice()) {
+        let placer = self.placer();
+        if !placer.all_fit(self.parts, body.calls.as_slice()) {
             return Err(OutOfMemory);
         }
-        let element = self.placer().element(name, role, ports, body)?;
+        let element = placer.element(name, role, ports, body)?;
         Ok(element)
     }
 
@@ -170,7 +138,8 @@ impl<'a> Layout<'a> {
     {
         let mut elements = Items::new(self.sources.alloc);
         for position in 0..count {
-            elements.push(self.element(position)?)?;
+            let element = self.element(position)?;
+            elements.push(element)?;
         }
         Ok(elements)
     }

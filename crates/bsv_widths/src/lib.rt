@@ -14,5 +14,4 @@ mod operators;
 mod tests;
 
 pub use elements::{has_widths, is_countable, value_acts_not};
-pub use methods::acts;
 pub use node_widths::widths;

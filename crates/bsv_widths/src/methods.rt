@@ -31,7 +31,7 @@ pub(crate) fn answer_width(kind: &Kind, method: u32) -> u32
 
 /// Whether a method acts. A number behind the last method stands for the last one.
 #[tactic(auto, using(crate::proofs::LastMethods::some_methods, crate::proofs::LastMethods::last_stands))]
-pub fn acts(kind: &Kind, method: u32) -> bool
+pub(crate) fn acts(kind: &Kind, method: u32) -> bool
     ensures { result ≡ (kind_table kind.now).is_action method }
 {
     let methods = kind.methods();
