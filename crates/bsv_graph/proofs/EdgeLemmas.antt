@@ -3,7 +3,7 @@ use Rattle.std.proofs.lemmas.Bool.{cases_eq}
 use Rattle.std.specs.Prelude.{IsTrue, if◌then◌else◌, All, filter}
 use Rattle.std.specs.List.{flat_map}
 use Rattle.bsv_graph.specs.declared.edge.Edge.{Edge}
-use Rattle.bsv_graph.specs.Edges.{IsGraphOn, numbers_below, edges_from, edges_where}
+use Rattle.bsv_graph.specs.Edges.{AllBelow, numbers_below, edges_from, edges_where}
 use Rattle.bsv_graph.specs.Reaching.{AreWithin}
 use Rattle.bsv_graph.specs.Orders.{In}
 use Rattle.bsv_graph.specs.Walks.{HasEdge}
@@ -16,10 +16,10 @@ edge_read [] k d h = absurd (omega arith)
 edge_read (e ∷ es) zero d h = inl (refl, refl)
 edge_read (e ∷ es) (suc k) d h = inr (edge_read es k d (omega (arith, h)))
 
-pub all_within : (n : ℕ) (es : List Edge) → AreWithin n es → IsGraphOn n es
+pub all_within : (n : ℕ) (es : List Edge) → AreWithin n es → AllBelow n es
 all_within n es w = λ k d h. w _ _ (edge_read es k d h)
 
-pub within_all : (n : ℕ) (es : List Edge) → IsGraphOn n es → AreWithin n es
+pub within_all : (n : ℕ) (es : List Edge) → AllBelow n es → AreWithin n es
 within_all n [] g a b h = absurd h
 within_all n (e ∷ es) g a b (inl h) = let k = g 0 e (omega arith) in (rw h.0 k.0, rw h.1 k.1)
 within_all n (e ∷ es) g a b (inr h) = within_all n es (λ k d l. g (suc k) d (omega arith)) a b h
@@ -90,5 +90,5 @@ module _ (test : ℕ → ℕ → Bool) (n : ℕ) where
   pub where_of : (a b : ℕ) → HasEdge (edges_where n test) a b → (a < n) × (b < n) × IsTrue (test a b)
   where_of a b h = let p = rows_of (numbers_below n) a b h in (in_below n a p.0, p.1, p.2)
 
-  pub where_graph : IsGraphOn n (edges_where n test)
+  pub where_graph : AllBelow n (edges_where n test)
   where_graph = all_within n (edges_where n test) (λ a b h. let p = where_of a b h in (p.0, p.1))

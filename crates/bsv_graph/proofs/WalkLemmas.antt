@@ -1,6 +1,6 @@
-use Rattle.std.proofs.Common.{◌≡◌, ℕ, ◌+◌, ◌<◌, ◌⊎◌, inl, inr, Bool, false, List, [], ◌∷◌, ◌++◌, refl, zero, suc, sym, ◌∙◌, subst, arith}
+use Rattle.std.proofs.Common.{◌≡◌, ℕ, ◌+◌, ◌<◌, ◌≤◌, add-one, ◌⊎◌, inl, inr, Bool, false, List, [], ◌∷◌, ◌++◌, refl, zero, suc, sym, ◌∙◌, subst, arith}
 use Rattle.std.proofs.Common.{length, take, get_or}
-use Rattle.std.proofs.lemmas.List.{take_more}
+use Rattle.std.proofs.lemmas.List.{take_more, take_all}
 use Rattle.std.proofs.lemmas.Bool.{cases_lt}
 use Rattle.std.specs.Prelude.{IsTrue}
 use Rattle.bsv_graph.specs.declared.table.Table.{Table}
@@ -9,7 +9,7 @@ use Rattle.bsv_graph.specs.Table.{at, Adds}
 use Rattle.bsv_graph.specs.Growing.{IsClosed}
 use Rattle.bsv_graph.specs.Ready.{IsStrict}
 use Rattle.bsv_graph.specs.Reaching.{AreWithin, Marks}
-use Rattle.bsv_graph.specs.Walks.{HasEdge, Walk, step, more, IsAcyclic, Closes, Keeps, done, keep, drop}
+use Rattle.bsv_graph.specs.Walks.{HasEdge, Walk, step, more, IsAcyclic, Closes, NoneCloses, Keeps, done, keep, drop}
 
 -- one walk after another
 pub walk_then : {es : List Edge} {a b c : ℕ} → Walk es a b → Walk es b c → Walk es a c
@@ -259,3 +259,19 @@ marks_none t e = record {
 -- a graph without cycles
 pub marks_strict : (es : List Edge) (t : Table) → Marks es t → IsAcyclic es → IsStrict t
 marks_strict es t m f a h k = f a (m.walk a a h h k)
+
+-- edges none of which closes a cycle
+take_step : (es ps : List Edge) (k : ℕ) (d : Edge) → k < length ps → IsAcyclic (take k ps ++ es) → ¬ Closes (take k ps ++ es) (get_or ps k d)
+    → IsAcyclic (take (suc k) ps ++ es)
+take_step es ps k d h f n a w = acyclic_with (take k ps ++ es) (get_or ps k d) f n a (walk_map (snoc_back (take k ps) es (get_or ps k d)) w')
+  where
+    w' : Walk ((take k ps ++ (get_or ps k d ∷ [])) ++ es) a a
+    w' = rw (← take_more ps k d h, add-one) w
+
+take_acyclic : (es ps : List Edge) (d : Edge) (k : ℕ) → k ≤ length ps → IsAcyclic es → NoneCloses es ps → IsAcyclic (take k ps ++ es)
+take_acyclic es ps d zero h f n a w = f a w
+take_acyclic es ps d (suc k) h f n a w =
+    take_step es ps k d (omega arith) (take_acyclic es ps d k (omega arith) f n) (n k d (omega arith)) a w
+
+pub none_acyclic : (es ps : List Edge) → IsAcyclic es → NoneCloses es ps → IsAcyclic (ps ++ es)
+none_acyclic es ps f n a w = take_acyclic es ps (record { from = 0; to = 0 }) (length ps) (omega arith) f n a (rw (take_all (length ps) ps (omega arith)) w)

@@ -4,8 +4,8 @@ use Rattle.std.specs.List.{flat_map}
 use Rattle.bsv_graph.specs.declared.edge.Edge.{Edge}
 
 -- the edges lead between numbers below n
-abbrev pub IsGraphOn : ℕ → List Edge → Type 0
-IsGraphOn n es = All (λ e. (e.from < n) × (e.to < n)) es
+abbrev pub AllBelow : ℕ → List Edge → Type 0
+AllBelow n es = All (λ e. (e.from < n) × (e.to < n)) es
 
 -- the numbers below n, from the least
 abbrev pub numbers_below : ℕ → List ℕ

@@ -3,6 +3,7 @@ pub mod Orders
 pub mod Table
 pub mod Edges
 pub mod Reaching
+pub mod Graphs
 pub mod Relating
 pub mod ExecutionOrders
 pub mod UrgencyOrders

@@ -1,9 +1,9 @@
--- What a table says of a graph.
+-- Where the walks of a graph lead, as a table of marks.
 use Rattle.std.specs.Prelude.{ℕ, ◌<◌, IsTrue, List}
 use Rattle.bsv_graph.specs.declared.edge.Edge.{Edge}
 use Rattle.bsv_graph.specs.declared.table.Table.{Table}
 use Rattle.bsv_graph.specs.Table.{side_of, at}
-use Rattle.bsv_graph.specs.Walks.{HasEdge, Walk, IsAcyclic}
+use Rattle.bsv_graph.specs.Walks.{HasEdge, Walk}
 
 abbrev pub AreWithin : ℕ → List Edge → Type 0
 AreWithin n es = (a b : ℕ) → HasEdge es a b → (a < n) × (b < n)
@@ -14,7 +14,3 @@ pub record Marks (es : List Edge) (t : Table) : Type 0 where
   pub within : AreWithin (side_of t) es
   pub marked : (a b : ℕ) → Walk es a b → IsTrue (at t a b)
   pub walk : (a b : ℕ) → a < side_of t → b < side_of t → IsTrue (at t a b) → Walk es a b
-
--- the table is that of a graph without cycles
-abbrev pub HasNoCycle : Table → Type 0
-HasNoCycle t = (es : List Edge) × Marks es t × IsAcyclic es

@@ -4,7 +4,7 @@
 -- attributes of the Bluespec reference guide, "Scheduling attributes".
 use Rattle.std.specs.Prelude.{ℕ, Bool, ◌&&◌, ◌||◌, not, nat_lt, if◌then◌else◌, IsTrue, List, ◌++◌}
 use Rattle.bsv_graph.specs.declared.edge.Edge.{Edge}
-use Rattle.bsv_graph.specs.Edges.{IsGraphOn, edges_where}
+use Rattle.bsv_graph.specs.Edges.{AllBelow, edges_where}
 use Rattle.bsv_graph.specs.Walks.{HasEdge}
 
 pub record Relating : Type 0 where
@@ -27,8 +27,8 @@ pub record Relating : Type 0 where
 
 -- the attributes name elements, and the pairs of `preempts` are among those of urgency
 pub record Agrees (r : Relating) : Type 0 where
-  pub ordering : IsGraphOn r.count r.ordering
-  pub urging : IsGraphOn r.count r.urging
+  pub ordering : AllBelow r.count r.ordering
+  pub urging : AllBelow r.count r.urging
   pub preempts : (a b : ℕ) → IsTrue (r.preempts a b) → HasEdge r.urging a b
 
 -- a goes before b, and b does not go before a

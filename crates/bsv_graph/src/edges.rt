@@ -1,5 +1,5 @@
 ghost use Rattle.std.specs.Prelude.{◌≡◌, ◌<◌, ◌++◌, OnOk, IfOk};
-ghost use Rattle.bsv_graph.specs.Edges.{edges_where, edges_from, IsGraphOn};
+ghost use Rattle.bsv_graph.specs.Edges.{edges_where, edges_from, AllBelow};
 ghost use Rattle.bsv_graph.specs.Table.{side_of, at};
 
 use crate::edge::Edge;
@@ -29,7 +29,7 @@ fn add_row(table: &Table, a: usize, edges: &mut Items<Edge>) -> Result<(), Alloc
 /// The marks as edges, by row and then by column.
 pub fn marked_edges(alloc: Global, table: &Table) -> Result<Items<Edge>, OutOfMemory>
     ensures edges { IfOk result (λ es. es ≡ edges_where (side_of table.now) (at table.now)) }
-    ensures within { IfOk result (λ es. IsGraphOn (side_of table.now) es) }
+    ensures within { IfOk result (λ es. AllBelow (side_of table.now) es) }
 {
     let mut edges = Items::new(alloc);
     for a in 0..table.side() {

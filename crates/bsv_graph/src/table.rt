@@ -1,4 +1,4 @@
-ghost use Rattle.std.specs.Prelude.{◌≡◌, ℕ, ◌*◌, ◌^◌, ◌<◌, [], vec_len, false, IfOk};
+ghost use Rattle.std.specs.Prelude.{◌≡◌, ℕ, ◌*◌, ◌^◌, ◌<◌, vec_len, false, IfOk};
 
 use bsv_bits::OutOfMemory;
 use std::alloc::Global;
@@ -14,14 +14,12 @@ pub struct Table {
 
 impl Table {
     ghost use Rattle.bsv_graph.specs.Table.{side_of, at, Adds};
-    ghost use Rattle.bsv_graph.specs.Reaching.{Marks};
 
-    /// A table without marks, as of a graph without edges.
+    /// A table without marks.
     pub fn new(alloc: Global, side: usize) -> Result<Table, OutOfMemory>
         requires { side < 2 ^ 32 }
         ensures side { IfOk result (λ t. side_of t ≡ side) }
         ensures empty { IfOk result (λ t. (a b : ℕ) → at t a b ≡ false) }
-        ensures marks { IfOk result (λ t. Marks [] t) }
     {
         let cells = vec![in alloc; false; side * side]?;
         Ok(Table { side, cells })

@@ -1,0 +1,164 @@
+ghost use Rattle.std.specs.Prelude.{◌≡◌, ◌^◌, ◌<◌, ◌↔◌, ◌++◌, ◌∷◌, [], List, IsTrue, IfNone, IfSome, IfOk, take};
+ghost use Rattle.bsv_graph.specs.declared.edge.Edge.{Edge};
+ghost use Rattle.bsv_graph.specs.Edges.{AllBelow};
+ghost use Rattle.bsv_graph.specs.Graphs.{size_of, IsGraphOf, HasNoCycle};
+ghost use Rattle.bsv_graph.specs.Orders.{IsLeastOrder};
+ghost use Rattle.bsv_graph.specs.Walks.{Closes, Keeps, NoneCloses, ClosesFirst, IsAcyclic, LeastOnCycle};
+
+use crate::edge::Edge;
+use crate::least::least_ready;
+use crate::reach::grow;
+use crate::table::Table;
+use bsv_bits::OutOfMemory;
+use sqlite_items::Items;
+use std::alloc::Global;
+
+/// A graph on the numbers below its size, of which is kept where walks lead.
+#[derive(Drop)]
+pub struct Graph {
+    reach: Table,
+}
+
+impl Graph {
+    /// A graph without edges.
+    pub fn new(alloc: Global, size: usize) -> Result<Graph, OutOfMemory>
+        requires { size < 2 ^ 32 }
+        ensures size { IfOk result (λ g. size_of g ≡ size) }
+        ensures empty { IfOk result (λ g. IsGraphOf [] g) }
+    {
+        Ok(Graph {
+            reach: Table::new(alloc, size)?,
+        })
+    }
+
+    /// The graph gains an edge.
+    pub fn join(&mut self, edge: Edge)
+        requires from { edge.from < size_of self.old }
+        requires to { edge.to < size_of self.old }
+        ensures size { size_of self.new ≡ size_of self.old }
+        ensures gains { (es : List Edge) → IsGraphOf es self.old → IsGraphOf (edge ∷ es) self.new }
+    {
+        let from = edge.from as usize;
+        let to = edge.to as usize;
+        if !self.reach.get(from, to) {
+            grow(&mut self.reach, from, to);
+        }
+    }
+
+    /// The graph gains all these edges.
+    pub fn join_all(&mut self, edges: &[Edge])
+        requires { AllBelow (size_of self.old) edges.now }
+        ensures size { size_of self.new ≡ size_of self.old }
+        ensures gains {
+            (es : List Edge) → IsGraphOf es self.old → IsGraphOf (edges.now ++ es) self.new
+        }
+    {
+        for edge in edges {
+            self.join(*edge);
+        }
+    }
+
+    /// Whether the edge closes a cycle with those of the graph.
+    pub fn closes(&self, edge: Edge) -> bool
+        requires from { edge.from < size_of self.now }
+        requires to { edge.to < size_of self.now }
+        ensures { (es : List Edge) → IsGraphOf es self.now → (IsTrue result ↔ Closes es edge) }
+    {
+        edge.from == edge.to || self.reach.get(edge.to as usize, edge.from as usize)
+    }
+
+    // The graph gains the edge, unless it closes a cycle.
+    fn keep(&mut self, edge: Edge)
+        requires from { edge.from < size_of self.old }
+        requires to { edge.to < size_of self.old }
+        ensures size { size_of self.new ≡ size_of self.old }
+        ensures kept {
+            (es : List Edge) → IsGraphOf es self.old
+            → (fs : List Edge) × Keeps es (edge ∷ []) fs × IsGraphOf fs self.new
+        }
+    {
+        if !self.closes(edge) {
+            self.join(edge);
+        }
+    }
+
+    /// The graph gains each edge in turn that closes no cycle with those that it has by then.
+    pub fn join_kept(&mut self, edges: &[Edge])
+        requires { AllBelow (size_of self.old) edges.now }
+        ensures size { size_of self.new ≡ size_of self.old }
+        ensures kept {
+            (es : List Edge) → IsGraphOf es self.old
+            → (fs : List Edge) × Keeps es edges.now fs × IsGraphOf fs self.new
+        }
+        ensures acyclic { HasNoCycle self.old → HasNoCycle self.new }
+    {
+        for edge in edges {
+            self.keep(*edge);
+        }
+    }
+
+    /// The place of the first edge that closes a cycle with the graph and the edges before it. The graph gains those
+    /// before it, or all where there is none.
+    pub fn first_closing(&mut self, edges: &[Edge]) -> Option<usize>
+        requires { AllBelow (size_of self.old) edges.now }
+        ensures size { size_of self.new ≡ size_of self.old }
+        ensures some {
+            (es : List Edge) → IsGraphOf es self.old → IfSome result (λ k. ClosesFirst es edges.now k)
+        }
+        ensures before {
+            (es : List Edge) → IsGraphOf es self.old
+            → IfSome result (λ k. IsGraphOf (take k edges.now ++ es) self.new)
+        }
+        ensures none {
+            (es : List Edge) → IsGraphOf es self.old → IfNone result (NoneCloses es edges.now)
+        }
+        ensures all {
+            (es : List Edge) → IsGraphOf es self.old
+            → IfNone result (IsGraphOf (edges.now ++ es) self.new)
+        }
+        ensures acyclic { HasNoCycle self.old → IfNone result (HasNoCycle self.new) }
+    {
+        for (k, edge) in edges.iter().enumerate() {
+            if self.closes(*edge) {
+                return Some(k);
+            }
+            self.join(*edge);
+        }
+        None
+    }
+
+    /// The least number from which a walk leads back to it.
+    pub fn least_on_cycle(&self) -> Option<u32>
+        ensures some {
+            (es : List Edge) → IsGraphOf es self.now → IfSome result (λ a. LeastOnCycle es a)
+        }
+        ensures none { (es : List Edge) → IsGraphOf es self.now → IfNone result (IsAcyclic es) }
+    {
+        for a in 0..self.reach.side() {
+            if self.reach.get(a, a) {
+                return Some(a as u32);
+            }
+        }
+        None
+    }
+
+    /// The least order of the numbers below the size that respects the edges.
+    pub fn least_order(&self, alloc: Global) -> Result<Items<u32>, OutOfMemory>
+        requires { HasNoCycle self.now }
+        ensures {
+            IfOk result (λ order. (es : List Edge)
+            → IsGraphOf es self.now → IsLeastOrder (size_of self.now) es order)
+        }
+    {
+        let side = self.reach.side();
+        let mut placed = vec![in alloc; false; side]?;
+        let mut waits = vec![in alloc; 0usize; side]?;
+        let mut order = Items::new(alloc);
+        for _ in 0..side {
+            let next = least_ready(&self.reach, &placed, &mut waits);
+            placed[next] = true;
+            order.push(next as u32)?;
+        }
+        Ok(order)
+    }
+}
