@@ -1,6 +1,7 @@
-use Rattle.std.proofs.Common.{◌≡◌, ℕ, ◌+◌, ◌<◌, ◌≤◌, add-one, ◌⊎◌, inl, inr, Bool, false, List, [], ◌∷◌, ◌++◌, refl, zero, suc, sym, ◌∙◌, subst, arith}
-use Rattle.std.proofs.Common.{length, take, get_or}
-use Rattle.std.proofs.lemmas.List.{take_more, take_all}
+use Rattle.std.proofs.Common.{◌≡◌, ℕ, ◌+◌, ◌<◌, ◌≤◌, add-one, ◌⊎◌, inl, inr, Bool, false, List, [], ◌∷◌, ◌++◌, refl, zero, suc, sym, ◌∙◌, ap, subst, arith}
+use Rattle.std.proofs.Common.{length, take, get_or, drop-cons, take-append-drop}
+use Rattle.std.proofs.Common.{drop as drop_list}
+use Rattle.std.proofs.lemmas.List.{take_more, take_all, length-take-le}
 use Rattle.std.proofs.lemmas.Bool.{cases_lt}
 use Rattle.std.specs.Prelude.{IsTrue}
 use Rattle.bsv_graph.specs.declared.table.Table.{Table}
@@ -9,7 +10,7 @@ use Rattle.bsv_graph.specs.Table.{at, Adds}
 use Rattle.bsv_graph.specs.Growing.{IsClosed}
 use Rattle.bsv_graph.specs.Ready.{IsStrict}
 use Rattle.bsv_graph.specs.Reaching.{AreWithin, Marks}
-use Rattle.bsv_graph.specs.Walks.{HasEdge, Walk, step, more, IsAcyclic, Closes, NoneCloses, Keeps, done, keep, drop}
+use Rattle.bsv_graph.specs.Walks.{HasEdge, Walk, step, more, IsAcyclic, Closes, NoneCloses, ClosesFirst, Keeps, done, keep, drop}
 
 -- one walk after another
 pub walk_then : {es : List Edge} {a b c : ℕ} → Walk es a b → Walk es b c → Walk es a c
@@ -217,28 +218,51 @@ keeps_acyclic done f = f
 keeps_acyclic (keep {es} {ps} {fs} {p} m k) f = keeps_acyclic k (acyclic_with es p f m)
 keeps_acyclic (drop m k) f = keeps_acyclic k f
 
--- the default counts for nothing within the list
-pub read_any : (ps : List Edge) (k : ℕ) (d d' : Edge) → k < length ps → get_or ps k d ≡ get_or ps k d'
-read_any [] k d d' h = absurd (omega arith)
-read_any (p ∷ ps) zero d d' h = refl
-read_any (p ∷ ps) (suc k) d d' h = read_any ps k d d' (omega (arith, h))
-
-pub closes_any : (es ps : List Edge) (k : ℕ) (d d' : Edge) → k < length ps → Closes es (get_or ps k d) → Closes es (get_or ps k d')
-closes_any es ps k d d' h c = subst (λ e. Closes es e) (read_any ps k d d' h) c
-
 pub false_not : (b : Bool) → b ≡ false → IsTrue b → ⊥
 false_not b e h = cc
 
--- the next does not close a cycle either
-pub none_more : (ps es : List Edge) (k : ℕ) (d0 : Edge) → k < length ps
-    → ((j : ℕ) (d : Edge) → j < k → ¬ Closes (take j ps ++ es) (get_or ps j d))
-    → ¬ Closes (take k ps ++ es) (get_or ps k d0)
-    → (j : ℕ) (d : Edge) → j < k + 1 → ¬ Closes (take j ps ++ es) (get_or ps j d)
-none_more ps es k d0 h f n j d l c = elim (cases_lt j k) [
-  | inl lt ↦ f j d lt c
-  | inr ge ↦ let e : j ≡ k = omega arith in
-      n (closes_any (take k ps ++ es) ps k d d0 h (subst (λ i. Closes (take i ps ++ es) (get_or ps i d)) e c))
+-- a list that one more element ends, in two parts round an element
+snoc_split : (ps before behind : List Edge) (p q : Edge) → ps ++ (p ∷ []) ≡ before ++ (q ∷ behind)
+    → ((before ≡ ps) × (q ≡ p)) ⊎ ((rest : List Edge) × (ps ≡ before ++ (q ∷ rest)))
+snoc_split [] [] behind p q e = inl (refl, cc)
+snoc_split [] (y ∷ []) behind p q e = cc
+snoc_split [] (y ∷ z ∷ before) behind p q e = cc
+snoc_split (x ∷ ps) [] behind p q e = inr (ps, cc)
+snoc_split (x ∷ ps) (y ∷ before) behind p q e = elim (snoc_split ps before behind p q cc) [
+  | inl h ↦ let f : before ≡ ps = h.0 in inl (cc, h.1)
+  | inr h ↦ let f : ps ≡ before ++ (q ∷ h.0) = h.1 in inr (h.0, cc)
 ]
+
+-- the next does not close a cycle either
+pub none_snoc : (es ps : List Edge) (p : Edge) → NoneCloses es ps → ¬ Closes (ps ++ es) p → NoneCloses es (ps ++ (p ∷ []))
+none_snoc es ps p f n before behind q e c = elim (snoc_split ps before behind p q e) [
+  | inl h ↦ n (subst (λ z. Closes (ps ++ es) z) h.1 (subst (λ z. Closes (z ++ es) q) h.0 c))
+  | inr h ↦ f before h.0 q h.1 c
+]
+
+pub none_more : (es ps : List Edge) (k : ℕ) (d : Edge) → k < length ps → NoneCloses es (take k ps)
+    → ¬ Closes (take k ps ++ es) (get_or ps k d) → NoneCloses es (take (k + 1) ps)
+none_more es ps k d h f n = rw (take_more ps k d h) (none_snoc es (take k ps) (get_or ps k d) f n)
+
+pub none_first : (es : List Edge) → NoneCloses es []
+none_first es [] behind p e c = cc
+none_first es (x ∷ before) behind p e c = cc
+
+-- an element of a list, with what stands before it and behind it
+pub read_split : (ps : List Edge) (k : ℕ) (d : Edge) → k < length ps → ps ≡ take k ps ++ (get_or ps k d ∷ drop_list (suc k) ps)
+read_split ps k d h = sym (take-append-drop k ps) ∙ ap (λ z. take k ps ++ z) (drop-cons ps k d h)
+
+pub closes_first : (es ps : List Edge) (k : ℕ) (d : Edge) → k < length ps → NoneCloses es (take k ps) → Closes (take k ps ++ es) (get_or ps k d)
+    → ClosesFirst es ps k
+closes_first es ps k d h f c = record {
+  before = take k ps;
+  behind = drop_list (suc k) ps;
+  edge = get_or ps k d;
+  split = read_split ps k d h;
+  place = length-take-le k ps (omega (arith, h));
+  closes = c;
+  earlier = f;
+}
 
 pub keeps_take : (es ps fs gs : List Edge) (k : ℕ) (d : Edge) → k < length ps → Keeps es (take k ps) fs → Keeps fs (get_or ps k d ∷ []) gs
     → Keeps es (take (k + 1) ps) gs
@@ -271,7 +295,7 @@ take_step es ps k d h f n a w = acyclic_with (take k ps ++ es) (get_or ps k d) f
 take_acyclic : (es ps : List Edge) (d : Edge) (k : ℕ) → k ≤ length ps → IsAcyclic es → NoneCloses es ps → IsAcyclic (take k ps ++ es)
 take_acyclic es ps d zero h f n a w = f a w
 take_acyclic es ps d (suc k) h f n a w =
-    take_step es ps k d (omega arith) (take_acyclic es ps d k (omega arith) f n) (n k d (omega arith)) a w
+    take_step es ps k d (omega arith) (take_acyclic es ps d k (omega arith) f n) (n (take k ps) (drop_list (suc k) ps) (get_or ps k d) (read_split ps k d (omega arith))) a w
 
 pub none_acyclic : (es ps : List Edge) → IsAcyclic es → NoneCloses es ps → IsAcyclic (ps ++ es)
 none_acyclic es ps f n a w = take_acyclic es ps (record { from = 0; to = 0 }) (length ps) (omega arith) f n a (rw (take_all (length ps) ps (omega arith)) w)

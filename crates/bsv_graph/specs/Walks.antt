@@ -1,5 +1,5 @@
 -- Walks over the edges of a graph, cycles, and the edges that close one. A graph is the list of its edges.
-use Rattle.std.specs.Prelude.{◌≡◌, ℕ, ◌<◌, ◌⊎◌, List, [], ◌∷◌, ◌++◌, length, slice_index_or, take}
+use Rattle.std.specs.Prelude.{◌≡◌, ℕ, ◌<◌, ◌⊎◌, List, [], ◌∷◌, ◌++◌, length}
 use Rattle.bsv_graph.specs.declared.edge.Edge.{Edge}
 
 -- an edge leads from a to b
@@ -28,7 +28,8 @@ pub record LeastOnCycle (es : List Edge) (a : ℕ) : Type 0 where
 abbrev pub Closes : List Edge → Edge → Type 0
 Closes es e = (e.to ≡ e.from) ⊎ Walk es e.to e.from
 
--- Edges are taken one by one: each is kept unless it closes a cycle with the edges so far. The last list has them all.
+-- The edges ps are taken one by one, where es are there at first: each is kept unless it closes a cycle with the edges so
+-- far. The last list has all that are there in the end.
 pub data Keeps : List Edge → List Edge → List Edge → Type 0 where
   done : {es : List Edge} → Keeps es [] es
   keep : {es ps fs : List Edge} {p : Edge} → ¬ Closes es p → Keeps (p ∷ es) ps fs → Keeps es (p ∷ ps) fs
@@ -36,10 +37,15 @@ pub data Keeps : List Edge → List Edge → List Edge → Type 0 where
 
 -- none of ps closes a cycle with es and the earlier ones
 abbrev pub NoneCloses : List Edge → List Edge → Type 0
-NoneCloses es ps = (k : ℕ) (d : Edge) → k < length ps → ¬ Closes (take k ps ++ es) (slice_index_or ps k d)
+NoneCloses es ps =
+    (before behind : List Edge) (p : Edge) → ps ≡ before ++ (p ∷ behind) → ¬ Closes (before ++ es) p
 
 -- the one at k is the first of ps that closes a cycle with es and the earlier ones
 pub record ClosesFirst (es ps : List Edge) (k : ℕ) : Type 0 where
-  pub within : k < length ps
-  pub closes : (d : Edge) → Closes (take k ps ++ es) (slice_index_or ps k d)
-  pub earlier : (j : ℕ) (d : Edge) → j < k → ¬ Closes (take j ps ++ es) (slice_index_or ps j d)
+  pub before : List Edge
+  pub behind : List Edge
+  pub edge : Edge
+  pub split : ps ≡ before ++ (edge ∷ behind)
+  pub place : length before ≡ k
+  pub closes : Closes (before ++ es) edge
+  pub earlier : NoneCloses es before
