@@ -303,7 +303,6 @@ pub greedy_more : (es : List Edge) (t : Table) (placed : List Bool) (order : Lis
     → IsLeastReady t placed x → IsGreedy es t.side [] order → IsGreedy es t.side [] (order ++ (x ∷ []))
 greedy_more es t placed order i x m f r g = greedy_snoc es t.side [] order x g (next_from_ready es t placed order i x m f r)
 
-
 -- where nothing is waited for, the cursors stand at 0
 pub clear_first : (t : Table) (placed : List Bool) (waits : List ℕ) (z : ℕ) → z ≡ 0 → waits ≡ replicate t.side z → AreClear t placed waits
 clear_first t placed waits z zeroth e = rw e (record {

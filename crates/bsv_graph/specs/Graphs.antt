@@ -14,5 +14,9 @@ size_of g = side_of g.reach
 abbrev pub IsGraphOf : List Edge → Graph → Type 0
 IsGraphOf es g = Marks es g.reach
 
+-- so it is of all edges of which it is the graph
+abbrev pub ForEdges : Graph → (List Edge → Type 0) → Type 0
+ForEdges g P = (es : List Edge) → IsGraphOf es g → P es
+
 abbrev pub HasNoCycle : Graph → Type 0
 HasNoCycle g = (es : List Edge) × IsGraphOf es g × IsAcyclic es

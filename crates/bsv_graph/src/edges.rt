@@ -11,9 +11,8 @@ use std::alloc::{AllocError, Global};
 // The marks of a row.
 fn add_row(table: &Table, a: usize, edges: &mut Items<Edge>) -> Result<(), AllocError>
     requires { a < side_of table.now }
-    ensures {
-        OnOk result (edges.new ≡ edges.old ++ edges_from (at table.now) (side_of table.now) a)
-    }
+    ensures { OnOk result (edges.new
+        ≡ edges.old ++ edges_from (at table.now) (side_of table.now) a) }
 {
     for b in 0..table.side() {
         if table.get(a, b) {

@@ -1,7 +1,7 @@
 ghost use Rattle.std.specs.Prelude.{◌≡◌, ◌^◌, ◌<◌, ◌↔◌, ◌++◌, ◌∷◌, [], List, IsTrue, IfNone, IfSome, IfOk, take};
 ghost use Rattle.bsv_graph.specs.declared.edge.Edge.{Edge};
 ghost use Rattle.bsv_graph.specs.Edges.{AllBelow};
-ghost use Rattle.bsv_graph.specs.Graphs.{size_of, IsGraphOf, HasNoCycle};
+ghost use Rattle.bsv_graph.specs.Graphs.{size_of, IsGraphOf, ForEdges, HasNoCycle};
 ghost use Rattle.bsv_graph.specs.Orders.{IsLeastOrder};
 ghost use Rattle.bsv_graph.specs.Walks.{Closes, Keeps, NoneCloses, ClosesFirst, IsAcyclic, LeastOnCycle};
 
@@ -36,7 +36,7 @@ impl Graph {
         requires from { edge.from < size_of self.old }
         requires to { edge.to < size_of self.old }
         ensures size { size_of self.new ≡ size_of self.old }
-        ensures gains { (es : List Edge) → IsGraphOf es self.old → IsGraphOf (edge ∷ es) self.new }
+        ensures gains { ForEdges self.old (λ es. IsGraphOf (edge ∷ es) self.new) }
     {
         let from = edge.from as usize;
         let to = edge.to as usize;
@@ -49,9 +49,7 @@ impl Graph {
     pub fn join_all(&mut self, edges: &[Edge])
         requires { AllBelow (size_of self.old) edges.now }
         ensures size { size_of self.new ≡ size_of self.old }
-        ensures gains {
-            (es : List Edge) → IsGraphOf es self.old → IsGraphOf (edges.now ++ es) self.new
-        }
+        ensures gains { ForEdges self.old (λ es. IsGraphOf (edges.now ++ es) self.new) }
     {
         for edge in edges {
             self.join(*edge);
@@ -62,7 +60,7 @@ impl Graph {
     pub fn closes(&self, edge: Edge) -> bool
         requires from { edge.from < size_of self.now }
         requires to { edge.to < size_of self.now }
-        ensures { (es : List Edge) → IsGraphOf es self.now → (IsTrue result ↔ Closes es edge) }
+        ensures { ForEdges self.now (λ es. IsTrue result ↔ Closes es edge) }
     {
         edge.from == edge.to || self.reach.get(edge.to as usize, edge.from as usize)
     }
@@ -72,10 +70,8 @@ impl Graph {
         requires from { edge.from < size_of self.old }
         requires to { edge.to < size_of self.old }
         ensures size { size_of self.new ≡ size_of self.old }
-        ensures kept {
-            (es : List Edge) → IsGraphOf es self.old
-            → (fs : List Edge) × Keeps es (edge ∷ []) fs × IsGraphOf fs self.new
-        }
+        ensures kept { ForEdges self.old
+            (λ es. (fs : List Edge) × Keeps es (edge ∷ []) fs × IsGraphOf fs self.new) }
     {
         if !self.closes(edge) {
             self.join(edge);
@@ -86,10 +82,8 @@ impl Graph {
     pub fn join_kept(&mut self, edges: &[Edge])
         requires { AllBelow (size_of self.old) edges.now }
         ensures size { size_of self.new ≡ size_of self.old }
-        ensures kept {
-            (es : List Edge) → IsGraphOf es self.old
-            → (fs : List Edge) × Keeps es edges.now fs × IsGraphOf fs self.new
-        }
+        ensures kept { ForEdges self.old
+            (λ es. (fs : List Edge) × Keeps es edges.now fs × IsGraphOf fs self.new) }
         ensures acyclic { HasNoCycle self.old → HasNoCycle self.new }
     {
         for edge in edges {
@@ -102,20 +96,12 @@ impl Graph {
     pub fn first_closing(&mut self, edges: &[Edge]) -> Option<usize>
         requires { AllBelow (size_of self.old) edges.now }
         ensures size { size_of self.new ≡ size_of self.old }
-        ensures some {
-            (es : List Edge) → IsGraphOf es self.old → IfSome result (λ k. ClosesFirst es edges.now k)
-        }
-        ensures before {
-            (es : List Edge) → IsGraphOf es self.old
-            → IfSome result (λ k. IsGraphOf (take k edges.now ++ es) self.new)
-        }
-        ensures none {
-            (es : List Edge) → IsGraphOf es self.old → IfNone result (NoneCloses es edges.now)
-        }
-        ensures all {
-            (es : List Edge) → IsGraphOf es self.old
-            → IfNone result (IsGraphOf (edges.now ++ es) self.new)
-        }
+        ensures some { ForEdges self.old (λ es. IfSome result (λ k. ClosesFirst es edges.now k)) }
+        ensures before { ForEdges self.old
+            (λ es. IfSome result (λ k. IsGraphOf (take k edges.now ++ es) self.new)) }
+        ensures none { ForEdges self.old (λ es. IfNone result (NoneCloses es edges.now)) }
+        ensures all { ForEdges self.old
+            (λ es. IfNone result (IsGraphOf (edges.now ++ es) self.new)) }
         ensures acyclic { HasNoCycle self.old → IfNone result (HasNoCycle self.new) }
     {
         for (k, edge) in edges.iter().enumerate() {
@@ -129,10 +115,8 @@ impl Graph {
 
     /// The least number from which a walk leads back to it.
     pub fn least_on_cycle(&self) -> Option<u32>
-        ensures some {
-            (es : List Edge) → IsGraphOf es self.now → IfSome result (λ a. LeastOnCycle es a)
-        }
-        ensures none { (es : List Edge) → IsGraphOf es self.now → IfNone result (IsAcyclic es) }
+        ensures some { ForEdges self.now (λ es. IfSome result (λ a. LeastOnCycle es a)) }
+        ensures none { ForEdges self.now (λ es. IfNone result (IsAcyclic es)) }
     {
         for a in 0..self.reach.side() {
             if self.reach.get(a, a) {
@@ -145,10 +129,8 @@ impl Graph {
     /// The least order of the numbers below the size that respects the edges.
     pub fn least_order(&self, alloc: Global) -> Result<Items<u32>, OutOfMemory>
         requires { HasNoCycle self.now }
-        ensures {
-            IfOk result (λ order. (es : List Edge)
-            → IsGraphOf es self.now → IsLeastOrder (size_of self.now) es order)
-        }
+        ensures { IfOk result
+            (λ order. ForEdges self.now (λ es. IsLeastOrder (size_of self.now) es order)) }
     {
         let side = self.reach.side();
         let mut placed = vec![in alloc; false; side]?;

@@ -13,9 +13,8 @@ fn first_before(reach: &Table, placed: &[bool], b: usize, start: usize) -> usize
     requires clear { IsClear reach.now placed.now b start }
     ensures within { result ≤ side_of reach.now }
     ensures clear { IsClear reach.now placed.now b result }
-    ensures leads {
-        result < side_of reach.now → IsOpen placed.now result × IsTrue (at reach.now result b)
-    }
+    ensures leads { result < side_of reach.now
+        → IsOpen placed.now result × IsTrue (at reach.now result b) }
 {
     for a in start..placed.len() {
         if !placed[a] && reach.get(a, b) {

@@ -24,9 +24,8 @@ fn extend_one(reach: &mut Table, x: usize, from: usize, to: usize)
     requires from { from < side_of reach.old }
     requires to { to < side_of reach.old }
     ensures side { side_of reach.new ≡ side_of reach.old }
-    ensures adds {
-        IsRowClosed reach.old x to → Adds reach.old reach.new (GrownAt reach.old x from to)
-    }
+    ensures adds { IsRowClosed reach.old x to
+        → Adds reach.old reach.new (GrownAt reach.old x from to) }
 {
     if x != to && (x == from || reach.get(x, from)) && !reach.get(x, to) {
         extend_row(reach, x, to);

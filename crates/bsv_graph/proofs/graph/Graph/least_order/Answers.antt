@@ -31,7 +31,7 @@ loop-preserved c =
     let k = rw c.deref.ensures.value at c.least_ready-next.ensures.clear in
     let o : c.push.new.self ≡ c.loop.order ++ (c.least_ready-next.result ∷ []) = search rules in
     let w : take c.loop.waits.len (c.least_ready-next.new.waits ++ drop (length c.least_ready-next.new.waits) c.loop.waits.items) ≡ c.least_ready-next.new.waits =
-        lent_back c.loop.waits.len c.least_ready-next.new.waits c.loop.waits.items (omega (arith, k.size, c.loop.invariant.clear.size, c.loop.waits.ok.0)) (omega (arith, c.loop.waits.ok.0)) in
+    lent_back c.loop.waits.len c.least_ready-next.new.waits c.loop.waits.items (omega (arith, k.size, c.loop.invariant.clear.size, c.loop.waits.ok.0)) (omega (arith, c.loop.waits.ok.0)) in
     record {
       side = c.loop.invariant.side;
       filled = rw o (filled_more (side_of c.args.self.now.reach) c.loop.placed.items c.loop.order c.loop.counter c.least_ready-next.result
