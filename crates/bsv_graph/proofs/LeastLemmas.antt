@@ -1,4 +1,4 @@
-use Rattle.std.proofs.Common.{◌≡◌, ◌≢◌, ℕ, ◌+◌, ◌<◌, ◌≤◌, ◌⊎◌, inl, inr, Bool, true, false, List, [], ◌∷◌, ◌++◌, length, get_or, set, replicate, refl, zero, suc, sym, ◌∙◌, ap, subst, arith, append_assoc, append-nil, length-set, get_or-set_same, get_or-set_other, add-one}
+use Rattle.std.proofs.Common.{◌≡◌, ◌≢◌, ℕ, ◌+◌, ◌<◌, ◌≤◌, ◌⊎◌, inl, inr, Bool, true, false, List, [], ◌∷◌, ◌++◌, length, get_or, set, replicate, refl, zero, suc, sym, ◌∙◌, ap, subst, arith, append_assoc, append-nil, length-set, get_or-set_same, get_or-set_other}
 use Rattle.std.proofs.lemmas.Bool.{cases_eq, cases_lt}
 use Rattle.std.proofs.Common.{take, drop}
 use Rattle.std.proofs.lemmas.List.{get_or-replicate, length-replicate, take_all, drop_all}
@@ -8,7 +8,7 @@ use Rattle.bsv_graph.specs.declared.edge.Edge.{Edge}
 use Rattle.bsv_graph.specs.Table.{at}
 use Rattle.bsv_graph.specs.Growing.{IsClosed}
 use Rattle.bsv_graph.specs.Reaching.{AreWithin, Marks}
-use Rattle.bsv_graph.specs.Ready.{IsStrict, IsReady, IsLeastReady, IsClear, AreClear}
+use Rattle.bsv_graph.specs.Ready.{IsStrict, IsReady, IsLeastReady, AreClear}
 use Rattle.bsv_graph.specs.Walks.{HasEdge, Walk, step, more}
 use Rattle.bsv_graph.specs.Orders.{In, IsOnce, IsOrderOf, Respects, IsUpTo, IsLeastOrder}
 

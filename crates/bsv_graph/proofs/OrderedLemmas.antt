@@ -1,12 +1,11 @@
-use Rattle.std.proofs.Common.{◌≡◌, ◌≢◌, ℕ, ◌+◌, ◌<◌, ◌⊎◌, inl, inr, Bool, true, false, List, [], ◌∷◌, ◌++◌, refl, sym, ◌∙◌, subst, arith}
-use Rattle.std.proofs.lemmas.Bool.{cases_eq}
+use Rattle.std.proofs.Common.{◌≡◌, ◌≢◌, ℕ, ◌+◌, ◌<◌, ◌⊎◌, inl, inr, List, [], ◌∷◌, ◌++◌, refl, sym, ◌∙◌, subst, arith}
 use Rattle.std.proofs.lemmas.Bool.Decides.{nat_tests}
 use Rattle.std.specs.Prelude.{IsTrue, IsFalse, if◌then◌else◌, ◌==◌}
 use Rattle.bsv_graph.specs.declared.edge.Edge.{Edge}
 use Rattle.bsv_graph.specs.ExecutionOrders.{ExecutionOrder}
-use Rattle.bsv_graph.specs.Orders.{In, IsOnce, IsOrderOf, Respects, IsUpTo, IsLeastOrder, StandsBefore, place_of}
+use Rattle.bsv_graph.specs.Orders.{In, IsOnce, Respects, IsUpTo, IsLeastOrder, StandsBefore, place_of}
 use Rattle.bsv_graph.specs.Relating.{Relating, Agrees, feed_edges, value_edges, early_edges, hard_edges}
-use Rattle.bsv_graph.specs.Stops.{Clash, Stops, Ordered}
+use Rattle.bsv_graph.specs.Stops.{Stops, Ordered}
 use Rattle.bsv_graph.specs.UrgencyOrders.{urgency_edges, UrgencyOrder}
 use Rattle.bsv_graph.specs.Walks.{HasEdge, Keeps, done, keep, drop}
 use Rattle.bsv_graph.proofs.EdgeLemmas.{where_has, within_all}
@@ -89,6 +88,17 @@ place_before (x ∷ xs) a b o (inr h) =
     let k = before_in xs a b h in
     omega (arith, place_there x a (1 + place_of xs a) (in_not xs x a o.0 k.0), place_there x b (1 + place_of xs b) (in_not xs x b o.0 k.1), place_before xs a b o.1 h)
 
+-- the pairs of the attributes stand in the orders
+pub ordering_before : (r : Relating) (xs : List ℕ) (a b : ℕ) → Agrees r → ExecutionOrder r xs → HasEdge r.ordering a b → StandsBefore xs a b
+ordering_before r xs a b g x h =
+    let w = within_all r.count r.ordering g.ordering a b h in
+    respects_before x.0 xs a b x.2.respects (x.2.order.each a w.0) (x.2.order.each b w.1) (keeps_has a b x.1 (edge_left r.ordering (early_edges r) a b h))
+
+pub urging_stands : (r : Relating) (xs : List ℕ) (a b : ℕ) → Agrees r → UrgencyOrder r xs → HasEdge r.urging a b → StandsBefore xs a b
+urging_stands r xs a b g u h =
+    let w = within_all r.count r.urging g.urging a b h in
+    respects_before (urgency_edges r) xs a b u.respects (u.order.each a w.0) (u.order.each b w.1) (edge_left r.urging (feed_edges r) a b h)
+
 module _ (r : Relating) (execution urgency : List ℕ) (agrees : Agrees r) (x : ExecutionOrder r execution) (u : UrgencyOrder r urgency) where
   feed_hard : (a b : ℕ) → a < r.count → b < r.count → IsTrue (r.feeds a b) → HasEdge (hard_edges r) a b
   feed_hard a b p q h = edge_right r.ordering (early_edges r) a b
@@ -123,21 +133,18 @@ module _ (r : Relating) (execution urgency : List ℕ) (agrees : Agrees r) (x : 
         (λ k. once_apart before (e ∷ behind) f (rw p at x.2.order.once) i (inl k)) g m n)
   ]
 
-  urging_before : (a b : ℕ) → a < r.count → b < r.count → HasEdge (urgency_edges r) a b → place_of urgency a < place_of urgency b
-  urging_before a b p q h = place_before urgency a b u.order.once
-      (respects_before (urgency_edges r) urgency a b u.respects (u.order.each a p) (u.order.each b q) h)
-
   stops_before' : (a b : ℕ) → Stops r execution urgency a b → place_of urgency a < place_of urgency b
   stops_before' a b (inl k) = place_before urgency a b u.order.once k.0
-  stops_before' a b (inr k) =
-      let e = agrees.preempts a b k in
-      let w = within_all r.count r.urging agrees.urging a b e in
-      urging_before a b w.0 w.1 (edge_left r.urging (feed_edges r) a b e)
+  stops_before' a b (inr k) = place_before urgency a b u.order.once (urging_stands r urgency a b agrees u (agrees.preempts a b k))
+
+  feeds_before' : (a b : ℕ) → a < r.count → b < r.count → IsTrue (r.feeds a b) → place_of urgency a < place_of urgency b
+  feeds_before' a b p q h = place_before urgency a b u.order.once
+      (respects_before (urgency_edges r) urgency a b u.respects (u.order.each a p) (u.order.each b q) (feed_urging a b p q h))
 
   pub ordered_holds : Ordered r execution urgency
   ordered_holds = record {
     no_later = no_later';
     no_clash = no_clash';
-    feeds_before = λ a b p q h. urging_before a b p q (feed_urging a b p q h);
+    feeds_before = feeds_before';
     stops_before = stops_before';
   }

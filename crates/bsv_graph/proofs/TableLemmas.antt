@@ -4,17 +4,8 @@ use Rattle.std.proofs.lemmas.Bool.{cases_eq, cases_lt}
 use Rattle.std.proofs.lemmas.Nat.{same_from_place, mul-add-lt}
 use Rattle.std.specs.Prelude.{IsTrue}
 use Rattle.bsv_graph.specs.declared.table.Table.{Table}
-use Rattle.bsv_graph.specs.Growing.{IsClosed, IsRowClosed, GrownAt, Grown}
+use Rattle.bsv_graph.specs.Growing.{IsClosed, IsRowClosed, GrownAt}
 use Rattle.bsv_graph.specs.Table.{at, Adds}
-
--- nothing was added
-pub adds_none : (t : Table) (P : ℕ → ℕ → Type 0) → ((a b : ℕ) → ¬ P a b) → Adds t t P
-adds_none t P none = record {
-  side = refl;
-  kept = λ a b p q h. h;
-  added = λ a b p q h. absurd (none a b h);
-  only = λ a b p q h. inl h;
-}
 
 -- one step after another
 module _ (t0 t1 t2 : Table) (P Q R : ℕ → ℕ → Type 0) where
@@ -109,47 +100,3 @@ module _ (t0 t1 t2 : Table) (k from to : ℕ) (p : k < t0.side) (q : from < t0.s
       ])
       (λ a b u v h. inr (omega (arith, h.0), h.1, h.2, h.3))
       (λ a b u v h. inr (omega (arith, h.0), rw (h.0) h.1, rw (h.0) (source_in k refl h.2), target_in b v h.3))
-
--- all rows but `to`, and then that one
-module _ (t0 t1 : Table) (from to : ℕ) (q : from < t0.side) (r : to < t0.side) (closed : IsClosed t0)
-    (g : Adds t0 t1 (GrownBelow t0 t0.side from to)) where
-  row_to' : (j : ℕ) → j < t0.side → IsTrue (at t1 to j) → IsTrue (at t0 to j)
-  row_to' j v h = elim (g.only to j r v h) [ inl x ↦ x | inr x ↦ absurd (x.1 refl) ]
-
-  source_in' : (x : ℕ) → (x ≡ to) → (to ≡ from) ⊎ IsTrue (at t1 to from) → (x ≡ from) ⊎ IsTrue (at t0 x from)
-  source_in' x e (inl h) = inl (e ∙ h)
-  source_in' x e (inr h) = inr (rw e (row_to' from q h))
-
-  -- what the edge adds to the rows but `to`, or a pair that row `to` has
-  split_last : (a b : ℕ) → a < t0.side → b < t0.side → Grown t0 from to a b
-      → IsTrue (at t0 a b) ⊎ (GrownBelow t0 t0.side from to a b ⊎ ((a ≡ to) × (b ≡ to)))
-  split_last a b u v h = go (cases_eq a to) h.1
-    where
-      go : (a ≡ to) ⊎ (a ≢ to) → (b ≡ to) ⊎ IsTrue (at t0 to b) → IsTrue (at t0 a b) ⊎ (GrownBelow t0 t0.side from to a b ⊎ ((a ≡ to) × (b ≡ to)))
-      go (inl e) (inl f) = inr (inr (e, f))
-      go (inl e) (inr f) = inl (rw e f)
-      go (inr ne) _ = inr (inl (u, ne, h.0, h.1))
-
-  pub grow_last : (t2 : Table) → (to ≡ from) ⊎ IsTrue (at t1 to from) → Adds t1 t2 (λ i j. (i ≡ to) × (j ≡ to)) → Adds t0 t2 (Grown t0 from to)
-  grow_last t2 s w = adds_then t0 t1 t2 (GrownBelow t0 t0.side from to) (λ i j. (i ≡ to) × (j ≡ to)) (Grown t0 from to) g w
-      split_last
-      (λ a b u v h. inr (h.2, h.3))
-      (λ a b u v h. inr (source_in' a h.0 s, inl h.1))
-
-  pub grow_not : (from ≢ to) → (IsTrue (at t1 to from) → ⊥) → Adds t0 t1 (Grown t0 from to)
-  grow_not ne never = record {
-    side = g.side;
-    kept = g.kept;
-    added = added';
-    only = λ a b u v h. elim (g.only a b u v h) [ inl x ↦ inl x | inr x ↦ inr (x.2, x.3) ];
-  }
-    where
-      none_here : (a : ℕ) → a ≡ to → (a ≡ from) ⊎ IsTrue (at t0 a from) → ⊥
-      none_here a e (inl h) = ne (sym h ∙ e)
-      none_here a e (inr h) = never (g.kept to from r q (rw (← e) h))
-
-      added' : (a b : ℕ) → a < t0.side → b < t0.side → Grown t0 from to a b → IsTrue (at t1 a b)
-      added' a b u v h = elim (cases_eq a to) [
-        | inl e ↦ absurd (none_here a e h.0)
-        | inr far ↦ g.added a b u v (u, far, h.0, h.1)
-      ]

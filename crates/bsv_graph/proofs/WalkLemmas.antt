@@ -2,13 +2,11 @@ use Rattle.std.proofs.Common.{◌≡◌, ℕ, ◌+◌, ◌<◌, ◌≤◌, add-o
 use Rattle.std.proofs.Common.{length, take, get_or, drop-cons, take-append-drop}
 use Rattle.std.proofs.Common.{drop as drop_list}
 use Rattle.std.proofs.lemmas.List.{take_more, take_all, length-take-le}
-use Rattle.std.proofs.lemmas.Bool.{cases_lt}
 use Rattle.std.specs.Prelude.{IsTrue}
 use Rattle.bsv_graph.specs.declared.table.Table.{Table}
 use Rattle.bsv_graph.specs.declared.edge.Edge.{Edge}
 use Rattle.bsv_graph.specs.Table.{at, Adds}
 use Rattle.bsv_graph.specs.Growing.{IsClosed}
-use Rattle.bsv_graph.specs.Ready.{IsStrict}
 use Rattle.bsv_graph.specs.Reaching.{AreWithin, Marks}
 use Rattle.bsv_graph.specs.Walks.{HasEdge, Walk, step, more, IsAcyclic, Closes, NoneCloses, ClosesFirst, Keeps, done, keep, drop}
 
@@ -267,22 +265,6 @@ closes_first es ps k d h f c = record {
 pub keeps_take : (es ps fs gs : List Edge) (k : ℕ) (d : Edge) → k < length ps → Keeps es (take k ps) fs → Keeps fs (get_or ps k d ∷ []) gs
     → Keeps es (take (k + 1) ps) gs
 keeps_take es ps fs gs k d h u v = rw (take_more ps k d h) (keeps_then u v)
-
--- a table without marks is that of no edges
-no_walk_empty : (a b : ℕ) → Walk [] a b → ⊥
-no_walk_empty a b (step h) = h
-no_walk_empty a b (more h w) = h
-
-pub marks_none : (t : Table) → ((a b : ℕ) → at t a b ≡ false) → Marks [] t
-marks_none t e = record {
-  within = λ a b h. absurd h;
-  marked = λ a b w. absurd (no_walk_empty a b w);
-  walk = λ a b p q h. absurd (false_not (at t a b) (e a b) h);
-}
-
--- a graph without cycles
-pub marks_strict : (es : List Edge) (t : Table) → Marks es t → IsAcyclic es → IsStrict t
-marks_strict es t m f a h k = f a (m.walk a a h h k)
 
 -- edges none of which closes a cycle
 take_step : (es ps : List Edge) (k : ℕ) (d : Edge) → k < length ps → IsAcyclic (take k ps ++ es) → ¬ Closes (take k ps ++ es) (get_or ps k d)

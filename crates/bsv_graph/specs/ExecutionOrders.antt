@@ -1,5 +1,5 @@
--- The execution order: the order in which the elements that fire in one clock take effect, one at a time (Hoe and Arvind
--- 2004, "Operation-centric hardware description and synthesis"; Bluespec reference guide, "execution_order").
+-- The execution order: the order in which the elements that fire in one clock take effect, one at a time (Hoe and
+-- Arvind 2004, "Operation-centric hardware description and synthesis"; Bluespec reference guide, "execution_order").
 use Rattle.std.specs.Prelude.{ℕ, suc, ◌<◌, ◌⊎◌, IsTrue, IsFalse, List, ◌++◌}
 use Rattle.bsv_graph.specs.declared.edge.Edge.{Edge}
 use Rattle.bsv_graph.specs.Orders.{IsLeastOrder}
@@ -37,8 +37,8 @@ WireCycle r a = LeastOnCycle (feed_edges r) a
 abbrev pub ValueClash : Relating → ℕ → Type 0
 ValueClash r v = IsAcyclic (feed_edges r) × IsFirstValueClash r v
 
--- A pair of `execution_order` closes a cycle with the hard edges of the first two cases and the earlier pairs: the place
--- of the first among these pairs.
+-- A pair of `execution_order` closes a cycle with the hard edges of the first two cases and the earlier pairs: the
+-- place of the first among these pairs.
 abbrev pub ExecutionCycle : Relating → ℕ → Type 0
 ExecutionCycle r k = IsAcyclic (feed_edges r) × NoValueClash r × ClosesFirst (early_edges r) r.ordering k
 

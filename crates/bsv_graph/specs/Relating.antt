@@ -1,7 +1,7 @@
--- How the elements of a design relate, and the edges that order them. An element is known by its position: a number below
--- the count. "Goes before" is sequential composability (Hoe and Arvind 2004, "Operation-centric hardware description and
--- synthesis"): the first may take effect before the second where both fire in one clock. The pairs are those of the
--- attributes of the Bluespec reference guide, "Scheduling attributes".
+-- How the elements of a design relate, and the edges that order them. An element is known by its position: a number
+-- below the count. "Goes before" is sequential composability (Hoe and Arvind 2004, "Operation-centric hardware
+-- description and synthesis"): the first may take effect before the second where both fire in one clock. The pairs are
+-- those of the attributes of the Bluespec reference guide, "Scheduling attributes".
 use Rattle.std.specs.Prelude.{ℕ, Bool, ◌&&◌, ◌||◌, not, nat_lt, if◌then◌else◌, IsTrue, List, ◌++◌}
 use Rattle.bsv_graph.specs.declared.edge.Edge.{Edge}
 use Rattle.bsv_graph.specs.Edges.{AllBelow, edges_where}
@@ -47,7 +47,8 @@ value_of r a b = if r.value a then a else b
 abbrev pub feed_edges : Relating → List Edge
 feed_edges r = edges_where r.count r.feeds
 
--- Second, exactly one of the two is a value method, and a goes before b alone: here those of the value methods below k.
+-- Second, exactly one of the two is a value method, a goes before b, and b does not go before a: here those of the value
+-- methods below k.
 abbrev pub is_value_edge : Relating → ℕ → ℕ → ℕ → Bool
 is_value_edge r k a b = (is_one_value r a b && goes_only r a b) && nat_lt (value_of r a b) k
 
@@ -62,8 +63,8 @@ early_edges r = value_edges r r.count ++ feed_edges r
 abbrev pub hard_edges : Relating → List Edge
 hard_edges r = r.ordering ++ early_edges r
 
--- Soft edges lead from a to b where neither is a value method, and a goes before b alone. They are taken by the position
--- of a, then by that of b.
+-- Soft edges lead from a to b where neither is a value method, a goes before b, and b does not go before a. They are
+-- taken by the position of a, then by that of b.
 abbrev pub is_soft : Relating → ℕ → ℕ → Bool
 is_soft r a b = (not (r.value a) && not (r.value b)) && goes_only r a b
 

@@ -28,8 +28,8 @@ pub record LeastOnCycle (es : List Edge) (a : ℕ) : Type 0 where
 abbrev pub Closes : List Edge → Edge → Type 0
 Closes es e = (e.to ≡ e.from) ⊎ Walk es e.to e.from
 
--- The edges ps are taken one by one, where es are there at first: each is kept unless it closes a cycle with the edges so
--- far. The last list has all that are there in the end.
+-- The edges ps are taken one by one, where es are there at first: each is kept unless it closes a cycle with the edges
+-- so far. The last list has all that are there in the end.
 pub data Keeps : List Edge → List Edge → List Edge → Type 0 where
   done : {es : List Edge} → Keeps es [] es
   keep : {es ps fs : List Edge} {p : Edge} → ¬ Closes es p → Keeps (p ∷ es) ps fs → Keeps es (p ∷ ps) fs

@@ -23,5 +23,5 @@ mod tests;
 pub use edge::Edge;
 pub use edges::marked_edges;
 pub use graph::Graph;
-pub use laws::{one_order, ordered};
+pub use laws::{obeyed, one_order, ordered};
 pub use table::Table;

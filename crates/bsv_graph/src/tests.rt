@@ -1,6 +1,6 @@
 ghost use Rattle.std.specs.Prelude.{◌≡◌};
 
-use crate::{Edge, Graph, Table, marked_edges, one_order, ordered};
+use crate::{Edge, Graph, Table, marked_edges, obeyed, one_order, ordered};
 use std::process::Abort;
 use std::test::Fail;
 
@@ -46,6 +46,7 @@ fn the_edges_that_close_a_cycle(rt: HostRuntime) -> Result<(), Fail> {
 fn the_least_order(rt: HostRuntime) -> Result<(), Fail> {
     one_order();
     ordered();
+    obeyed();
     let alloc = rt.alloc();
     let mut graph = Graph::new(alloc, 4)?;
     graph.join_kept(&[edge(3, 1), edge(2, 0), edge(1, 3)]);

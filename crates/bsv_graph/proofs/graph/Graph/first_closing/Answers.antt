@@ -1,4 +1,4 @@
-use Rattle.std.proofs.Common.{arith, refl, ◌++◌, take}
+use Rattle.std.proofs.Common.{arith, refl, ◌++◌}
 use Rattle.std.proofs.lemmas.List.{take_all}
 use Rattle.bsv_graph.proofs.WalkLemmas.{marks_take, closes_first, none_first, none_more, none_acyclic, false_not}
 use Rattle.bsv_graph.proofs.graph.Graph.first_closing.Goals as goal
