@@ -92,7 +92,7 @@ place_before (x ∷ xs) a b o (inr h) =
 pub ordering_before : (r : Relating) (xs : List ℕ) (a b : ℕ) → Agrees r → ExecutionOrder r xs → HasEdge r.ordering a b → StandsBefore xs a b
 ordering_before r xs a b g x h =
     let w = within_all r.count r.ordering g.ordering a b h in
-    respects_before x.0 xs a b x.2.respects (x.2.order.each a w.0) (x.2.order.each b w.1) (keeps_has a b x.1 (edge_left r.ordering (early_edges r) a b h))
+    respects_before x.0 xs a b x.2.respects (x.2.order.each a w.0) (x.2.order.each b w.1) (keeps_has a b x.1 (edge_left r.ordering (early_edges r r.count) a b h))
 
 pub urging_stands : (r : Relating) (xs : List ℕ) (a b : ℕ) → Agrees r → UrgencyOrder r xs → HasEdge r.urging a b → StandsBefore xs a b
 urging_stands r xs a b g u h =
@@ -101,7 +101,7 @@ urging_stands r xs a b g u h =
 
 module _ (r : Relating) (execution urgency : List ℕ) (agrees : Agrees r) (x : ExecutionOrder r execution) (u : UrgencyOrder r urgency) where
   feed_hard : (a b : ℕ) → a < r.count → b < r.count → IsTrue (r.feeds a b) → HasEdge (hard_edges r) a b
-  feed_hard a b p q h = edge_right r.ordering (early_edges r) a b
+  feed_hard a b p q h = edge_right r.ordering (early_edges r r.count) a b
       (edge_right (value_edges r r.count) (feed_edges r) a b (where_has r.feeds r.count a b p q h))
 
   feed_urging : (a b : ℕ) → a < r.count → b < r.count → IsTrue (r.feeds a b) → HasEdge (urgency_edges r) a b

@@ -7,6 +7,7 @@ use Rattle.bsv_graph.specs.declared.edge.Edge.{Edge}
 use Rattle.bsv_graph.specs.Edges.{AllBelow, edges_where}
 use Rattle.bsv_graph.specs.Walks.{HasEdge}
 
+-- what the two orders are made from
 pub record Relating : Type 0 where
   -- how many elements there are
   pub count : ℕ
@@ -55,13 +56,13 @@ is_value_edge r k a b = (is_one_value r a b && goes_only r a b) && nat_lt (value
 abbrev pub value_edges : Relating → ℕ → List Edge
 value_edges r k = edges_where r.count (is_value_edge r k)
 
--- those of the first two cases
-abbrev pub early_edges : Relating → List Edge
-early_edges r = value_edges r r.count ++ feed_edges r
+-- those of the first two cases, of the value methods below k
+abbrev pub early_edges : Relating → ℕ → List Edge
+early_edges r k = value_edges r k ++ feed_edges r
 
 -- Third, an `execution_order` has a directly before b.
 abbrev pub hard_edges : Relating → List Edge
-hard_edges r = r.ordering ++ early_edges r
+hard_edges r = r.ordering ++ early_edges r r.count
 
 -- Soft edges lead from a to b where neither is a value method, a goes before b, and b does not go before a. They are
 -- taken by the position of a, then by that of b.
