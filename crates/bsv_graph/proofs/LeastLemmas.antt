@@ -2,7 +2,7 @@ use Rattle.std.proofs.Common.{◌≡◌, ◌≢◌, ℕ, ◌+◌, ◌<◌, ◌�
 use Rattle.std.proofs.lemmas.Bool.{cases_eq, cases_lt}
 use Rattle.std.proofs.Common.{take, drop}
 use Rattle.std.proofs.lemmas.List.{get_or-replicate, length-replicate, take_all, drop_all}
-use Rattle.std.specs.Prelude.{IsTrue}
+use Rattle.std.specs.Prelude.{IsTrue, All}
 use Rattle.bsv_graph.specs.declared.table.Table.{Table}
 use Rattle.bsv_graph.specs.declared.edge.Edge.{Edge}
 use Rattle.bsv_graph.specs.Table.{at}
@@ -331,3 +331,12 @@ pub lent_back : (n : ℕ) (lent kept : List ℕ) → length lent ≡ n → lengt
 lent_back n lent kept p q =
     let e : drop (length lent) kept ≡ [] = drop_all (length lent) kept (omega (arith, p, q)) in
     rw (e, append-nil) (take_all n lent (omega (arith, p)))
+
+-- each number of an order is below n
+in_read : (xs : List ℕ) (k d : ℕ) → k < length xs → In xs (get_or xs k d)
+in_read [] k d h = absurd (omega arith)
+in_read (x ∷ xs) zero d h = inl refl
+in_read (x ∷ xs) (suc k) d h = inr (in_read xs k d (omega (arith, h)))
+
+pub order_below : (n : ℕ) (xs : List ℕ) → IsOrderOf n xs → All (λ a. a < n) xs
+order_below n xs o = λ k d h. o.below _ (in_read xs k d h)

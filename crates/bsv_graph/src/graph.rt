@@ -1,4 +1,4 @@
-ghost use Rattle.std.specs.Prelude.{◌≡◌, ◌^◌, ◌<◌, ◌↔◌, ◌++◌, ◌∷◌, [], List, IsTrue, IfNone, IfSome, IfOk, take};
+ghost use Rattle.std.specs.Prelude.{◌≡◌, ◌^◌, ◌<◌, ◌↔◌, ◌++◌, ◌∷◌, [], List, length, take, All, IsTrue, IfNone, IfSome, IfOk};
 ghost use Rattle.bsv_graph.specs.declared.edge.Edge.{Edge};
 ghost use Rattle.bsv_graph.specs.Edges.{AllBelow};
 ghost use Rattle.bsv_graph.specs.Graphs.{size_of, IsGraphOf, ForEdges, HasNoCycle};
@@ -96,6 +96,7 @@ impl Graph {
     pub fn first_closing(&mut self, edges: &[Edge]) -> Option<usize>
         requires { AllBelow (size_of self.old) edges.now }
         ensures size { size_of self.new ≡ size_of self.old }
+        ensures within { IfSome result (λ k. k < length edges.now) }
         ensures some { ForEdges self.old (λ es. IfSome result (λ k. ClosesFirst es edges.now k)) }
         ensures before { ForEdges self.old
             (λ es. IfSome result (λ k. IsGraphOf (take k edges.now ++ es) self.new)) }
@@ -115,6 +116,7 @@ impl Graph {
 
     /// The least number from which a walk leads back to it.
     pub fn least_on_cycle(&self) -> Option<u32>
+        ensures within { IfSome result (λ a. a < size_of self.now) }
         ensures some { ForEdges self.now (λ es. IfSome result (λ a. LeastOnCycle es a)) }
         ensures none { ForEdges self.now (λ es. IfNone result (IsAcyclic es)) }
     {
@@ -129,7 +131,8 @@ impl Graph {
     /// The least order of the numbers below the size that respects the edges.
     pub fn least_order(&self, alloc: Global) -> Result<Items<u32>, OutOfMemory>
         requires { HasNoCycle self.now }
-        ensures { IfOk result
+        ensures below { IfOk result (λ order. All (λ a. a < size_of self.now) order) }
+        ensures least { IfOk result
             (λ order. ForEdges self.now (λ es. IsLeastOrder (size_of self.now) es order)) }
     {
         let side = self.reach.side();

@@ -1,6 +1,6 @@
 use Rattle.std.proofs.Common.{◌≡◌, ℕ, arith, refl, rules, [], ◌∷◌, ◌++◌, false, length, replicate, take, drop}
 use Rattle.bsv_graph.specs.Table.{side_of}
-use Rattle.bsv_graph.proofs.LeastLemmas.{filled_none, filled_more, filled_some, filled_order, greedy_more, least_from_greedy, clear_first, clear_placed, lent_back}
+use Rattle.bsv_graph.proofs.LeastLemmas.{filled_none, filled_more, filled_some, filled_order, greedy_more, order_below, least_from_greedy, clear_first, clear_placed, lent_back}
 use Rattle.bsv_graph.proofs.WalkLemmas.{marks_closed}
 use Rattle.bsv_graph.proofs.graph.Graph.least_order.Goals as goal
 
@@ -42,8 +42,13 @@ loop-preserved c =
           c.loop.invariant.filled r (c.loop.invariant.greedy es m));
     }
 
-pub returns : goal.returns
-returns c = λ es m.
+pub returns-clause-below : goal.returns-clause-below
+returns-clause-below c =
+    order_below (side_of c.args.self.now.reach) c.loop.order
+    (filled_order (side_of c.args.self.now.reach) c.loop.placed.items c.loop.order c.loop.counter c.loop.invariant.filled (omega arith))
+
+pub returns-clause-least : goal.returns-clause-least
+returns-clause-least c = λ es m.
     least_from_greedy es (side_of c.args.self.now.reach) c.loop.order m.within
     (filled_order (side_of c.args.self.now.reach) c.loop.placed.items c.loop.order c.loop.counter c.loop.invariant.filled (omega arith))
     (c.loop.invariant.greedy es m)
