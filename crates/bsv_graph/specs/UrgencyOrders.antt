@@ -1,6 +1,6 @@
 -- The urgency order: which of two elements that may not fire in one clock has the precedence (Bluespec reference guide,
 -- "descending_urgency" and "preempts").
-use Rattle.std.specs.Prelude.{ℕ, ◌<◌, IsTrue, IsFalse, List, ◌++◌}
+use Rattle.std.specs.Prelude.{◌≡◌, ℕ, ◌<◌, IsTrue, IsFalse, List, ◌∷◌, ◌++◌}
 use Rattle.bsv_graph.specs.declared.edge.Edge.{Edge}
 use Rattle.bsv_graph.specs.Orders.{In, StandsBefore, IsLeastOrder}
 use Rattle.bsv_graph.specs.Relating.{Relating, feed_edges}
@@ -29,9 +29,11 @@ pub record IsLeastBehindRule (r : Relating) (xs : List ℕ) (m : ℕ) : Type 0 w
 
 -- q is the first rule of the list
 pub record IsFirstRule (r : Relating) (xs : List ℕ) (q : ℕ) : Type 0 where
+  pub before : List ℕ
+  pub behind : List ℕ
+  pub split : xs ≡ before ++ (q ∷ behind)
   pub rule : IsTrue (r.rule q)
-  pub there : In xs q
-  pub earlier : (p : ℕ) → StandsBefore xs p q → IsFalse (r.rule p)
+  pub earlier : (p : ℕ) → In before p → IsFalse (r.rule p)
 
 -- Of three answers, each but the last names what is at fault, and comes only where no earlier one does.
 -- A pair closes a cycle with the feeds and the earlier pairs: the place of the first among these pairs.
