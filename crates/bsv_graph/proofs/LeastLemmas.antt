@@ -333,7 +333,7 @@ lent_back n lent kept p q =
     rw (e, append-nil) (take_all n lent (omega (arith, p)))
 
 -- each number of an order is below n
-in_read : (xs : List ℕ) (k d : ℕ) → k < length xs → In xs (get_or xs k d)
+pub in_read : (xs : List ℕ) (k d : ℕ) → k < length xs → In xs (get_or xs k d)
 in_read [] k d h = absurd (omega arith)
 in_read (x ∷ xs) zero d h = inl refl
 in_read (x ∷ xs) (suc k) d h = inr (in_read xs k d (omega (arith, h)))

@@ -8,7 +8,7 @@ use std::alloc::Global;
 pub struct Table {
     side: usize,
     cells: Vec<bool>,
-    pub ghost square: { vec_len cells ≡ side * side },
+    ghost square: { vec_len cells ≡ side * side },
     pub ghost small: { side < 2 ^ 32 },
 }
 
