@@ -5,6 +5,7 @@ use Rattle.bsv_graph.specs.declared.table.Table.{Table}
 use Rattle.bsv_graph.specs.Table.{side_of, at}
 use Rattle.bsv_graph.specs.Walks.{HasEdge, Walk}
 
+-- the edges lead between numbers below n
 abbrev pub AreWithin : ℕ → List Edge → Type 0
 AreWithin n es = (a b : ℕ) → HasEdge es a b → (a < n) × (b < n)
 
