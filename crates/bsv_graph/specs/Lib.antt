@@ -1,0 +1,12 @@
+pub mod Walks
+pub mod Orders
+pub mod Table
+pub mod Edges
+pub mod Reaching
+pub mod Graphs
+pub mod Relating
+pub mod ExecutionOrders
+pub mod UrgencyOrders
+pub mod Stops
+pub mod Growing
+pub mod Ready
