@@ -1,0 +1,5 @@
+pub mod Grouping
+pub mod Searching
+pub mod Spreading
+pub mod Ready
+pub mod Whole
