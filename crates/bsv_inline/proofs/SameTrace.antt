@@ -42,9 +42,9 @@ pub record IsElementOf (ms : List Module) (is : List Instance) (b : Body) (e : E
   pub conditions : e.conditions ≡ map (named_condition ms is) b.conditions
   pub result : e.result ≡ b.result
 
-pub is_element : (ms : List Module) (is : List Instance) (name : List ℕ) (role : Role) (ports : List Port) (b : Body) (e : Element)
-    → e ≡ element ms is name role ports b → IsElementOf ms is b e
-is_element ms is name role ports b e made = record {
+pub is_element : (ms : List Module) (is : List Instance) (name : List ℕ) (as_role : Role) (ports : List Port) (b : Body) (e : Element)
+    → e ≡ element ms is name as_role ports b → IsElementOf ms is b e
+is_element ms is name as_role ports b e made = record {
   nodes = ap (λ (x : Element). x.nodes) made;
   calls = ap (λ (x : Element). x.calls) made;
   conditions = ap (λ (x : Element). x.conditions) made;
@@ -203,3 +203,11 @@ same_trace ms is ks count ss gives b e body of right r ws long =
     (sites_same ms is ks vs b.calls h.calls (body.calls own ws long) right) (demands_same ms is ks vs b.conditions h.needs (body.conditions own ws long))
     ∙ ap (λ (z : Option Bits). trace (map (site_of is) h.calls) (map (demand_of ms is) h.needs) z) (result_same vs h.words b.result gives (body.result own ws long))
     ∙ steps_are ms is ss gives r ws
+
+-- the same of the element that is made of a body whose calls fit
+pub element_trace : (ms : List Module) (is : List Instance) (ks : List Kind) (count : ℕ) (ss : List Step) (gives : Option Atom) (b : Body)
+    → (name : List ℕ) (as_role : Role) (ports : List Port) (e : Element) → e ≡ element ms is name as_role ports b
+    → IsBody count ss gives b → IsTrue (list_all (call_fits ks is) b.calls)
+    → (r : Answers) (ws : List Bits) → length ws ≡ count → body_trace ks e r ws ≡ step_trace ms is ss gives r ws
+element_trace ms is ks count ss gives b name as_role ports e made body fit =
+    same_trace ms is ks count ss gives b e body (is_element ms is name as_role ports b e made) (acts_where_fits ks is b.calls fit)
