@@ -1,10 +1,12 @@
-ghost use Rattle.std.specs.Prelude.{◌≡◌, IfOk};
+ghost use Rattle.std.specs.Prelude.{◌≡◌, IfOk, true, [], ◌∷◌, codes};
+ghost use Rattle.bsv_bits.specs.Words.{bit};
+ghost use Rattle.bsv_design.specs.Kinds.{kind_table};
 
 use crate::lift;
 use crate::needs::needs_of;
 use crate::search::{Breach, first_breach};
-use bsv_bits::Name;
-use bsv_design::{Branch, Call, Design, Kind, Need};
+use bsv_bits::{Name, Word};
+use bsv_design::{Branch, Call, Design, Element, Kind, NamedPart, Need, Node, Role};
 use bsv_prim::WireKind;
 use sqlite_items::Items;
 use std::alloc::Global;
@@ -76,19 +78,71 @@ fn calls_in_one_arm(rt: HostRuntime) -> Result<(), Fail> {
     Ok(())
 }
 
-#[test]
-fn no_elements(rt: HostRuntime) -> Result<(), Fail> {
-    let alloc = rt.alloc();
-    let name = Name::new(alloc, b"top")?;
-    let design = Design::new(
+/// A rule that reads the wire, which is the first part.
+fn reading(alloc: Global) -> Result<Element, Fail>
+    ensures { IfOk result (λ e. e ≡ record {
+      name = codes "r";
+      role = Role.Rule;
+      arguments = [];
+      nodes = Node.Constant (bit true) ∷ [];
+      conditions = [];
+      calls = record { part = 0; method = READ; taken = 0; branches = []; args = [] } ∷ [];
+      result = None;
+    }) }
+{
+    let name = Name::new(alloc, b"r")?;
+    let mut nodes = Items::new(alloc);
+    nodes.push(Node::Constant(Word::bit(true)))?;
+    let mut calls = Items::new(alloc);
+    calls.push(Call {
+        part: 0,
+        method: READ,
+        taken: 0,
+        branches: Items::new(alloc),
+        args: Items::new(alloc),
+    })?;
+    Ok(Element {
         name,
-        Items::new(alloc),
-        Items::new(alloc),
-        Items::new(alloc),
-        Items::new(alloc),
-    );
-    match lift(alloc, &design) {
-        Ok(guards) => assert!(rt; guards.needs.is_empty()),
+        role: Role::Rule,
+        arguments: Items::new(alloc),
+        nodes,
+        conditions: Items::new(alloc),
+        calls,
+        result: None,
+    })
+}
+
+/// The wire, as a part.
+fn wire(alloc: Global) -> Result<NamedPart, Fail>
+    ensures path { IfOk result (λ p. p.path ≡ codes "w") }
+    ensures methods { IfOk result (λ p. (kind_table p.kind).methods ≡ 2) }
+    ensures arity { IfOk result (λ p. (kind_table p.kind).arity READ ≡ 0) }
+{
+    let path = Name::new(alloc, b"w")?;
+    Ok(NamedPart { path, kind: WIRE })
+}
+
+/// The wire, and the rule that reads it.
+fn design(alloc: Global) -> Result<Design, Fail> {
+    let name = Name::new(alloc, b"top")?;
+    let mut elements = Items::new(alloc);
+    elements.push(reading(alloc)?)?;
+    let mut parts = Items::new(alloc);
+    parts.push(wire(alloc)?)?;
+    let design = Design::new(name, elements, parts, Items::new(alloc), Items::new(alloc));
+    Ok(design)
+}
+
+#[test]
+fn a_read_of_a_wire(rt: HostRuntime) -> Result<(), Fail> {
+    let alloc = rt.alloc();
+    match lift(alloc, &design(alloc)?) {
+        Ok(guards) => {
+            assert_eq!(rt; guards.needs.len(), 1);
+            if let Some(needs) = guards.needs.get(0) {
+                assert_eq!(rt; needs.as_slice(), [need(0)].as_slice());
+            }
+        }
         Err(_) => assert!(rt; false),
     }
     Ok(())
