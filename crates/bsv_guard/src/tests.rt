@@ -6,8 +6,10 @@ use crate::lift;
 use crate::needs::needs_of;
 use crate::search::{Breach, first_breach};
 use bsv_bits::{Name, Word};
-use bsv_design::{Branch, Call, Design, Element, Kind, NamedPart, Need, Node, Role};
-use bsv_prim::WireKind;
+use bsv_design::{
+    Branch, Call, Design, Element, Fired, Kind, NamedPart, Need, Node, Requests, Role, State,
+};
+use bsv_prim::{Part, WireKind};
 use sqlite_items::Items;
 use std::alloc::Global;
 use std::test::Fail;
@@ -145,5 +147,26 @@ fn a_read_of_a_wire(rt: HostRuntime) -> Result<(), Fail> {
         }
         Err(_) => assert!(rt; false),
     }
+    Ok(())
+}
+
+#[test]
+fn states_and_requests(rt: HostRuntime) -> Result<(), Fail> {
+    let alloc = rt.alloc();
+    let design = design(alloc)?;
+    let state = State::opening(alloc, &design)?;
+    let copy = state.copy(alloc)?;
+    assert_eq!(rt; (state.parts.len(), copy.parts.len()), (1, 1));
+    for part in [&state.parts[0], &copy.parts[0]] {
+        match part {
+            Part::Held(held) => assert_eq!(rt; *held, None),
+            _ => assert!(rt; false),
+        }
+    }
+    let requests = Requests::new(alloc, &design)?;
+    assert!(rt; requests.asked.is_empty() && requests.args.is_empty());
+    let fired = Fired::new(alloc, &design)?;
+    assert!(rt; fired.list.is_empty() && fired.blocked.is_empty());
+    assert!(rt; fired.stopped.is_empty() && fired.results.is_empty());
     Ok(())
 }
