@@ -1,6 +1,6 @@
 -- What a line of a trace is, and what it asks for: calls of methods of the top, with a blank between each two, as in
 -- `start(0x10,3) result()`.
-use Rattle.std.specs.Prelude.{◌≡◌, ◌≢◌, ℕ, ◌^◌, ◌<◌, ◌≤◌, Bool, true, List, [], ◌∷◌, ◌++◌, length, slice_get, slice_set, Some, All, codes}
+use Rattle.std.specs.Prelude.{◌≡◌, ◌≢◌, ℕ, ◌^◌, ◌<◌, ◌≤◌, Bool, true, List, [], ◌∷◌, ◌++◌, length, slice_get, slice_set, Some, codes}
 use Rattle.std.specs.List.{join_with_byte}
 use Rattle.bsv_bits.specs.Words.{Bits}
 use Rattle.bsv_design.specs.declared.element.Element.{Element}
@@ -43,10 +43,15 @@ AreCalls methods [] [] = Unit {0}
 AreCalls methods (text ∷ texts) (c ∷ cs) = IsCall methods text c × AreCalls methods texts cs
 AreCalls methods _ _ = ⊥
 
+-- none of the calls is of this method
+abbrev pub CallsNot : ℕ → List MethodCall → Type 0
+CallsNot method [] = Unit {0}
+CallsNot method (c ∷ cs) = (method ≢ c.method) × CallsNot method cs
+
 -- no method is called twice
 abbrev pub AreApart : List MethodCall → Type 0
 AreApart [] = Unit {0}
-AreApart (c ∷ cs) = All (λ d. c.method ≢ d.method) cs × AreApart cs
+AreApart (c ∷ cs) = CallsNot c.method cs × AreApart cs
 
 -- ---- what is asked for
 
