@@ -1,5 +1,5 @@
 -- The texts of a report and of a schedule. The name of an element is looked up by its place.
-use Rattle.std.specs.Prelude.{ℕ, Bool, true, false, if◌then◌else◌, List, [], ◌∷◌, ◌++◌, map, slice_get, Option, None, Some, codes, decimal}
+use Rattle.std.specs.Prelude.{ℕ, zero, suc, Bool, true, false, if◌then◌else◌, List, [], ◌∷◌, ◌++◌, map, slice_get, Option, None, Some, codes, decimal}
 use Rattle.std.specs.List.{flat_map, join_with_byte}
 use Rattle.bsv_bits.specs.Words.{Bits}
 use Rattle.bsv_bits.specs.Constants.{constant_text}
@@ -9,6 +9,7 @@ use Rattle.bsv_design.specs.declared.design.NamedPart.{NamedPart}
 use Rattle.bsv_design.specs.declared.element.Element.{Element}
 use Rattle.bsv_design.specs.declared.fired.Fired.{Fired}
 use Rattle.bsv_design.specs.declared.kind.Kind.{Kind}
+use Rattle.bsv_design.specs.declared.schedule.Schedule.{Schedule}
 use Rattle.bsv_design.specs.declared.kind.Kind.TheVariants as kind
 
 -- the end of each line
@@ -50,6 +51,15 @@ has_line (kind.Bypass k) = true
 -- the words from the front, as `[8'h05 8'h06]`
 unfoldable pub queue_text : List Bits → List ℕ
 queue_text words = codes "[" ++ join_with_byte 32 (map constant_text words) ++ codes "]"
+
+-- a word that so many stand before, with a blank where there are some
+abbrev pub word_text : ℕ → Bits → List ℕ
+word_text zero word = constant_text word
+word_text (suc number) word = codes " " ++ constant_text word
+
+abbrev pub words_from : ℕ → List Bits → List ℕ
+words_from number [] = []
+words_from number (word ∷ words) = word_text number word ++ words_from (suc number) words
 
 abbrev pub part_text : Part → List ℕ
 part_text (part.Number word) = constant_text word
@@ -109,16 +119,20 @@ or_none (Some places) = places
 abbrev pub stopped_by : List (List ℕ) → ℕ → List ℕ
 stopped_by stops place = or_none (slice_get stops place)
 
--- an element that stops others, and these; nothing where it stops none
+-- an element that stops others, and these
+abbrev pub some_stops : (ℕ → List ℕ) → ℕ → List ℕ → List ℕ
+some_stops named place stopped = codes "stops " ++ named place ++ codes ":" ++ names named stopped ++ line_feed
+
+-- nothing where it stops none
 abbrev pub stops_text : (ℕ → List ℕ) → ℕ → List ℕ → List ℕ
 stops_text named place [] = []
-stops_text named place (s ∷ stopped) = codes "stops " ++ named place ++ codes ":" ++ names named (s ∷ stopped) ++ line_feed
+stops_text named place (s ∷ stopped) = some_stops named place (s ∷ stopped)
 
 abbrev pub stops_line : (ℕ → List ℕ) → List (List ℕ) → ℕ → List ℕ
 stops_line named stops place = stops_text named place (stopped_by stops place)
 
 -- both orders, and by urgency which elements stop which
-unfoldable pub schedule_text : (ℕ → List ℕ) → List ℕ → List ℕ → List (List ℕ) → List ℕ
-schedule_text named execution urgency stops =
-    list_line (codes "execution") named execution ++ list_line (codes "urgency") named urgency
-    ++ flat_map (stops_line named stops) urgency
+unfoldable pub schedule_text : (ℕ → List ℕ) → Schedule → List ℕ
+schedule_text named schedule =
+    list_line (codes "execution") named schedule.execution ++ list_line (codes "urgency") named schedule.urgency
+    ++ flat_map (stops_line named schedule.stops) schedule.urgency
