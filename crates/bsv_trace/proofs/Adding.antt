@@ -42,6 +42,11 @@ adds_more {text = text} {waited = waited} {first = first} {second = second} more
   counted = on_err r h.counted;
 }
 
+-- the same of the same answer
+pub fails_more : {A E : Type 0} {text waited waits : List ℕ} {first second : Writing} {e : E} (more : List ℕ) → Adds {A = A} {E = E} text (Err e) waited waits first second
+    → Adds {A = A} {E = E} (text ++ more) (Err e) waited waits first second
+fails_more {e = e} more h = adds_more more (Err e) refl h
+
 -- the first is added, and then the second
 pub adds_then : {A B E : Type 0} {text more waited waits last : List ℕ} {first second third : Writing} {x : A} {r : Result B E} → Adds {A = A} {E = E} text (Ok x) waited waits first second
     → Adds {A = B} {E = E} more r waits last second third → Adds {A = B} {E = E} (text ++ more) r waited last first third
@@ -57,6 +62,10 @@ pub adds_failed : {A B E : Type 0} {text waited waits : List ℕ} {first second 
     → Adds {A = B} {E = E} text r waited waits first second
 adds_failed r failed h = record { ok = no_ok _ r failed; prefix = h.prefix; count = h.count; counted = on_err r h.counted }
 
+-- the same text, written in another way
+pub adds_text : {A E : Type 0} {text other waited waits : List ℕ} {first second : Writing} {r : Result A E} → text ≡ other → Adds {A = A} {E = E} text r waited waits first second → Adds {A = A} {E = E} other r waited waits first second
+adds_text {waited = waited} {waits = waits} {first = first} {second = second} {r = r} same h = subst (λ t. Adds t r waited waits first second) same h
+
 -- ---- a text for each item of a list
 
 -- of the whole text so much is left, and what is before it was added
@@ -67,6 +76,10 @@ pub record Going (whole left start waits : List ℕ) (first now : Writing) : Typ
 
 pub going_start : (whole start : List ℕ) (first : Writing) → Going whole whole start start first first
 going_start whole start first = record { said = refl; prefix = nothing_put (start ++ whole) first; count = omega arith }
+
+-- what is left, written in another way
+pub going_text : {whole left other start waits : List ℕ} {first now : Writing} → left ≡ other → Going whole left start waits first now → Going whole other start waits first now
+going_text {whole = whole} {start = start} {waits = waits} {first = first} {now = now} same going = subst (λ t. Going whole t start waits first now) same going
 
 -- what waits is a part of the text
 through : (text waits : List ℕ) (first second third : Writing) → AppendsPrefix text first second → appended waits second ≡ appended text first → AppendsPrefix waits second third → AppendsPrefix text first third

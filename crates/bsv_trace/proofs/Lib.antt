@@ -8,6 +8,7 @@ pub mod Fresh
 pub mod Methods
 pub mod Pieces
 pub mod Places
+pub mod QueueTexts
 pub mod Readable
 pub mod Sound
 pub mod Turns

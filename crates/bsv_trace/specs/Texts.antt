@@ -1,5 +1,5 @@
 -- The texts of a report and of a schedule. The name of an element is looked up by its place.
-use Rattle.std.specs.Prelude.{ℕ, zero, suc, Bool, true, false, if◌then◌else◌, List, [], ◌∷◌, ◌++◌, map, slice_get, Option, None, Some, codes, decimal}
+use Rattle.std.specs.Prelude.{ℕ, ◌+◌, ◌==◌, Bool, true, false, if◌then◌else◌, List, [], ◌∷◌, ◌++◌, map, slice_get, Option, None, Some, codes, decimal}
 use Rattle.std.specs.List.{flat_map, join_with_byte}
 use Rattle.bsv_bits.specs.Words.{Bits}
 use Rattle.bsv_bits.specs.Constants.{constant_text}
@@ -54,12 +54,11 @@ queue_text words = codes "[" ++ join_with_byte 32 (map constant_text words) ++ c
 
 -- a word that so many stand before, with a blank where there are some
 abbrev pub word_text : ℕ → Bits → List ℕ
-word_text zero word = constant_text word
-word_text (suc number) word = codes " " ++ constant_text word
+word_text number word = if number == 0 then constant_text word else codes " " ++ constant_text word
 
 abbrev pub words_from : ℕ → List Bits → List ℕ
 words_from number [] = []
-words_from number (word ∷ words) = word_text number word ++ words_from (suc number) words
+words_from number (word ∷ words) = word_text number word ++ words_from (number + 1) words
 
 abbrev pub part_text : Part → List ℕ
 part_text (part.Number word) = constant_text word
@@ -86,7 +85,7 @@ number_line number = codes "clock " ++ decimal number ++ line_feed
 
 -- an element that was ready and did not fire, and the one that stopped it
 abbrev pub stopped_line : (ℕ → List ℕ) → ℕ × ℕ → List ℕ
-stopped_line named pair = codes "stopped " ++ named pair.0 ++ codes " by " ++ named pair.1 ++ line_feed
+stopped_line named pair = codes "stopped " ++ named pair.0 ++ (codes " by " ++ named pair.1) ++ line_feed
 
 -- a method that was asked and not ready
 abbrev pub blocked_line : (ℕ → List ℕ) → ℕ → List ℕ

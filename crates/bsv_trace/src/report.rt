@@ -1,4 +1,4 @@
-ghost use Rattle.std.specs.Prelude.{◌≡◌, ◌≤◌, ◌++◌, OnOk, OnErr};
+ghost use Rattle.std.specs.Prelude.{◌≡◌, ◌≤◌, ◌++◌, OnOk, OnErr, decimal};
 ghost use Rattle.std.specs.List.{flat_map};
 ghost use Rattle.bsv_io.specs.Faults.{MayFault};
 ghost use Rattle.bsv_io.specs.Writing.{appended, AppendsPrefix};
@@ -13,14 +13,22 @@ use bsv_io::{Failed, PutBuffer, Sink};
 use bsv_prim::Part;
 use itoa::Buffer;
 
+/// Adds a number in decimal.
+fn add_decimal<S: Sink>(buffer: &mut PutBuffer, sink: &mut S, number: u64) -> Result<(), Failed>
+    ensures { Adds (decimal number) result buffer.old buffer.new
+        (S.writing sink.old) (S.writing sink.new) }
+{
+    let mut digits = Buffer::new();
+    add(buffer, sink, digits.format(number).as_bytes())
+}
+
 /// Adds the line of the number of a clock.
 fn add_number<S: Sink>(buffer: &mut PutBuffer, sink: &mut S, number: u64) -> Result<(), Failed>
     ensures { Adds (texts.number_line number) result buffer.old buffer.new
         (S.writing sink.old) (S.writing sink.new) }
 {
-    let mut digits = Buffer::new();
     add(buffer, sink, b"clock ")?;
-    add(buffer, sink, digits.format(number).as_bytes())?;
+    add_decimal(buffer, sink, number)?;
     add(buffer, sink, b"\n")
 }
 

@@ -1,4 +1,5 @@
 ghost use Rattle.std.specs.Prelude.{◌≡◌, ◌++◌, if◌then◌else◌, [], codes};
+ghost use Rattle.bsv_bits.specs.Constants.{constant_text};
 ghost use Rattle.bsv_trace.specs.Adding.{Adds};
 ghost use Rattle.bsv_trace.specs.Texts as texts;
 
@@ -18,6 +19,19 @@ fn has_line(kind: Kind) -> bool
     }
 }
 
+/// Adds a blank and a word.
+fn add_next_word<S: Sink>(
+    buffer: &mut PutBuffer,
+    sink: &mut S,
+    word: Word,
+) -> Result<(), Failed>
+    ensures { Adds (codes " " ++ constant_text word) result buffer.old buffer.new
+        (S.writing sink.old) (S.writing sink.new) }
+{
+    add(buffer, sink, b" ")?;
+    add_constant(buffer, sink, word)
+}
+
 /// Adds a word of a queue, with a blank before it where others stand before it.
 fn add_word<S: Sink>(
     buffer: &mut PutBuffer,
@@ -28,10 +42,11 @@ fn add_word<S: Sink>(
     ensures { Adds (texts.word_text number word) result buffer.old buffer.new
         (S.writing sink.old) (S.writing sink.new) }
 {
-    if number > 0 {
-        add(buffer, sink, b" ")?;
+    if number == 0 {
+        add_constant(buffer, sink, word)
+    } else {
+        add_next_word(buffer, sink, word)
     }
-    add_constant(buffer, sink, word)
 }
 
 /// Adds the words of a queue from its front.
