@@ -1,10 +1,10 @@
 -- Texts that are added one behind the other, and one for each item of a list.
-use Rattle.std.proofs.Common.{◌≡◌, ◌∙◌, ℕ, ◌<◌, ◌≤◌, ◌⊎◌, inl, inr, List, [], ◌++◌, Result, Ok, Err, refl, sym, ap, subst, append_assoc, append-nil, arith}
+use Rattle.std.proofs.Common.{◌≡◌, ◌∙◌, ℕ, ◌≤◌, inl, inr, List, [], ◌++◌, Result, Ok, Err, refl, sym, ap, subst, append_assoc, append-nil, arith}
 use Rattle.std.specs.Prelude.{IsErr, OnOk, OnErr}
 use Rattle.bsv_io.specs.Faults.{MayFault}
 use Rattle.bsv_io.specs.Writing.{Writing, appended, AppendsPrefix}
 use Rattle.bsv_io.proofs.Appended.{appended-append, AppendsPrefix-then, nothing_put}
-use Rattle.bsv_io.proofs.Sequences.{prefix_of_more, prefix_then, said_then, prefix_flushing}
+use Rattle.bsv_io.proofs.Sequences.{prefix_of_more, prefix_then, said_then}
 use Rattle.bsv_trace.specs.Adding.{Adds}
 
 -- what may fault in a later part may fault in the whole
@@ -96,7 +96,7 @@ pub going_on : {A E : Type 0} {whole line start waits after : List ℕ} {first n
     → Adds {A = A} {E = E} line (Ok x) waits after now next → Going whole left start after first next
 going_on {whole = whole} {line = line} {start = start} {waits = waits} {after = after} {first = first} {now = now} {next = next} left going h = record {
   said = appended-append after left next ∙ ap (appended left) h.ok ∙ sym (appended-append (waits ++ line) left now)
-    ∙ ap (λ t. appended t now) (append_assoc waits line left) ∙ going.said;
+      ∙ ap (λ t. appended t now) (append_assoc waits line left) ∙ going.said;
   prefix = passed whole line left start waits first now next going h.prefix;
   count = omega (arith, going.count, h.count);
 }

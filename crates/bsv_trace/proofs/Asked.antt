@@ -1,12 +1,12 @@
 -- What is read is what the line asks for, both ways.
-use Rattle.std.proofs.Common.{◌≡◌, ◌∙◌, ℕ, List, Bool, true, false, Some, None, Option, refl, sym, ap, subst, IsTrue}
+use Rattle.std.proofs.Common.{◌≡◌, ◌∙◌, ℕ, List, Some, None, Option, refl, sym, ap, subst, IsTrue}
 use Rattle.std.specs.List.{list_all}
 use Rattle.bsv_design.specs.declared.design.Design.{Design}
 use Rattle.bsv_design.specs.declared.element.Element.{Element}
 use Rattle.bsv_design.specs.Schemes.{Asking}
 use Rattle.bsv_design.specs.States.{methods_in, nothing_asked, AskingFits}
 use Rattle.bsv_trace.specs.Lines.{AsksFor}
-use Rattle.bsv_trace.specs.Reading.{HasPlaces, GivesAll, nothing_of, ports_fit, read}
+use Rattle.bsv_trace.specs.Reading.{HasPlaces, nothing_of, ports_fit, read}
 use Rattle.bsv_design.proofs.Asked.{nothing_fits}
 use Rattle.bsv_trace.proofs.Clearing.{nothing_places}
 use Rattle.bsv_trace.proofs.Complete.{read_complete}
@@ -45,7 +45,7 @@ module _ (d : Design) (bytes : List ℕ) (methods : List Element) (are : methods
   found q asks =
       reading
       ∙ read_complete (methods_in d.elements) (readable d) (nothing_asked d.elements) bytes asks.pieces asks.calls (nothing_places (methods_in d.elements)) asks.each
-        (calls_fresh (methods_in d.elements) asks.pieces asks.calls asks.each asks.apart) asks.written asks.short
+      (calls_fresh (methods_in d.elements) asks.pieces asks.calls asks.each asks.apart) asks.written asks.short
       ∙ ap (λ r. Some r) (sym asks.asking)
 
   pub only : (q r : Asking) → read methods bytes cleared ≡ Some q → AsksFor d.elements bytes r → r ≡ q

@@ -1,12 +1,12 @@
 -- Requests in which nothing is asked are written over those of the last line.
-use Rattle.std.proofs.Common.{◌≡◌, ◌∙◌, ℕ, ◌+◌, ◌<◌, Bool, false, List, [], ◌∷◌, map, length, get_or, slice_get, slice_set, Some, refl, sym, ap, arith}
+use Rattle.std.proofs.Common.{◌≡◌, ◌∙◌, ℕ, ◌+◌, ◌<◌, Bool, false, List, [], ◌∷◌, map, length, get_or, slice_get, slice_set, refl, sym, ap, arith}
 use Rattle.bsv_bits.specs.Words.{Bits, zero_word}
 use Rattle.bsv_design.specs.declared.element.Element.{Element}
 use Rattle.bsv_design.specs.declared.element.Port.{Port}
 use Rattle.bsv_design.specs.Schemes.{Asking}
 use Rattle.bsv_design.specs.States.{zeros}
 use Rattle.bsv_trace.specs.Reading.{HasPlaces, nothing_of}
-use Rattle.bsv_trace.proofs.Filling.{filled, fill_more, fill_all, filled_at, length-filled}
+use Rattle.bsv_trace.proofs.Filling.{filled, fill_more, filled_at, length-filled}
 use Rattle.bsv_trace.proofs.Places.{map_at, length-map, item_at, length_args, words_at}
 
 -- ---- the words of a call

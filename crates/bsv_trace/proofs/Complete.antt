@@ -1,11 +1,11 @@
 -- What is a line is read.
-use Rattle.std.proofs.Common.{◌≡◌, ◌≢◌, ◌∙◌, ℕ, zero, suc, ◌+◌, ◌<◌, ◌≤◌, ◌^◌, ◌==◌, Bool, true, false, ◌&&◌, nat_le, nat_lt, IsTrue, List, [], ◌∷◌, ◌++◌, length, take, drop, slice_get, slice_set, Option, Some, None, if◌then◌else◌, unwrap_or, refl, sym, ap, subst, append_assoc, append-nil, add-one, arith, length-set, length-append, zero-add, codes}
+use Rattle.std.proofs.Common.{◌≡◌, ◌≢◌, ◌∙◌, ℕ, zero, suc, ◌+◌, ◌<◌, ◌≤◌, ◌^◌, ◌==◌, Bool, true, false, ◌&&◌, nat_le, nat_lt, IsTrue, List, [], ◌∷◌, ◌++◌, length, take, drop, slice_get, slice_set, Some, None, if◌then◌else◌, unwrap_or, refl, sym, ap, subst, append_assoc, append-nil, add-one, arith, length-set, length-append, zero-add, codes}
 use Rattle.std.proofs.lemmas.List.{take_all}
 use Rattle.std.proofs.Math.Seq.{take-append_seam, drop-append_seam}
 use Rattle.std.proofs.lemmas.Option.{slice_get_within}
 use Rattle.std.proofs.lemmas.Bool.Decides.{nat_tests}
 use Rattle.std.proofs.lemmas.Slice.Eq.{bytes_eq-Decides}
-use Rattle.std.specs.Char.{is_ascii_digit, is_ascii_hexdigit}
+use Rattle.std.specs.Char.{is_ascii_digit}
 use Rattle.std.specs.List.{list_all, prefix_len, join_with_byte}
 use Rattle.std.specs.Str.{bytes_eq}
 use Rattle.bsv_bits.specs.Words.{Bits}
@@ -75,12 +75,12 @@ second_x x y rest width other =
 digit_no_x : (y : ℕ) (front : List ℕ) → (is_ascii_digit y && list_all is_ascii_digit front) ≡ true → (y == 120) ≡ false
 digit_no_x y front each = by (y == 120) refl
   where
-  by : (t : Bool) → (y == 120) ≡ t → (y == 120) ≡ false
-  by false test = test
-  by true test =
-      let same : y ≡ 120 = grind (arith, nat_tests, test) in
-      let wrong : false ≡ true = subst (λ n. (is_ascii_digit n && list_all is_ascii_digit front) ≡ true) same each in
-      absurd cc
+    by : (t : Bool) → (y == 120) ≡ t → (y == 120) ≡ false
+    by false test = test
+    by true test =
+        let same : y ≡ 120 = grind (arith, nat_tests, test) in
+        let wrong : false ≡ true = subst (λ n. (is_ascii_digit n && list_all is_ascii_digit front) ≡ true) same each in
+        absurd cc
 
 -- digits are read in decimal
 as_decimal : (width : ℕ) (front more : List ℕ) (mark : ℕ) → EndsNumber mark → front ≢ [] → IsTrue (list_all is_ascii_digit front)
@@ -89,9 +89,9 @@ as_decimal width [] more mark ends some each = absurd (some refl)
 as_decimal width (x ∷ []) more mark ends some each = second_x x mark more width ends.no_x
 as_decimal width (x ∷ y ∷ front) more mark ends some each = second_x x y (front ++ mark ∷ more) width (digit_no_x y front (right_of (is_ascii_digit x) (list_all is_ascii_digit (y ∷ front)) each))
   where
-  right_of : (a b : Bool) → (a && b) ≡ true → b ≡ true
-  right_of true b h = h
-  right_of false b h = absurd cc
+    right_of : (a b : Bool) → (a && b) ≡ true → b ≡ true
+    right_of true b h = h
+    right_of false b h = absurd cc
 
 as_hexadecimal : (width : ℕ) (rest : List ℕ) → argument width (48 ∷ 120 ∷ rest) ≡ digits base.Hexadecimal width rest
 unfolding argument
@@ -192,15 +192,16 @@ named_complete (m ∷ methods) zero base e first at =
     ap (λ t. if t then Some base else spec.method_from (base + 1) methods e.name) test ∙ ap (λ k. Some k) none
 named_complete (m ∷ methods) (suc n) base e first at = by (bytes_eq m.name e.name) refl (named_complete methods n (base + 1) e (λ k d there same. shifted k n (first (suc k) d there same)) at)
   where
-  shifted : (k n : ℕ) → suc k ≡ suc n → k ≡ n
-  shifted k n same = omega arith
-  by : (t : Bool) → bytes_eq m.name e.name ≡ t → spec.method_from (base + 1) methods e.name ≡ Some (base + 1 + n) → spec.method_from base (m ∷ methods) e.name ≡ Some (base + suc n)
-  by true test others =
-      let wrong : 0 ≡ suc n = first 0 m refl ((bytes_eq-Decides m.name e.name).0 test) in
-      absurd (omega arith)
-  by false test others =
-      let sums : base + 1 + n ≡ base + suc n = omega arith in
-      ap (λ t. if t then Some base else spec.method_from (base + 1) methods e.name) test ∙ others ∙ ap (λ k. Some k) sums
+    shifted : (k n : ℕ) → suc k ≡ suc n → k ≡ n
+    shifted k n same = omega arith
+
+    by : (t : Bool) → bytes_eq m.name e.name ≡ t → spec.method_from (base + 1) methods e.name ≡ Some (base + 1 + n) → spec.method_from base (m ∷ methods) e.name ≡ Some (base + suc n)
+    by true test others =
+        let wrong : 0 ≡ suc n = first 0 m refl ((bytes_eq-Decides m.name e.name).0 test) in
+        absurd (omega arith)
+    by false test others =
+        let sums : base + 1 + n ≡ base + suc n = omega arith in
+        ap (λ t. if t then Some base else spec.method_from (base + 1) methods e.name) test ∙ others ∙ ap (λ k. Some k) sums
 
 module _ (methods : List Element) (right : AreReadable methods) where
   call_of_complete : (q : Asking) (c : MethodCall) (e : Element) (pieces : List (List ℕ)) (rest : List ℕ) → HasPlaces methods q → slice_get methods c.method ≡ Some e → AreArguments e.arguments pieces c.words
@@ -263,12 +264,13 @@ module _ (methods : List Element) (right : AreReadable methods) where
   all_complete q bytes (t ∷ texts) [] has each fresh is = absurd each
   all_complete q bytes (t ∷ texts) (c ∷ cs) has each fresh is = by_some bytes is (calls_complete (length bytes) q t texts c cs has each fresh (omega (arith, ap (λ (l : List ℕ). length l) is)))
     where
-    not_empty : [] ≡ join_with_byte 32 (t ∷ texts) → ⊥
-    not_empty none = omega (arith, call_some t c each.0, ap (λ (l : List ℕ). length l) (none ∙ join_first 32 t texts), length-append t (led 32 texts))
-    by_some : (bytes : List ℕ) → bytes ≡ join_with_byte 32 (t ∷ texts) → spec.calls (length bytes) methods (join_with_byte 32 (t ∷ texts)) q ≡ Some (asked_with_all (c ∷ cs) q)
-        → spec.all_calls methods bytes q ≡ Some (asked_with_all (c ∷ cs) q)
-    by_some [] is read = absurd (not_empty is)
-    by_some (b ∷ bytes) is read = ap (λ l. spec.calls (length (b ∷ bytes)) methods l q) is ∙ read
+      not_empty : [] ≡ join_with_byte 32 (t ∷ texts) → ⊥
+      not_empty none = omega (arith, call_some t c each.0, ap (λ (l : List ℕ). length l) (none ∙ join_first 32 t texts), length-append t (led 32 texts))
+
+      by_some : (bytes : List ℕ) → bytes ≡ join_with_byte 32 (t ∷ texts) → spec.calls (length bytes) methods (join_with_byte 32 (t ∷ texts)) q ≡ Some (asked_with_all (c ∷ cs) q)
+          → spec.all_calls methods bytes q ≡ Some (asked_with_all (c ∷ cs) q)
+      by_some [] is read = absurd (not_empty is)
+      by_some (b ∷ bytes) is read = ap (λ l. spec.calls (length (b ∷ bytes)) methods l q) is ∙ read
 
   pub read_complete : (q : Asking) (bytes : List ℕ) (texts : List (List ℕ)) (cs : List MethodCall) → HasPlaces methods q → AreCalls methods texts cs → AreFresh q cs → bytes ≡ join_with_byte 32 texts → length bytes ≤ 4096
       → spec.read methods bytes q ≡ Some (asked_with_all cs q)

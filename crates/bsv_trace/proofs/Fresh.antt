@@ -1,8 +1,8 @@
 -- Calls of different methods: none is asked before it.
-use Rattle.std.proofs.Common.{◌≡◌, ◌≢◌, ◌∙◌, ℕ, zero, suc, Bool, true, false, List, [], ◌∷◌, map, slice_get, slice_set, Some, unwrap_or, refl, sym, ap, arith}
+use Rattle.std.proofs.Common.{◌≡◌, ◌≢◌, ◌∙◌, ℕ, zero, suc, Bool, true, false, List, [], ◌∷◌, slice_get, slice_set, Some, unwrap_or, refl, sym, ap}
 use Rattle.bsv_design.specs.declared.element.Element.{Element}
 use Rattle.bsv_design.specs.Schemes.{Asking}
-use Rattle.bsv_trace.specs.Lines.{MethodCall, IsCall, AreCalls, CallsNot, AreApart, asked_with}
+use Rattle.bsv_trace.specs.Lines.{MethodCall, AreCalls, CallsNot, AreApart, asked_with}
 use Rattle.bsv_trace.specs.Reading.{nothing_of}
 use Rattle.bsv_trace.proofs.Places.{map_at}
 use Rattle.bsv_trace.proofs.Sound.{is_asked, AreFresh}
@@ -33,9 +33,10 @@ set_other (a ∷ asked) (suc m) (suc n) other = set_other asked m n (λ same. ot
 
 others : (q : Asking) (m : ℕ) (cs : List MethodCall) → is_asked q m ≡ true → AreFresh q cs → CallsNot m cs
 others q m [] asked fresh = tt
-others q m (c ∷ cs) asked fresh =
-    (λ same. let wrong : true ≡ false = sym asked ∙ ap (is_asked q) same ∙ fresh.0 in absurd cc,
-    others (asked_with c q) m cs (set_kept q.asked m c.method asked) fresh.1)
+others q m (c ∷ cs) asked fresh = (
+  λ same. let wrong : true ≡ false = sym asked ∙ ap (is_asked q) same ∙ fresh.0 in absurd cc,
+  others (asked_with c q) m cs (set_kept q.asked m c.method asked) fresh.1,
+)
 
 pub fresh_apart : (q : Asking) (cs : List MethodCall) → AreFresh q cs → AreApart cs
 fresh_apart q [] fresh = tt

@@ -1,6 +1,6 @@
 -- Pieces of a line: digits in front, and pieces with a byte between each two.
-use Rattle.std.proofs.Common.{◌≡◌, ◌≢◌, ◌∙◌, ℕ, zero, suc, ◌+◌, ◌<◌, ◌≤◌, ◌==◌, Bool, true, false, cond, ◌&&◌, IsTrue, List, [], ◌∷◌, ◌++◌, length, take, drop, slice_get, slice_set, Option, Some, None, if◌then◌else◌, refl, sym, ap, append_assoc, append-nil, add-one, arith, codes}
-use Rattle.std.specs.List.{list_all, prefix_len, join_with_byte, flat_map}
+use Rattle.std.proofs.Common.{◌≡◌, ◌∙◌, ℕ, zero, suc, ◌+◌, ◌<◌, ◌==◌, Bool, true, false, cond, ◌&&◌, IsTrue, List, [], ◌∷◌, ◌++◌, length, take, slice_set, Option, Some, None, if◌then◌else◌, refl, sym, ap, append_assoc, append-nil, arith, codes}
+use Rattle.std.specs.List.{list_all, prefix_len, join_with_byte}
 use Rattle.bsv_trace.specs.Reading.{behind}
 
 -- ---- what passes a test in front
@@ -9,8 +9,8 @@ module _ (p : ℕ → Bool) where
   all_if : (x : ℕ) (xs : List ℕ) (b : Bool) → p x ≡ b → list_all p (take (prefix_len p xs) xs) ≡ true → list_all p (take (cond b (1 + prefix_len p xs) 0) (x ∷ xs)) ≡ true
   all_if x xs true e others = ap (λ n. list_all p (take n (x ∷ xs))) (next (prefix_len p xs)) ∙ ap (λ b. b && list_all p (take (prefix_len p xs) xs)) e ∙ others
     where
-    next : (n : ℕ) → 1 + n ≡ suc n
-    next n = omega arith
+      next : (n : ℕ) → 1 + n ≡ suc n
+      next n = omega arith
   all_if x xs false e others = refl
 
   pub all_in_front : (xs : List ℕ) → list_all p (take (prefix_len p xs) xs) ≡ true
@@ -21,8 +21,8 @@ module _ (p : ℕ → Bool) where
       → cond b (1 + prefix_len p rest) 0 ≡ suc (length front)
   front_if x front rest true e all others = next (prefix_len p rest) ∙ ap suc (others all)
     where
-    next : (n : ℕ) → 1 + n ≡ suc n
-    next n = omega arith
+      next : (n : ℕ) → 1 + n ≡ suc n
+      next n = omega arith
   front_if x front rest false e all others = absurd cc
 
   -- the front of a text whose next byte does not pass

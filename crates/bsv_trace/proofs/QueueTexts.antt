@@ -1,5 +1,5 @@
 -- The words of a queue, one by one.
-use Rattle.std.proofs.Common.{◌≡◌, ◌∙◌, ℕ, zero, suc, ◌+◌, ◌<◌, ◌≤◌, ◌==◌, Bool, true, false, if◌then◌else◌, List, [], ◌∷◌, ◌++◌, map, length, drop, slice_get, Some, refl, sym, ap, append-nil, arith, codes}
+use Rattle.std.proofs.Common.{◌≡◌, ◌∙◌, ℕ, zero, suc, ◌+◌, ◌≤◌, ◌==◌, false, if◌then◌else◌, List, [], ◌∷◌, ◌++◌, map, length, drop, slice_get, Some, refl, sym, ap, append-nil, arith, codes}
 use Rattle.std.specs.List.{join_with_byte}
 use Rattle.std.proofs.lemmas.Bool.Decides.{nat_tests}
 use Rattle.bsv_bits.specs.Words.{Bits}
@@ -24,11 +24,11 @@ no_words [] (suc number) up = refl
 no_words (w ∷ words) zero up = absurd (omega arith)
 no_words (w ∷ words) (suc number) up = later words number (suc number) (omega arith)
   where
-  later : (words : List Bits) (number place : ℕ) → length words ≤ number → words_from place (drop number words) ≡ []
-  later [] zero place up = refl
-  later [] (suc number) place up = refl
-  later (w ∷ words) zero place up = absurd (omega arith)
-  later (w ∷ words) (suc number) place up = later words number place (omega arith)
+    later : (words : List Bits) (number place : ℕ) → length words ≤ number → words_from place (drop number words) ≡ []
+    later [] zero place up = refl
+    later [] (suc number) place up = refl
+    later (w ∷ words) zero place up = absurd (omega arith)
+    later (w ∷ words) (suc number) place up = later words number place (omega arith)
 
 not_first : (number : ℕ) → ((number + 1) == 0) ≡ false
 not_first number = grind (arith, nat_tests)

@@ -1,11 +1,11 @@
 -- What the reader needs of a design, and that the requests of a line fit it.
-use Rattle.std.proofs.Common.{◌≡◌, ◌∙◌, ℕ, zero, suc, ◌≤◌, ◌<◌, ◌^◌, ◌==◌, Bool, true, false, cond, ◌&&◌, ◌||◌, not, nat_le, nat_lt, IsTrue, List, [], ◌∷◌, map, slice_get, slice_set, Some, refl, sym, ap, subst, arith}
+use Rattle.std.proofs.Common.{◌≡◌, ◌∙◌, ℕ, zero, suc, ◌≤◌, ◌<◌, ◌^◌, ◌==◌, Bool, true, false, cond, ◌&&◌, not, IsTrue, List, [], ◌∷◌, slice_get, slice_set, Some, refl, sym, ap, subst, arith}
 use Rattle.std.specs.List.{list_all}
 use Rattle.std.proofs.Math.Logic.{∥∥₁_elim}
 use Rattle.std.proofs.Math.Bool.{Bool-set}
 use Rattle.std.proofs.Math.Nat.{ℕ_set}
 use Rattle.std.proofs.lemmas.Bool.Decides.{nat_tests}
-use Rattle.bsv_ast.specs.Names.{begins_name, is_word, is_name, is_capital, is_keyword, is_lower}
+use Rattle.bsv_ast.specs.Names.{begins_name, is_word, is_name, is_capital, is_lower}
 use Rattle.bsv_bits.specs.Words.{Bits}
 use Rattle.bsv_design.specs.declared.design.Design.{Design}
 use Rattle.bsv_design.specs.declared.element.Element.{Element}
@@ -18,7 +18,7 @@ use Rattle.bsv_design.specs.Schemes.{Asking}
 use Rattle.bsv_design.specs.Seen.{blueprint}
 use Rattle.bsv_design.specs.States.{methods_in, nothing_asked, AreWordsOf, FitMethods, AskingFits}
 use Rattle.bsv_design.specs.Widths.{port_fits}
-use Rattle.bsv_trace.specs.Lines.{IsArgument, AreArguments, MethodCall, IsCall, AreCalls, asked_with, asked_with_all}
+use Rattle.bsv_trace.specs.Lines.{AreArguments, MethodCall, AreCalls, asked_with, asked_with_all}
 use Rattle.bsv_trace.specs.Reading.{in_name, ports_fit}
 use Rattle.bsv_trace.proofs.Complete.{AreReadable}
 
@@ -32,12 +32,12 @@ method_at : (es : List Element) (n : ℕ) (e : Element) → slice_get (methods_i
 method_at [] n e h = absurd cc
 method_at (x ∷ es) n e h = by (is_rule x.role) refl n h (λ m. method_at es m e)
   where
-  by : (r : Bool) → is_rule x.role ≡ r → (n : ℕ) → slice_get (cond r [] (x ∷ methods_in es)) n ≡ Some e → ((m : ℕ) → slice_get (methods_in es) m ≡ Some e → IsMethod es m e) → IsMethod (x ∷ es) n e
-  by true r n h others = absurd cc
-  by false r zero h others =
-      let same : x ≡ e = cc in
-      record { at = h; acts = ap (λ (y : Element). is_rule y.role) (sym same) ∙ r }
-  by false r (suc n) h others = let m = others n h in record { at = m.at; acts = m.acts }
+    by : (r : Bool) → is_rule x.role ≡ r → (n : ℕ) → slice_get (cond r [] (x ∷ methods_in es)) n ≡ Some e → ((m : ℕ) → slice_get (methods_in es) m ≡ Some e → IsMethod es m e) → IsMethod (x ∷ es) n e
+    by true r n h others = absurd cc
+    by false r zero h others =
+        let same : x ≡ e = cc in
+        record { at = h; acts = ap (λ (y : Element). is_rule y.role) (sym same) ∙ r }
+    by false r (suc n) h others = let m = others n h in record { at = m.at; acts = m.acts }
 
 -- ---- a Lower name has no bracket
 
@@ -53,12 +53,12 @@ both_right false b h = absurd cc
 differs : (p : ℕ → Bool) (b : ℕ) → p b ≡ true → p 40 ≡ false → in_name b ≡ true
 differs p b passes fails = by (b == 40) refl
   where
-  by : (t : Bool) → (b == 40) ≡ t → not t ≡ true
-  by false test = refl
-  by true test =
-      let same : b ≡ 40 = grind (arith, nat_tests, test) in
-      let wrong : true ≡ false = sym passes ∙ ap p same ∙ fails in
-      absurd cc
+    by : (t : Bool) → (b == 40) ≡ t → not t ≡ true
+    by false test = refl
+    by true test =
+        let same : b ≡ 40 = grind (arith, nat_tests, test) in
+        let wrong : true ≡ false = sym passes ∙ ap p same ∙ fails in
+        absurd cc
 
 words_in_name : (bytes : List ℕ) → list_all is_word bytes ≡ true → list_all in_name bytes ≡ true
 words_in_name [] each = refl

@@ -52,21 +52,21 @@ by_front : (b : Base) (width : ℕ) (bytes front left rest : List ℕ) (w : Bits
 by_front b width bytes [] left rest w is each e = absurd cc
 by_front b width bytes (d ∷ front) left rest w is each e = by_word (fitting width (value_of (radix b) (d ∷ front))) refl e
   where
-  by_word : (o : Option Bits) → fitting width (value_of (radix b) (d ∷ front)) ≡ o → with_rest o left ≡ Some (w, rest) → Digits b width bytes rest w
-  by_word None read e = absurd cc
-  by_word (Some x) read e =
-      let both : ◌≡◌ {A = Bits × List ℕ} (x, left) (w, rest) = cc in
-      let word : x ≡ w = ap (λ (pair : Bits × List ℕ). pair.0) both in
-      let fit = fitting_sound width (value_of (radix b) (d ∷ front)) w (read ∙ ap (λ y. Some y) word) in
-      record {
-        front = d ∷ front;
-        some = λ none. absurd (omega (arith, ap (λ (l : List ℕ). length l) none));
-        each = each;
-        value = fit.value_is;
-        width_is = fit.width_is;
-        below = let P : ℕ → Type 0 = λ v. v < 2 ^ width in subst P (sym fit.value_is) fit.below;
-        is = is ∙ ap (λ (l : List ℕ). (d ∷ front) ++ l) (ap (λ (pair : Bits × List ℕ). pair.1) both);
-      }
+    by_word : (o : Option Bits) → fitting width (value_of (radix b) (d ∷ front)) ≡ o → with_rest o left ≡ Some (w, rest) → Digits b width bytes rest w
+    by_word None read e = absurd cc
+    by_word (Some x) read e =
+        let both : ◌≡◌ {A = Bits × List ℕ} (x, left) (w, rest) = cc in
+        let word : x ≡ w = ap (λ (pair : Bits × List ℕ). pair.0) both in
+        let fit = fitting_sound width (value_of (radix b) (d ∷ front)) w (read ∙ ap (λ y. Some y) word) in
+        record {
+          front = d ∷ front;
+          some = λ none. absurd (omega (arith, ap (λ (l : List ℕ). length l) none));
+          each = each;
+          value = fit.value_is;
+          width_is = fit.width_is;
+          below = let P : ℕ → Type 0 = λ v. v < 2 ^ width in subst P (sym fit.value_is) fit.below;
+          is = is ∙ ap (λ (l : List ℕ). (d ∷ front) ++ l) (ap (λ (pair : Bits × List ℕ). pair.1) both);
+        }
 
 digits_sound : (b : Base) (width : ℕ) (bytes rest : List ℕ) (w : Bits) → digits b width bytes ≡ Some (w, rest) → Digits b width bytes rest w
 digits_sound b width bytes rest w e =
@@ -133,28 +133,29 @@ more_sound [] place bytes rest old new long e =
     record { pieces = []; words = []; each = tt; is = both.0; new_is = both.1 ∙ sym (take_all place old (omega arith)) ∙ sym (append-nil (take place old)) }
 more_sound (p ∷ ps) place bytes rest old new long e = by_comma (spec.behind 44 bytes) refl e (λ mid words same. more_sound ps (place + 1) mid rest words new (omega (arith, same)))
   where
-  behind_comma : (mid : List ℕ) (o : Option (Bits × List ℕ)) → bytes ≡ 44 ∷ mid → argument p.width mid ≡ o → spec.onward (spec.more_arguments ps (place + 1)) (spec.placed place old o) ≡ Some (new, rest)
-      → ((mid : List ℕ) (words : List Bits) → length words ≡ length old → spec.more_arguments ps (place + 1) mid words ≡ Some (new, rest) → MoreRead ps (place + 1) mid rest words new)
-      → MoreRead (p ∷ ps) place bytes rest old new
-  behind_comma mid None comma read e others = absurd cc
-  behind_comma mid (Some found) comma read e others =
-      let first = argument_sound p mid found.1 found.0 read in
-      let more = others found.1 (slice_set old place found.0) (length-set old place found.0) e in
-      let below : place < length old = omega arith in
-      record {
-        pieces = first.text ∷ more.pieces;
-        words = found.0 ∷ more.words;
-        each = (first.argument, more.each);
-        is = comma ∙ ap (λ l. 44 ∷ l) (first.is ∙ ap (λ l. first.text ++ l) more.is ∙ sym (append_assoc first.text (led 44 more.pieces) (41 ∷ rest)));
-        new_is = more.new_is
-          ∙ ap (λ l. l ++ more.words) (ap (λ n. take n (slice_set old place found.0)) (add-one place) ∙ take_placed old place found.0 below)
-          ∙ append_assoc (take place old) (found.0 ∷ []) more.words;
-      }
-  by_comma : (o : Option (List ℕ)) → spec.behind 44 bytes ≡ o → spec.onward (spec.more_arguments ps (place + 1)) (spec.next_argument p.width o place old) ≡ Some (new, rest)
-      → ((mid : List ℕ) (words : List Bits) → length words ≡ length old → spec.more_arguments ps (place + 1) mid words ≡ Some (new, rest) → MoreRead ps (place + 1) mid rest words new)
-      → MoreRead (p ∷ ps) place bytes rest old new
-  by_comma None read e others = absurd cc
-  by_comma (Some mid) read e others = behind_comma mid (argument p.width mid) (behind_is 44 bytes mid read) refl e others
+    behind_comma : (mid : List ℕ) (o : Option (Bits × List ℕ)) → bytes ≡ 44 ∷ mid → argument p.width mid ≡ o → spec.onward (spec.more_arguments ps (place + 1)) (spec.placed place old o) ≡ Some (new, rest)
+        → ((mid : List ℕ) (words : List Bits) → length words ≡ length old → spec.more_arguments ps (place + 1) mid words ≡ Some (new, rest) → MoreRead ps (place + 1) mid rest words new)
+        → MoreRead (p ∷ ps) place bytes rest old new
+    behind_comma mid None comma read e others = absurd cc
+    behind_comma mid (Some found) comma read e others =
+        let first = argument_sound p mid found.1 found.0 read in
+        let more = others found.1 (slice_set old place found.0) (length-set old place found.0) e in
+        let below : place < length old = omega arith in
+        record {
+          pieces = first.text ∷ more.pieces;
+          words = found.0 ∷ more.words;
+          each = (first.argument, more.each);
+          is = comma ∙ ap (λ l. 44 ∷ l) (first.is ∙ ap (λ l. first.text ++ l) more.is ∙ sym (append_assoc first.text (led 44 more.pieces) (41 ∷ rest)));
+          new_is = more.new_is
+              ∙ ap (λ l. l ++ more.words) (ap (λ n. take n (slice_set old place found.0)) (add-one place) ∙ take_placed old place found.0 below)
+              ∙ append_assoc (take place old) (found.0 ∷ []) more.words;
+        }
+
+    by_comma : (o : Option (List ℕ)) → spec.behind 44 bytes ≡ o → spec.onward (spec.more_arguments ps (place + 1)) (spec.next_argument p.width o place old) ≡ Some (new, rest)
+        → ((mid : List ℕ) (words : List Bits) → length words ≡ length old → spec.more_arguments ps (place + 1) mid words ≡ Some (new, rest) → MoreRead ps (place + 1) mid rest words new)
+        → MoreRead (p ∷ ps) place bytes rest old new
+    by_comma None read e others = absurd cc
+    by_comma (Some mid) read e others = behind_comma mid (argument p.width mid) (behind_is 44 bytes mid read) refl e others
 
 record ArgumentsRead (ps : List Port) (bytes rest : List ℕ) (new : List Bits) : Type 0 where
   pieces : List (List ℕ)
@@ -164,24 +165,24 @@ record ArgumentsRead (ps : List Port) (bytes rest : List ℕ) (new : List Bits) 
 arguments_sound : (ps : List Port) (bytes rest : List ℕ) (old new : List Bits) → length old ≡ length ps → spec.arguments ps bytes old ≡ Some (new, rest) → ArgumentsRead ps bytes rest new
 arguments_sound [] bytes rest old new long e = no_words old new long (closed_sound bytes rest old new (spec.behind 41 bytes) refl e)
   where
-  no_words : (old new : List Bits) → length old ≡ 0 → (bytes ≡ 41 ∷ rest) × (new ≡ old) → ArgumentsRead [] bytes rest new
-  no_words [] new long both = record { pieces = []; each = subst (AreArguments [] []) (sym both.1) tt; is = both.0 }
-  no_words (w ∷ old) new long both = absurd (omega arith)
+    no_words : (old new : List Bits) → length old ≡ 0 → (bytes ≡ 41 ∷ rest) × (new ≡ old) → ArgumentsRead [] bytes rest new
+    no_words [] new long both = record { pieces = []; each = subst (AreArguments [] []) (sym both.1) tt; is = both.0 }
+    no_words (w ∷ old) new long both = absurd (omega arith)
 arguments_sound (p ∷ ps) bytes rest old new long e = by_first (argument p.width bytes) refl e
   where
-  by_first : (o : Option (Bits × List ℕ)) → argument p.width bytes ≡ o → spec.onward (spec.more_arguments ps 1) (spec.placed 0 old o) ≡ Some (new, rest) → ArgumentsRead (p ∷ ps) bytes rest new
-  by_first None read e = absurd cc
-  by_first (Some found) read e =
-      let first = argument_sound p bytes found.1 found.0 read in
-      let same : length (slice_set old 0 found.0) ≡ length old = length-set old 0 found.0 in
-      let more = more_sound ps 1 found.1 rest (slice_set old 0 found.0) new (omega (arith, same)) e in
-      let below : 0 < length old = omega arith in
-      let words : new ≡ found.0 ∷ more.words = more.new_is ∙ ap (λ l. l ++ more.words) (take_placed old 0 found.0 below) in
-      record {
-        pieces = first.text ∷ more.pieces;
-        each = subst (AreArguments (p ∷ ps) (first.text ∷ more.pieces)) (sym words) (first.argument, more.each);
-        is = first.is ∙ ap (λ l. first.text ++ l) more.is ∙ sym (append_assoc first.text (led 44 more.pieces) (41 ∷ rest)) ∙ ap (λ l. l ++ 41 ∷ rest) (sym (join_first 44 first.text more.pieces));
-      }
+    by_first : (o : Option (Bits × List ℕ)) → argument p.width bytes ≡ o → spec.onward (spec.more_arguments ps 1) (spec.placed 0 old o) ≡ Some (new, rest) → ArgumentsRead (p ∷ ps) bytes rest new
+    by_first None read e = absurd cc
+    by_first (Some found) read e =
+        let first = argument_sound p bytes found.1 found.0 read in
+        let same : length (slice_set old 0 found.0) ≡ length old = length-set old 0 found.0 in
+        let more = more_sound ps 1 found.1 rest (slice_set old 0 found.0) new (omega (arith, same)) e in
+        let below : 0 < length old = omega arith in
+        let words : new ≡ found.0 ∷ more.words = more.new_is ∙ ap (λ l. l ++ more.words) (take_placed old 0 found.0 below) in
+        record {
+          pieces = first.text ∷ more.pieces;
+          each = subst (AreArguments (p ∷ ps) (first.text ∷ more.pieces)) (sym words) (first.argument, more.each);
+          is = first.is ∙ ap (λ l. first.text ++ l) more.is ∙ sym (append_assoc first.text (led 44 more.pieces) (41 ∷ rest)) ∙ ap (λ l. l ++ 41 ∷ rest) (sym (join_first 44 first.text more.pieces));
+        }
 
 -- ---- calls
 
@@ -227,19 +228,19 @@ by_flag : (methods : List Element) (n : ℕ) (bytes rest : List ℕ) (q new : As
 by_flag methods n bytes rest q new e old true flag at long read = absurd cc
 by_flag methods n bytes rest q new e old false flag at long read = by_words (spec.arguments e.arguments bytes old) refl read
   where
-  by_words : (o : Option (List Bits × List ℕ)) → spec.arguments e.arguments bytes old ≡ o → spec.asking_with n q o ≡ Some (new, rest) → CallRead methods (e.name ++ 40 ∷ bytes) rest q new
-  by_words None words_read made = absurd cc
-  by_words (Some found) words_read made =
-      let all = arguments_sound e.arguments bytes found.1 old found.0 long words_read in
-      let both : ◌≡◌ {A = Asking × List ℕ} (asked_with (record { method = n; words = found.0 }) q, found.1) (new, rest) = cc in
-      record {
-        text = e.name ++ codes "(" ++ join_with_byte 44 all.pieces ++ codes ")";
-        call = record { method = n; words = found.0 };
-        each = record { element = e; at = at; pieces = all.pieces; arguments = all.each; written = refl };
-        free = flag;
-        is = ap (λ l. e.name ++ 40 ∷ l) (all.is ∙ ap (λ l. join_with_byte 44 all.pieces ++ 41 ∷ l) (ap (λ (pair : Asking × List ℕ). pair.1) both)) ∙ call_text e.name (join_with_byte 44 all.pieces) rest;
-        new_is = sym (ap (λ (pair : Asking × List ℕ). pair.0) both);
-      }
+    by_words : (o : Option (List Bits × List ℕ)) → spec.arguments e.arguments bytes old ≡ o → spec.asking_with n q o ≡ Some (new, rest) → CallRead methods (e.name ++ 40 ∷ bytes) rest q new
+    by_words None words_read made = absurd cc
+    by_words (Some found) words_read made =
+        let all = arguments_sound e.arguments bytes found.1 old found.0 long words_read in
+        let both : ◌≡◌ {A = Asking × List ℕ} (asked_with (record { method = n; words = found.0 }) q, found.1) (new, rest) = cc in
+        record {
+          text = e.name ++ codes "(" ++ join_with_byte 44 all.pieces ++ codes ")";
+          call = record { method = n; words = found.0 };
+          each = record { element = e; at = at; pieces = all.pieces; arguments = all.each; written = refl };
+          free = flag;
+          is = ap (λ l. e.name ++ 40 ∷ l) (all.is ∙ ap (λ l. join_with_byte 44 all.pieces ++ 41 ∷ l) (ap (λ (pair : Asking × List ℕ). pair.1) both)) ∙ call_text e.name (join_with_byte 44 all.pieces) rest;
+          new_is = sym (ap (λ (pair : Asking × List ℕ). pair.0) both);
+        }
 
 call_of_sound : (methods : List Element) (n : ℕ) (bytes rest : List ℕ) (q new : Asking) (e : Element) → HasPlaces methods q → slice_get methods n ≡ Some e
     → spec.call_of methods n bytes q ≡ Some (new, rest) → CallRead methods (e.name ++ 40 ∷ bytes) rest q new

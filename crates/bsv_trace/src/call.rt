@@ -57,11 +57,7 @@ fn next_argument<'a>(
 }
 
 /// Reads the arguments behind the first, and the bracket that closes the call.
-fn more_arguments<'a>(
-    ports: &[Port],
-    bytes: &'a [u8],
-    words: &mut Items<Word>,
-) -> Option<&'a [u8]>
+fn more_arguments<'a>(ports: &[Port], bytes: &'a [u8], words: &mut Items<Word>) -> Option<&'a [u8]>
     requires { length words.old ≡ length ports.now + 1 }
     ensures read { spec.Gives result words.new
         (spec.more_arguments ports.now 1 bytes.now words.old) }

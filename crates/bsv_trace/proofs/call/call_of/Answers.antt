@@ -1,6 +1,5 @@
-use Rattle.std.proofs.Common.{◌≡◌, ◌∙◌, ◌<◌, length, slice_get, Some, None, sym, ap, subst, unwrap_or, true, false, arith}
-use Rattle.std.proofs.Common.{ℕ, List, Bool, get_or, slice_set}
-use Rattle.bsv_bits.specs.Words.{Bits}
+use Rattle.std.proofs.Common.{◌≡◌, ◌∙◌, length, Some, sym, ap, subst, true, false, arith}
+use Rattle.std.proofs.Common.{List, Bool, get_or, slice_set}
 use Rattle.bsv_design.specs.declared.element.Element.{Element}
 use Rattle.bsv_design.specs.declared.element.Port.{Port}
 use Rattle.bsv_design.specs.Seen.{asking}

@@ -1,4 +1,4 @@
-use Rattle.std.proofs.Common.{◌∙◌, List, ap}
+use Rattle.std.proofs.Common.{List, ap}
 use Rattle.bsv_io.proofs.Sequences.{prefix_flushing}
 use Rattle.bsv_design.specs.declared.element.Element.{Element}
 use Rattle.bsv_trace.specs.Texts as texts

@@ -1,6 +1,5 @@
-use Rattle.std.proofs.Common.{◌≡◌, ◌∙◌, ℕ, List, [], ◌∷◌, ◌++◌, Err, refl, sym, ap, codes, decimal}
-use Rattle.std.specs.List.{flat_map, join_with_byte}
-use Rattle.bsv_bits.specs.Constants.{constant_text}
+use Rattle.std.proofs.Common.{ap, codes}
+use Rattle.std.specs.List.{flat_map}
 use Rattle.bsv_trace.specs.Texts.{event_lines}
 use Rattle.bsv_trace.specs.Texts as texts
 use Rattle.bsv_trace.proofs.Adding.{adds_more, fails_more, adds_then, adds_text}

@@ -1,8 +1,5 @@
-use Rattle.std.proofs.Common.{◌≡◌, ◌∙◌, ℕ, List, [], ◌∷◌, ◌++◌, Err, refl, sym, ap, codes, decimal}
-use Rattle.std.specs.List.{flat_map, join_with_byte}
-use Rattle.bsv_bits.specs.Constants.{constant_text}
 use Rattle.bsv_trace.specs.Texts as texts
-use Rattle.bsv_trace.proofs.Adding.{adds_more, fails_more, adds_then, adds_text}
+use Rattle.bsv_trace.proofs.Adding.{adds_more, fails_more, adds_then}
 use Rattle.bsv_trace.proofs.state.add_line.Goals as goal
 
 pub returns-in_err-add-2 : goal.returns-in_err-add-2

@@ -1,4 +1,4 @@
-use Rattle.std.proofs.Common.{◌+◌, drop, ap}
+use Rattle.std.proofs.Common.{◌+◌, drop}
 use Rattle.bsv_trace.specs.Texts as texts
 use Rattle.bsv_trace.proofs.Adding.{going_on, going_failed, going_text}
 use Rattle.bsv_trace.proofs.QueueTexts.{words_here}
