@@ -75,7 +75,7 @@ fn add_stops<S: Sink>(
 
 /// Adds the lines of a schedule.
 #[tactic(auto, unfolding(crate::specs::Texts::schedule_text))]
-pub(crate) fn add_schedule<S: Sink>(
+fn add_schedule<S: Sink>(
     buffer: &mut PutBuffer,
     sink: &mut S,
     elements: &[Element],

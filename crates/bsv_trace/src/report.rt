@@ -150,7 +150,7 @@ fn add_events<S: Sink>(
 
 /// Adds the lines of a clock.
 #[tactic(auto, unfolding(crate::specs::Texts::clock_text))]
-pub(crate) fn add_clock<S: Sink>(
+fn add_clock<S: Sink>(
     buffer: &mut PutBuffer,
     sink: &mut S,
     elements: &[Element],
@@ -170,7 +170,7 @@ pub(crate) fn add_clock<S: Sink>(
 
 /// Adds the opening of a report.
 #[tactic(auto, unfolding(crate::specs::Texts::opening_text))]
-pub(crate) fn add_opening<S: Sink>(
+fn add_opening<S: Sink>(
     buffer: &mut PutBuffer,
     sink: &mut S,
     instances: &[NamedPart],

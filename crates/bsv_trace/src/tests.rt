@@ -3,13 +3,12 @@ ghost use Rattle.bsv_design.specs.Seen.{asking};
 ghost use Rattle.bsv_trace.specs.Reading.{HasPlaces};
 
 use crate::lines::read;
-use crate::order::add_schedule;
-use crate::report::{add_clock, add_opening};
 use crate::state::add_queue;
+use crate::text::add_list;
 use bsv_bits::{Name, OutOfMemory, Word};
-use bsv_design::{Element, Fired, Kind, NamedPart, Port, Requests, Role, Schedule};
+use bsv_design::{Element, Port, Requests, Role};
 use bsv_io::{MemSink, PutBuffer};
-use bsv_prim::{Part, Queue, RegKind, WireKind};
+use bsv_prim::Queue;
 use sqlite_items::Items;
 use std::alloc::Global;
 use std::test::Fail;
@@ -51,13 +50,6 @@ fn methods(alloc: Global) -> Result<Items<Element>, OutOfMemory> {
     made.push(element(alloc, "p", Role::Action, &[8])?)?;
     made.push(element(alloc, "start", Role::Action, &[128, 1])?)?;
     made.push(element(alloc, "g", Role::Value, &[])?)?;
-    Ok(made)
-}
-
-/// The three methods and a rule.
-fn elements(alloc: Global) -> Result<Items<Element>, OutOfMemory> {
-    let mut made = methods(alloc)?;
-    made.push(element(alloc, "c.r", Role::Rule, &[])?)?;
     Ok(made)
 }
 
@@ -154,13 +146,6 @@ fn lines(rt: HostRuntime) -> Result<(), Fail> {
     Ok(())
 }
 
-fn instance(alloc: Global, path: &str, kind: Kind) -> Result<NamedPart, OutOfMemory> {
-    Ok(NamedPart {
-        path: Name::new(alloc, path.as_bytes())?,
-        kind,
-    })
-}
-
 fn queue(alloc: Global, items: &[Word]) -> Result<Queue, OutOfMemory> {
     let mut queue = Queue::new(alloc, 64)?;
     for item in items {
@@ -175,22 +160,6 @@ const QUEUES: &[u8] = b"[][8'h05][8'h01 8'h02 8'h03]";
 
 fn sink_of(alloc: Global) -> Result<MemSink, OutOfMemory> {
     MemSink::new(alloc, 4096, Vec::new(alloc))
-}
-
-/// A register, and a wire, which has no line.
-fn instances(alloc: Global) -> Result<Items<NamedPart>, OutOfMemory> {
-    let mut made = Items::new(alloc);
-    let start = Word::zero(8);
-    made.push(instance(alloc, "c.x", Kind::Reg(RegKind { width: 8, start }))?)?;
-    made.push(instance(alloc, "w", Kind::Wire(WireKind { width: 8 }))?)?;
-    Ok(made)
-}
-
-fn parts(alloc: Global) -> Result<Vec<Part>, OutOfMemory> {
-    let mut made = Vec::new(alloc);
-    made.push(Part::Number(word(8, 12)))?;
-    made.push(Part::Held(None))?;
-    Ok(made)
 }
 
 #[test]
@@ -210,75 +179,20 @@ fn queues(rt: HostRuntime) -> Result<(), Fail> {
     Ok(())
 }
 
-fn happened(alloc: Global) -> Result<Fired, OutOfMemory> {
-    let mut fired = Fired {
-        list: Vec::new(alloc),
-        stopped: Vec::new(alloc),
-        blocked: Vec::new(alloc),
-        results: Vec::new(alloc),
-    };
-    fired.list.push(2)?;
-    fired.list.push(0)?;
-    fired.stopped.push((3, 0))?;
-    fired.blocked.push(1)?;
-    fired.results.push((2, word(4, 9)))?;
-    Ok(fired)
-}
-
-const REPORT: &[u8] =
-    b"opening\nc.x = 8'h0c\nclock 1\nfired g p\nstopped c.r by p\nblocked start\ng -> 4'h9\nc.x = 8'h0c\n";
-
 #[test]
-fn reports(rt: HostRuntime) -> Result<(), Fail> {
+fn names(rt: HostRuntime) -> Result<(), Fail> {
     let alloc = rt.alloc();
+    let methods = methods(alloc)?;
     let mut sink = sink_of(alloc)?;
     let mut buffer = PutBuffer::new();
-    let (elements, fired) = (elements(alloc)?, happened(alloc)?);
-    let (instances, parts) = (instances(alloc)?, parts(alloc)?);
-    add_opening(
+    add_list(
         &mut buffer,
         &mut sink,
-        instances.as_slice(),
-        parts.as_slice(),
-    )?;
-    add_clock(
-        &mut buffer,
-        &mut sink,
-        elements.as_slice(),
-        1,
-        &fired,
-        instances.as_slice(),
-        parts.as_slice(),
+        methods.as_slice(),
+        b"fired",
+        &[2, 0, 9],
     )?;
     buffer.flush(&mut sink)?;
-    assert_eq!(rt; sink.bytes(), REPORT);
-    Ok(())
-}
-
-fn numbers(alloc: Global, numbers: &[u32]) -> Result<Items<u32>, OutOfMemory> {
-    Ok(Items::from_slice(alloc, numbers)?)
-}
-
-const SCHEDULE: &[u8] =
-    b"execution g p start\nurgency p start g c.r\nstops p: c.r start\nstops g: p\n";
-
-#[test]
-fn schedules(rt: HostRuntime) -> Result<(), Fail> {
-    let alloc = rt.alloc();
-    let mut stops = Items::new(alloc);
-    stops.push(numbers(alloc, &[3, 1])?)?;
-    stops.push(numbers(alloc, &[])?)?;
-    stops.push(numbers(alloc, &[0])?)?;
-    let schedule = Schedule {
-        execution: numbers(alloc, &[2, 0, 1])?,
-        urgency: numbers(alloc, &[0, 1, 2, 3])?,
-        stops,
-    };
-    let elements = elements(alloc)?;
-    let mut sink = sink_of(alloc)?;
-    let mut buffer = PutBuffer::new();
-    add_schedule(&mut buffer, &mut sink, elements.as_slice(), &schedule)?;
-    buffer.flush(&mut sink)?;
-    assert_eq!(rt; sink.bytes(), SCHEDULE);
+    assert_eq!(rt; sink.bytes(), b"fired g p \n".as_slice());
     Ok(())
 }
