@@ -1,10 +1,10 @@
-use Rattle.std.proofs.Common.{◌≡◌, ℕ, ◌+◌, ◌<◌, ◌⊎◌, inl, inr, Bool, true, false, List, [], ◌∷◌, ◌++◌, length, get_or, take, drop, refl, zero, suc, sym, ◌∙◌, ap, subst, arith, add-one, take-append-drop, drop-cons}
+use Rattle.std.proofs.Common.{◌≡◌, ℕ, ◌+◌, ◌<◌, inl, inr, Bool, true, false, List, [], ◌∷◌, ◌++◌, length, get_or, take, drop, refl, suc, sym, ◌∙◌, ap, subst, arith, add-one, take-append-drop, drop-cons}
 use Rattle.std.proofs.lemmas.List.{take_more}
 use Rattle.std.specs.Prelude.{IsTrue, IsFalse, All}
 use Rattle.bsv_graph.specs.Orders.{In, StandsBefore}
 use Rattle.bsv_graph.specs.Relating.{Relating}
 use Rattle.bsv_graph.specs.UrgencyOrders.{IsBehindRule, NoneBehindRule, IsLeastBehindRule, IsFirstRule}
-use Rattle.bsv_graph.proofs.LeastLemmas.{in_left, in_right, in_parts}
+use Rattle.bsv_graph.proofs.LeastLemmas.{in_parts}
 use Rattle.bsv_urgency.specs.Acting.{IsActionIn, IsLeastActionIn, NoActionIn}
 
 pub not_in_more : (xs : List ℕ) (k d m : ℕ) → k < length xs → ¬ In (take k xs) m → (get_or xs k d ≡ m → ⊥) → ¬ In (take (k + 1) xs) m

@@ -1,19 +1,20 @@
 -- What the urgency order of a design is, and why there may be none.
-use Rattle.std.specs.Prelude.{◌≡◌, ℕ, Bool, true, false, List, filter, Some, slice_get}
+use Rattle.std.specs.Prelude.{◌≡◌, ℕ, List, filter, Some, slice_get}
+use Rattle.bsv_design.specs.declared.design.Design.{Design}
+use Rattle.bsv_design.specs.declared.tree.Pair.{Pair}
+use Rattle.bsv_design.specs.Schemes.{design_scheme}
+use Rattle.bsv_design.specs.Seen.{blueprint}
+use Rattle.bsv_graph.specs.Elements.{relating, is_urging}
 use Rattle.bsv_graph.specs.Relating.{Relating}
 use Rattle.bsv_graph.specs.UrgencyOrders.{UrgencyCycle, MethodBehindRule}
-use Rattle.bsv_design.specs.declared.tree.Attribute.{Attribute}
-use Rattle.bsv_design.specs.declared.tree.Attribute.TheVariants as attribute
-use Rattle.bsv_design.specs.declared.tree.Pair.{Pair}
-use Rattle.bsv_urgency.specs.declared.urgency.UrgencyFault.{UrgencyFault}
-use Rattle.bsv_urgency.specs.declared.urgency.UrgencyFault.TheVariants as fault
+use Rattle.bsv_urgency.specs.declared.fault.UrgencyFault.{UrgencyFault}
+use Rattle.bsv_urgency.specs.declared.fault.UrgencyFault.TheVariants as fault
 
--- `descending_urgency` and `preempts`
-abbrev pub is_urging : Attribute → Bool
-is_urging attribute.DescendingUrgency = true
-is_urging attribute.ExecutionOrder = false
-is_urging attribute.Preempts = true
+-- how the elements of a design relate
+abbrev pub design_relating : Design → Relating
+design_relating d = relating (design_scheme (blueprint d))
 
+-- the pairs of `descending_urgency` and `preempts`, in the order of the text
 abbrev pub urging_pairs : List Pair → List Pair
 urging_pairs ps = filter (λ p. is_urging p.attribute) ps
 

@@ -1,6 +1,5 @@
-pub mod Telling
-pub mod Acting
 pub mod Answers
+pub mod Acting
 pub mod Stages
 pub mod Placed
 pub mod Placing

@@ -7,7 +7,3 @@ pub record HasPlaces (n : ℕ) (order places : List ℕ) : Type 0 where
   pub order_of : IsOrderOf n order
   pub size : length places ≡ n
   pub at : (a : ℕ) → a < n → slice_index places a ≡ place_of order a
-
--- so it has of the order that it is made from
-abbrev pub ForOrder : ℕ → List ℕ → (List ℕ → Type 0) → Type 0
-ForOrder n places P = (order : List ℕ) → HasPlaces n order places → P order

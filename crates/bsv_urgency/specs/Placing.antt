@@ -1,9 +1,9 @@
--- What the tables tell, and the places of elements in the two orders.
+-- How elements relate, and their places in the two orders.
 use Rattle.std.specs.Prelude.{◌≡◌, ℕ, List, length}
 use Rattle.bsv_graph.specs.Relating.{Relating}
+use Rattle.bsv_graph.specs.Relations.{relating_of, count_of}
 use Rattle.bsv_urgency.specs.declared.stops.Placing.{Placing}
 use Rattle.bsv_urgency.specs.Placed.{HasPlaces}
-use Rattle.bsv_urgency.specs.Telling.{count_of, Tells}
 
 abbrev pub size_of : Placing → ℕ
 size_of p = count_of p.relations.now
@@ -13,10 +13,11 @@ pub record IsPlaced (p : Placing) : Type 0 where
   pub execution : length p.execution.now ≡ size_of p
   pub urgency : length p.urgency.now ≡ size_of p
 
-pub record Tell (p : Placing) (r : Relating) (execution urgency : List ℕ) : Type 0 where
-  pub tells : Tells p.relations.now r
-  pub executed : HasPlaces r.count execution p.execution.now
-  pub urged : HasPlaces r.count urgency p.urgency.now
+-- the places are those of these orders
+pub record ArePlaces (p : Placing) (execution urgency : List ℕ) : Type 0 where
+  pub executed : HasPlaces (size_of p) execution p.execution.now
+  pub urged : HasPlaces (size_of p) urgency p.urgency.now
 
+-- so it is of the orders of which they are the places
 abbrev pub ForOrders : Placing → (Relating → List ℕ → List ℕ → Type 0) → Type 0
-ForOrders p P = (r : Relating) (execution urgency : List ℕ) → Tell p r execution urgency → P r execution urgency
+ForOrders p P = (execution urgency : List ℕ) → ArePlaces p execution urgency → P (relating_of p.relations.now) execution urgency

@@ -6,7 +6,11 @@ use bsv_bits::OutOfMemory;
 use std::alloc::Global;
 
 /// The place of each element in the order.
-pub(crate) fn places_of(alloc: Global, order: &[u32], count: usize) -> Result<Vec<usize>, OutOfMemory>
+pub(crate) fn places_of(
+    alloc: Global,
+    order: &[u32],
+    count: usize,
+) -> Result<Vec<usize>, OutOfMemory>
     requires { IsOrderOf count order.now }
     ensures { IfOk result (λ places. HasPlaces count order.now places.items) }
 {

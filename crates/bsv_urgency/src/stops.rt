@@ -1,12 +1,12 @@
 ghost use Rattle.std.specs.Prelude.{◌≡◌, ◌<◌, ◌↔◌, ◌++◌, ◌∷◌, [], All, IsTrue, if◌then◌else◌, IfOk, OnOk};
 ghost use Rattle.bsv_graph.specs.Orders.{IsOrderOf};
+ghost use Rattle.bsv_graph.specs.Relations.{relating_of, count_of};
 ghost use Rattle.bsv_graph.specs.Stops.{Clash, Stops, Picks, AreStops};
 ghost use Rattle.bsv_urgency.specs.Placing.{size_of, IsPlaced, ForOrders};
-ghost use Rattle.bsv_urgency.specs.Telling.{count_of, ForRelating};
 
 use crate::places::places_of;
-use crate::relations::Relations;
 use bsv_bits::OutOfMemory;
+use bsv_graph::Relations;
 use sqlite_items::Items;
 use std::alloc::{AllocError, Global};
 
@@ -88,8 +88,8 @@ pub(crate) fn stops_of(
 ) -> Result<Items<Items<u32>>, OutOfMemory>
     requires execution { IsOrderOf (count_of relations.now) execution.now }
     requires urgency { IsOrderOf (count_of relations.now) urgency.now }
-    ensures { ForRelating relations.now
-        (λ r. IfOk result (λ lists. AreStops r execution.now urgency.now lists)) }
+    ensures { IfOk result
+        (λ lists. AreStops (relating_of relations.now) execution.now urgency.now lists) }
 {
     let count = relations.count();
     let execution_places = places_of(alloc, execution, count)?;
