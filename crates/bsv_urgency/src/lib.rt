@@ -13,6 +13,8 @@ mod order;
 mod places;
 mod schedules;
 mod stops;
+#[cfg(test)]
+mod tests;
 
 pub use fault::UrgencyFault;
 pub use order::{one_urgency, urgency};

@@ -80,6 +80,7 @@ fn push_if(passes: bool, number: u32, list: &mut Items<u32>) -> Result<(), Alloc
 }
 
 /// Of each element those that it stops, by urgency.
+#[tactic(auto, using(bsv_graph::proofs::LeastLemmas::order_below))]
 pub(crate) fn stops_of(
     alloc: Global,
     relations: &Relations,

@@ -10,9 +10,6 @@ use Rattle.bsv_urgency.proofs.stops.stops_of.Goals as goal
 lent : (n m : ℕ) (order places there : List ℕ) → m ≡ n → there ≡ places → HasPlaces m order places → HasPlaces n order there
 lent n m order places there e f h = rw (f, ← e) h
 
-pub stopped_by-requires-clause-order : goal.stopped_by-requires-clause-order
-stopped_by-requires-clause-order c = order_below (count_of c.args.relations.now) c.args.urgency.now c.requires.urgency
-
 pub loop-a-preserved : goal.loop-a-preserved
 loop-a-preserved c =
     let r = relating_of c.args.relations.now in
