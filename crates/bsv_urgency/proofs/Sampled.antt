@@ -1,10 +1,12 @@
 -- The design that the tests make is in order.
-use Rattle.std.proofs.Common.{◌≡◌, ℕ, ◌<◌, ◌⊎◌, inl, inr, List, [], ◌∷◌, length, slice_get, refl, zero, suc, sym, ◌∙◌, ap, subst, arith, Some, IsTrue, false}
+use Rattle.std.proofs.Common.{◌≡◌, ℕ, ◌<◌, ◌⊎◌, inl, inr, List, [], ◌∷◌, length, slice_get, refl, zero, suc, sym, ◌∙◌, ap, subst, arith, Some, IsTrue, get_or}
 use Rattle.std.specs.Prelude.{codes}
 use Rattle.bsv_ast.specs.Names as names
-use Rattle.bsv_design.specs.declared.design.Design.{Design}
 use Rattle.bsv_design.specs.declared.element.Element.{Element}
 use Rattle.bsv_design.specs.declared.element.Role.TheVariants as role
+use Rattle.bsv_design.specs.declared.design.NamedPart.{NamedPart}
+use Rattle.bsv_design.specs.declared.tree.Assert.{Assert}
+use Rattle.bsv_design.specs.declared.tree.Attribute.TheVariants as attribute
 use Rattle.bsv_design.specs.declared.tree.Pair.{Pair}
 use Rattle.bsv_design.specs.Designs.{Blueprint, IsDesign, IsElement, IsNamed, IsRuleIn}
 use Rattle.bsv_design.specs.Relations.{feeds}
@@ -13,8 +15,8 @@ use Rattle.bsv_design.specs.Traces.{body_trace}
 use Rattle.bsv_design.specs.Widths.{widths_from}
 use Rattle.bsv_graph.specs.Elements.{relating}
 use Rattle.bsv_graph.specs.Orders.{In, IsOrderOf}
-use Rattle.bsv_graph.specs.Relating.{Relating, feed_edges}
-use Rattle.bsv_graph.specs.Walks.{HasEdge, Walk, IsAcyclic, step, more}
+use Rattle.bsv_graph.specs.Relating.{feed_edges}
+use Rattle.bsv_graph.specs.Walks.{HasEdge, IsAcyclic, step, more}
 use Rattle.bsv_graph.proofs.EdgeLemmas.{where_of}
 use Rattle.bsv_urgency.specs.Samples.{idle_rule, two_rules}
 
@@ -85,8 +87,51 @@ two_right = record {
 }
   where
     differ : codes "a" ≡ codes "b" → ⊥
-    differ e = cc
+    differ e = omega (arith, ap (λ xs. get_or xs 0 0) e)
 
     pairs_right : (k : ℕ) (p : Pair) → slice_get two_rules.pairs k ≡ Some p → IsRuleIn both p.before × IsRuleIn both p.after
-    pairs_right zero p h = ?
+    pairs_right zero p h =
+        let e : record { attribute = attribute.Preempts; before = 1; after = 0 } ≡ p = cc in
+        subst (λ (q : Pair). IsRuleIn both q.before × IsRuleIn both q.after) e (is_rule_at 1 (omega arith), is_rule_at 0 (omega arith))
     pairs_right (suc k) p h = cc
+
+pub two_made : (name : List ℕ) (es : List Element) (ps : List NamedPart) (pairs : List Pair) (asserts : List Assert) → name ≡ codes "m"
+    → es ≡ idle_rule (codes "a") ∷ idle_rule (codes "b") ∷ [] → ps ≡ []
+    → pairs ≡ record { attribute = attribute.Preempts; before = 1; after = 0 } ∷ [] → asserts ≡ []
+    → ◌≡◌ {A = Blueprint} (record { name = name; elements = es; parts = ps; pairs = pairs; asserts = asserts }) two_rules
+unfolding two_rules
+two_made name es ps pairs asserts a b c d e = rw (a, b, c, d, e) refl
+
+none_fed : (a b : ℕ) → IsTrue (feeds (design_scheme two_rules) a b) → ⊥
+unfolding feeds design_scheme two_rules
+none_fed zero b h = cc
+none_fed (suc zero) b h = cc
+none_fed (suc (suc a)) b h = cc
+
+none_feeds : (a b : ℕ) → HasEdge (feed_edges (relating (design_scheme two_rules))) a b → ⊥
+unfolding relating
+none_feeds a b h = none_fed a b (where_of (feeds (design_scheme two_rules)) (length (design_scheme two_rules).elements) a b h).2
+
+pub two_acyclic : (b : Blueprint) → b ≡ two_rules → IsAcyclic (feed_edges (relating (design_scheme b)))
+two_acyclic b e = subst (λ x. IsAcyclic (feed_edges (relating (design_scheme x)))) (sym e) none
+  where
+    none : IsAcyclic (feed_edges (relating (design_scheme two_rules)))
+    none a (step h) = none_feeds _ _ h
+    none a (more h w) = none_feeds _ _ h
+
+order_of_two : IsOrderOf 2 (0 ∷ 1 ∷ [])
+order_of_two = record { each = each; below = below; once = (λ h. elim h [ inl e ↦ omega (arith, e) | inr h ↦ h ], (λ h. h, tt)) }
+  where
+    each : (a : ℕ) → a < 2 → In (0 ∷ 1 ∷ []) a
+    each zero l = inl refl
+    each (suc zero) l = inr (inl refl)
+    each (suc (suc a)) l = absurd (omega arith)
+
+    below : (a : ℕ) → In (0 ∷ 1 ∷ []) a → a < 2
+    below a (inl e) = omega (arith, e)
+    below a (inr (inl e)) = omega (arith, e)
+    below a (inr (inr h)) = absurd h
+
+pub two_ordered : (b : Blueprint) (xs : List ℕ) → b ≡ two_rules → xs ≡ 0 ∷ 1 ∷ [] → IsOrderOf (relating (design_scheme b)).count xs
+unfolding relating design_scheme two_rules
+two_ordered b xs e f = subst (λ x. IsOrderOf (relating (design_scheme x)).count xs) (sym e) (rw f order_of_two)

@@ -39,13 +39,7 @@ fn two_rules(alloc: Global) -> Result<Design, Fail>
         after: 0,
     })?;
     let name = Name::new(alloc, b"m")?;
-    Ok(Design::new(
-        name,
-        elements,
-        Items::new(alloc),
-        pairs,
-        Items::new(alloc),
-    ))
+    Ok(Design::new(name, elements, Items::new(alloc), pairs, Items::new(alloc)))
 }
 
 #[test]

@@ -1,8 +1,7 @@
 use Rattle.std.proofs.Common.{◌≡◌, ℕ, arith, List, ◌∷◌, []}
 use Rattle.std.proofs.lemmas.List.{length-append}
-use Rattle.bsv_graph.specs.Relations.{relating_of, count_of}
+use Rattle.bsv_graph.specs.Relations.{relating_of}
 use Rattle.bsv_graph.specs.Stops.{Stops, Picks}
-use Rattle.bsv_graph.proofs.LeastLemmas.{order_below}
 use Rattle.bsv_urgency.specs.Placed.{HasPlaces}
 use Rattle.bsv_urgency.proofs.PlaceLemmas.{lists_more}
 use Rattle.bsv_urgency.proofs.stops.stops_of.Goals as goal
