@@ -1,0 +1,4 @@
+pub mod BehindLemmas
+pub mod PlaceLemmas
+pub mod UrgencyLemmas
+pub mod Sampled

@@ -1,0 +1,25 @@
+-- What the urgency order of a design is, and why there may be none.
+use Rattle.std.specs.Prelude.{◌≡◌, ℕ, List, filter, Some, slice_get}
+use Rattle.bsv_design.specs.declared.design.Design.{Design}
+use Rattle.bsv_design.specs.declared.tree.Pair.{Pair}
+use Rattle.bsv_design.specs.Schemes.{design_scheme}
+use Rattle.bsv_design.specs.Seen.{blueprint}
+use Rattle.bsv_graph.specs.Elements.{relating, is_urging}
+use Rattle.bsv_graph.specs.Relating.{Relating}
+use Rattle.bsv_graph.specs.UrgencyOrders.{UrgencyCycle, MethodBehindRule}
+use Rattle.bsv_urgency.specs.declared.fault.UrgencyFault.{UrgencyFault}
+use Rattle.bsv_urgency.specs.declared.fault.UrgencyFault.TheVariants as fault
+
+-- how the elements of a design relate
+abbrev pub design_relating : Design → Relating
+design_relating d = relating (design_scheme (blueprint d))
+
+-- the pairs of `descending_urgency` and `preempts`, in the order of the text
+abbrev pub urging_pairs : List Pair → List Pair
+urging_pairs ps = filter (λ p. is_urging p.attribute) ps
+
+-- why elements that relate in this way, by these pairs of attributes, have no urgency order
+abbrev pub Declines : Relating → List Pair → UrgencyFault → Type 0
+Declines r ps (fault.UrgencyCycle p) = (k : ℕ) × UrgencyCycle r k × (slice_get (urging_pairs ps) k ≡ Some p)
+Declines r ps (fault.MethodBehindRule m q) = MethodBehindRule r m q
+Declines r ps fault.OutOfMemory = Unit {0}
