@@ -18,18 +18,19 @@ has_name x = is_some x.name
 abbrev pub has_guard : List Kind → Site → Bool
 has_guard ks c = is_guarded (kind_at ks c.target) c.target.method
 
--- of each condition of an element and then of each call, in the order of the text, whether it is implicit
+-- of each condition of an element and then of each call, in the order of the text, whether it is implicit. Places of
+-- conditions and calls are counted so
 unfoldable pub are_implicit : Scheme → ℕ → List Bool
 are_implicit S n = map has_name (demands_of S n) ++ map (has_guard S.kinds) (sites_of S n)
 
--- the condition or call at the place is implicit, where conditions are counted before calls
-abbrev pub IsImplicit : Scheme → ℕ → ℕ → Type 0
-IsImplicit S n place = slice_get (are_implicit S n) place ≡ Some true
-
--- the first place of a truth, and none
-pub record IsFirstTrue (truths : List Bool) (k : ℕ) : Type 0 where
-  pub at : slice_get truths k ≡ Some true
-  pub first : (j : ℕ) → j < k → ¬ (slice_get truths j ≡ Some true)
+-- no truth stands before the place
+abbrev pub NoneTrueBelow : List Bool → ℕ → Type 0
+NoneTrueBelow truths k = (j : ℕ) → j < k → ¬ (slice_get truths j ≡ Some true)
 
 abbrev pub NoneTrue : List Bool → Type 0
 NoneTrue truths = (j : ℕ) → ¬ (slice_get truths j ≡ Some true)
+
+-- the first truth stands at the place
+pub record IsFirstTrue (truths : List Bool) (k : ℕ) : Type 0 where
+  pub at : slice_get truths k ≡ Some true
+  pub first : NoneTrueBelow truths k
