@@ -4,3 +4,4 @@ pub mod Elements
 pub mod Rules
 pub mod Asserted
 pub mod Attributes
+pub mod Alike
