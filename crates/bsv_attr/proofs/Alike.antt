@@ -1,19 +1,17 @@
 -- What holds of the attributes of a scheme holds of those of one that does the same.
-use Rattle.std.proofs.Common.{◌≡◌, ◌∙◌, ℕ, Bool, true, false, not, ◌&&◌, ◌||◌, List, [], ◌∷◌, length, Some, None, refl, sym, ap, subst, arith, ◌⊎◌, inl, inr, IsTrue}
+use Rattle.std.proofs.Common.{◌≡◌, ◌∙◌, ℕ, Bool, true, false, ◌&&◌, List, [], ◌∷◌, length, refl, sym, ap, subst, arith, inl, inr, IsTrue}
 use Rattle.std.specs.Prelude.{IsFalse}
 use Rattle.bsv_bits.specs.Words.{Bits}
 use Rattle.bsv_design.specs.declared.element.Port.{Port}
 use Rattle.bsv_design.specs.declared.schedule.Schedule.{Schedule}
 use Rattle.bsv_design.specs.declared.tree.Attribute.{Attribute}
-use Rattle.bsv_design.specs.declared.tree.Pair.{Pair}
 use Rattle.bsv_design.specs.Relations.{goes, for_all, may_precede}
-use Rattle.bsv_design.specs.Schemes.{Scheme, Asking, Look, AreAlike, Outline, answers, filled, given, if_asked, ports_of, ready, seen, all_hold, all_open}
+use Rattle.bsv_design.specs.Schemes.{Scheme, Asking, Look, AreAlike, answers, filled, given, ready, seen, all_hold, all_open}
 use Rattle.bsv_design.specs.Traces.{Trace}
-use Rattle.bsv_graph.specs.Orders.{In}
 use Rattle.bsv_graph.specs.Relating.{Relating}
 use Rattle.bsv_graph.specs.Stops.{Stops}
 use Rattle.bsv_attr.specs.Marks.{IsMarked, IsPaired}
-use Rattle.bsv_attr.specs.Obeying.{StopsIn, NoMemberStops, OthersAreStopped, own, Obeys}
+use Rattle.bsv_attr.specs.Obeying.{StopsIn, own, Obeys}
 use Rattle.bsv_attr.specs.Related.{relating}
 
 -- ---- stops

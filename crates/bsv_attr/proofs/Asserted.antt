@@ -1,5 +1,5 @@
 -- At most one answer is told.
-use Rattle.std.proofs.Common.{◌≡◌, ◌∙◌, ℕ, ◌<◌, true, false, refl, sym, ap, subst, arith, ◌⊎◌, inl, inr}
+use Rattle.std.proofs.Common.{◌≡◌, ℕ, ◌<◌, refl, ap, subst, ◌⊎◌, inl, inr}
 use Rattle.std.specs.Prelude.{Result, Ok, Err, IsOk, MatchResult}
 use Rattle.std.proofs.lemmas.Bool.{cases_order}
 use Rattle.bsv_design.specs.declared.schedule.Schedule.{Schedule}

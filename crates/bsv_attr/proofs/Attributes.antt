@@ -1,5 +1,5 @@
 -- An accepted schedule obeys all attributes.
-use Rattle.std.proofs.Common.{◌≡◌, ◌∙◌, ℕ, ◌<◌, ◌≤◌, ◌+◌, Bool, true, false, cond, not, ◌&&◌, ◌||◌, List, [], ◌∷◌, ◌++◌, map, length, Some, None, refl, sym, ap, subst, arith, ◌⊎◌, inl, inr, zero, suc, IsTrue, nat_eq}
+use Rattle.std.proofs.Common.{◌≡◌, ◌∙◌, ℕ, Bool, true, false, cond, not, ◌&&◌, ◌||◌, List, [], ◌∷◌, map, Some, None, refl, sym, ap, subst, arith, inl, inr, zero, suc, IsTrue, nat_eq}
 use Rattle.std.specs.Prelude.{slice_get, Option, filter, is_some}
 use Rattle.std.specs.List.{list_any}
 use Rattle.std.proofs.Math.Bool.{or-true, and-true}
@@ -20,7 +20,7 @@ use Rattle.bsv_design.specs.Designs.{Blueprint}
 use Rattle.bsv_design.specs.Guards.{is_guarded}
 use Rattle.bsv_design.specs.Kinds.{kind_laws}
 use Rattle.bsv_design.specs.Schemes.{Scheme, Look, Asking, design_scheme, kinds_of, trace_of, answers, given, seen, ready, guard_of, is_open, required, all_hold, all_open}
-use Rattle.bsv_design.specs.Traces.{Demand, Trace, kind_at, site_at, demand_at, body_trace}
+use Rattle.bsv_design.specs.Traces.{Trace, kind_at, site_at, demand_at, body_trace}
 use Rattle.bsv_prim.specs.declared.part.Part.{Part}
 use Rattle.bsv_graph.specs.declared.edge.Edge.{Edge}
 use Rattle.bsv_graph.specs.ExecutionOrders.{ExecutionOrder}
@@ -31,11 +31,11 @@ use Rattle.bsv_graph.specs.UrgencyOrders.{UrgencyOrder}
 use Rattle.bsv_graph.specs.Walks.{HasEdge}
 use Rattle.bsv_attr.specs.Asserting.{IsAccepted}
 use Rattle.bsv_attr.specs.Calling.{condition_named, call_guarded, implicit_places}
-use Rattle.bsv_attr.specs.Implicit.{NoneTrue, are_implicit, has_name}
-use Rattle.bsv_attr.specs.Marks.{IsMarked, IsPaired}
-use Rattle.bsv_attr.specs.Obeying.{StopsIn, NoMemberStops, OthersAreStopped, own, Obeys}
+use Rattle.bsv_attr.specs.Implicit.{NoneTrue, are_implicit}
+use Rattle.bsv_attr.specs.Marks.{IsPaired}
+use Rattle.bsv_attr.specs.Obeying.{StopsIn, OthersAreStopped, own, Obeys}
 use Rattle.bsv_attr.specs.Related.{relating, edges_of, orders, urges, preempts}
-use Rattle.bsv_attr.specs.Stopping.{ListStops, NoneStops}
+use Rattle.bsv_attr.specs.Stopping.{ListStops}
 use Rattle.bsv_attr.proofs.Elements.{implicit_is}
 use Rattle.bsv_attr.proofs.Stoppers.{in_cases}
 use Rattle.bsv_attr.proofs.Truths.{none_left, none_right}
@@ -165,7 +165,7 @@ ready_in aggressive ks look t = all_hold aggressive t.demands && all_open aggres
 
 body_explicit : (aggressive : Bool) (ps : List NamedPart) (e : Element) (look : Look) (ws : List Bits) → NoneTrue (implicit_places ps e)
     → (let t : Trace = body_trace (map (λ p. p.kind) ps) e (answers (map (λ p. p.kind) ps) look) ws in
-      ready_in aggressive (map (λ p. p.kind) ps) look t ≡ all_hold aggressive (own t.demands))
+    ready_in aggressive (map (λ p. p.kind) ps) look t ≡ all_hold aggressive (own t.demands))
 unfolding body_trace
 body_explicit aggressive ps e look ws none =
     let ks = map (λ (p : NamedPart). p.kind) ps in

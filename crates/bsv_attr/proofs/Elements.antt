@@ -1,11 +1,11 @@
 -- From the elements of a design to its scheme.
-use Rattle.std.proofs.Common.{◌≡◌, ◌∙◌, ℕ, ◌<◌, ◌^◌, ◌≤◌, ◌+◌, ◌&&◌, Bool, true, false, List, [], ◌∷◌, ◌++◌, map, length, get_or, Some, None, refl, sym, ap, subst, arith, IsTrue, zero, suc, ltb-true, nat_lt}
+use Rattle.std.proofs.Common.{◌≡◌, ◌∙◌, ℕ, ◌<◌, ◌^◌, ◌+◌, ◌&&◌, Bool, true, false, List, [], ◌∷◌, ◌++◌, map, length, get_or, Some, None, refl, ap, subst, IsTrue, zero, suc, ltb-true, nat_lt}
 use Rattle.std.specs.Prelude.{slice_get, Option, option_map}
 use Rattle.std.specs.List.{list_all}
 use Rattle.std.proofs.Math.Logic.{∥∥₁_elim}
 use Rattle.std.proofs.Math.Bool.{Bool-set}
 use Rattle.std.proofs.lemmas.Bool.{lt-ltb}
-use Rattle.std.proofs.lemmas.Option.{same_Some, slice_get-map, slice_get_read, slice_get_within, slice_get-get_or}
+use Rattle.std.proofs.lemmas.Option.{same_Some, slice_get-map, slice_get_read, slice_get_within}
 use Rattle.bsv_bits.specs.Words.{Bits}
 use Rattle.bsv_design.specs.declared.design.Design.{Design}
 use Rattle.bsv_design.specs.declared.design.NamedPart.{NamedPart}
@@ -18,7 +18,7 @@ use Rattle.bsv_design.specs.Schemes.{design_scheme, kinds_of, trace_of, ports_of
 use Rattle.bsv_design.specs.Seen.{blueprint}
 use Rattle.bsv_design.specs.Traces.{Trace, body_trace, site_at, demand_at}
 use Rattle.bsv_design.specs.Widths.{call_fits, method_fits, has_width}
-use Rattle.bsv_attr.specs.Calling.{is_countable, names_method, names_method_of, condition_named, call_guarded, implicit_places}
+use Rattle.bsv_attr.specs.Calling.{is_countable, names_method, names_method_of, condition_named, implicit_places}
 use Rattle.bsv_attr.specs.Implicit.{are_implicit, has_name, has_guard}
 use Rattle.bsv_attr.specs.Marks.{IsMarked}
 

@@ -1,5 +1,5 @@
 -- What is found of one rule of a design says of its scheme.
-use Rattle.std.proofs.Common.{◌≡◌, ◌∙◌, ℕ, ◌<◌, ◌≤◌, ◌+◌, Bool, true, false, List, length, Some, refl, sym, ap, subst, arith}
+use Rattle.std.proofs.Common.{◌≡◌, ◌∙◌, ℕ, ◌<◌, ◌≤◌, Bool, true, false, List, length, Some, refl, sym, subst, arith}
 use Rattle.std.specs.Prelude.{slice_get}
 use Rattle.bsv_design.specs.declared.design.Design.{Design}
 use Rattle.bsv_design.specs.declared.design.NamedPart.{NamedPart}
@@ -12,7 +12,7 @@ use Rattle.bsv_attr.specs.Asserting.{IsExplicit, IsUnstopped, AreExplicit, AreUn
 use Rattle.bsv_attr.specs.Calling.{implicit_places}
 use Rattle.bsv_attr.specs.Implicit.{IsFirstTrue, NoneTrue}
 use Rattle.bsv_attr.specs.Marks.{IsMarked}
-use Rattle.bsv_attr.specs.Stopping.{NoneStops, IsFirstStopper}
+use Rattle.bsv_attr.specs.Stopping.{IsFirstStopper}
 use Rattle.bsv_attr.proofs.Elements.{implicit_is, marked_within}
 
 abbrev pub scheme : Design → Scheme

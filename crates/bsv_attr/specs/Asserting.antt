@@ -1,5 +1,5 @@
 -- What the asserting attributes refuse (Bluespec reference guide, "no_implicit_conditions", "fire_when_enabled").
-use Rattle.std.specs.Prelude.{ℕ, ◌<◌, true, false, List}
+use Rattle.std.specs.Prelude.{ℕ, ◌<◌, true, false}
 use Rattle.bsv_design.specs.declared.schedule.Schedule.{Schedule}
 use Rattle.bsv_design.specs.Schemes.{Scheme}
 use Rattle.bsv_attr.specs.declared.fault.AttrFault.{AttrFault}

@@ -1,12 +1,10 @@
 -- What the code needs of the elements of a design: their calls name methods, and a number of 32 bits names each condition
 -- and each call.
-use Rattle.std.specs.Prelude.{◌≡◌, ℕ, ◌+◌, ◌<◌, ◌^◌, nat_lt, Bool, false, List, ◌++◌, length, map, slice_get, Option, Some, None, is_some}
-use Rattle.std.specs.List.{list_all}
+use Rattle.std.specs.Prelude.{ℕ, ◌+◌, ◌^◌, nat_lt, Bool, false, List, ◌++◌, length, map, slice_get, Option, Some, None, is_some}
 use Rattle.bsv_design.specs.declared.design.NamedPart.{NamedPart}
 use Rattle.bsv_design.specs.declared.element.Call.{Call}
 use Rattle.bsv_design.specs.declared.element.Condition.{Condition}
 use Rattle.bsv_design.specs.declared.element.Element.{Element}
-use Rattle.bsv_design.specs.declared.kind.Kind.{Kind}
 use Rattle.bsv_design.specs.Guards.{is_guarded}
 use Rattle.bsv_design.specs.Kinds.{kind_table}
 

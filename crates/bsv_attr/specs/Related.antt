@@ -1,6 +1,6 @@
 -- How the elements of a scheme relate, and the pairs of its attributes as edges (Bluespec reference guide, "Scheduling
 -- attributes").
-use Rattle.std.specs.Prelude.{ℕ, ◌==◌, Bool, true, false, ◌&&◌, List, map, filter, length, slice_get, Option, Some, None}
+use Rattle.std.specs.Prelude.{◌==◌, Bool, true, false, ◌&&◌, List, map, filter, length, slice_get, Option, Some, None}
 use Rattle.std.specs.List.{list_any}
 use Rattle.bsv_design.specs.declared.element.Role.{Role}
 use Rattle.bsv_design.specs.declared.tree.Attribute.{Attribute}

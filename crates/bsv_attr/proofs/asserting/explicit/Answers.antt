@@ -1,6 +1,5 @@
-use Rattle.std.proofs.Common.{◌∙◌, ◌≤◌, ◌<◌, ◌^◌, sym, ap, subst, arith, length, refl, IsTrue, below_more}
+use Rattle.std.proofs.Common.{◌≤◌, ◌<◌, ◌^◌, sym, subst, arith, length, IsTrue, below_more}
 use Rattle.std.specs.List.{list_all}
-use Rattle.bsv_design.specs.Seen.{blueprint}
 use Rattle.bsv_attr.specs.Calling.{names_method}
 use Rattle.bsv_attr.proofs.Elements.{element_in, calls_named, few_elements}
 use Rattle.bsv_attr.proofs.Rules.{names_implicit, explicit_here, explicit_unmarked, all_explicit}

@@ -1,4 +1,4 @@
-use Rattle.std.proofs.Common.{◌∙◌, ◌≤◌, sym, ap, subst, arith, length, refl, IsTrue, below_more}
+use Rattle.std.proofs.Common.{arith, below_more}
 use Rattle.bsv_attr.proofs.Rules.{names_stopped, unstopped_unmarked, all_unstopped}
 use Rattle.bsv_attr.proofs.asserting.unstopped.Goals as goal
 use Rattle.bsv_attr.proofs.asserting.unstopped.Goals.{then-is_marked+in_default, else-is_marked}

@@ -1,5 +1,4 @@
-use Rattle.std.proofs.Common.{ℕ, take}
-use Rattle.bsv_graph.specs.Orders.{In}
+use Rattle.std.proofs.Common.{take}
 use Rattle.bsv_attr.specs.Stopping.{NoneStops}
 use Rattle.bsv_attr.proofs.stopping.first_stopper.Given as goal
 
