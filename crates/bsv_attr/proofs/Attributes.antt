@@ -34,7 +34,7 @@ use Rattle.bsv_attr.specs.Calling.{condition_named, call_guarded, implicit_place
 use Rattle.bsv_attr.specs.Implicit.{NoneTrue, are_implicit}
 use Rattle.bsv_attr.specs.Marks.{IsPaired}
 use Rattle.bsv_attr.specs.Obeying.{StopsIn, OthersAreStopped, own, Obeys}
-use Rattle.bsv_attr.specs.Related.{relating, edges_of, orders, urges, preempts}
+use Rattle.bsv_attr.specs.Related.{relating, edge_of, edges_of, is_ordering, is_urging, is_preempting, preempts}
 use Rattle.bsv_attr.specs.Stopping.{ListStops}
 use Rattle.bsv_attr.proofs.Elements.{implicit_is}
 use Rattle.bsv_attr.proofs.Stoppers.{in_cases}
@@ -43,7 +43,7 @@ use Rattle.bsv_attr.proofs.Truths.{none_left, none_right}
 -- ---- pairs as edges
 
 one_edge : (these : Attribute → Bool) (p : Pair) (ps : List Pair) (a b : ℕ) (t : Bool)
-    → HasEdge (edges_of these ps) a b → HasEdge (map (λ q. record { from = q.before; to = q.after }) (cond t (p ∷ filter (λ q. these q.attribute) ps) (filter (λ q. these q.attribute) ps))) a b
+    → HasEdge (edges_of these ps) a b → HasEdge (map edge_of (cond t (p ∷ filter (λ q. these q.attribute) ps) (filter (λ q. these q.attribute) ps))) a b
 one_edge these p ps a b true h = inr h
 one_edge these p ps a b false h = h
 
@@ -52,7 +52,7 @@ edge_at these [] k p at h = absurd cc
 edge_at these (x ∷ ps) zero p at h =
     let same : x ≡ p = same_Some x p at in
     let here : HasEdge (edges_of these (p ∷ ps)) p.before p.after =
-    subst (λ t. HasEdge (map (λ (q : Pair). let e : Edge = record { from = q.before; to = q.after } in e) (cond t (p ∷ filter (λ q. these q.attribute) ps) (filter (λ q. these q.attribute) ps))) p.before p.after) (sym h) (inl (refl, refl)) in
+    subst (λ t. HasEdge (map edge_of (cond t (p ∷ filter (λ q. these q.attribute) ps) (filter (λ q. these q.attribute) ps))) p.before p.after) (sym h) (inl (refl, refl)) in
     subst (λ y. HasEdge (edges_of these (y ∷ ps)) p.before p.after) (sym same) here
 edge_at these (x ∷ ps) (suc k) p at h = one_edge these x ps p.before p.after (these x.attribute) (edge_at these ps k p at h)
 
@@ -73,26 +73,26 @@ same_yes : (a b : ℕ) → a ≡ b → nat_eq a b ≡ true
 same_yes a b e = grind (arith, nat_tests)
 
 names_pair : (p : Pair) (a b : ℕ) → p.attribute ≡ attribute.Preempts → p.before ≡ a → p.after ≡ b
-    → (preempts p.attribute && (nat_eq p.before a && nat_eq p.after b)) ≡ true
+    → preempts a b p ≡ true
 names_pair p a b kind before after =
-    ap (λ k. preempts k && (nat_eq p.before a && nat_eq p.after b)) kind
+    ap (λ k. is_preempting k && nat_eq p.before a && nat_eq p.after b) kind
     ∙ (ap (λ t. t && nat_eq p.after b) (same_yes p.before a before) ∙ same_yes p.after b after)
 
 paired_preempts : (S : Scheme) (a b : ℕ) → IsPaired S.pairs attribute.Preempts a b → IsTrue ((relating S).preempts a b)
 unfolding relating
-paired_preempts S a b p = any_at (λ q. preempts q.attribute && (nat_eq q.before a && nat_eq q.after b)) S.pairs p.place p.pair p.at (names_pair p.pair a b p.kind p.before p.after)
+paired_preempts S a b p = any_at (preempts a b) S.pairs p.place p.pair p.at (names_pair p.pair a b p.kind p.before p.after)
 
 paired_ordering : (S : Scheme) (a b : ℕ) → IsPaired S.pairs attribute.ExecutionOrder a b → HasEdge (relating S).ordering a b
 unfolding relating
-paired_ordering S a b p = paired_edge orders S.pairs attribute.ExecutionOrder a b refl p
+paired_ordering S a b p = paired_edge is_ordering S.pairs attribute.ExecutionOrder a b refl p
 
 paired_descending : (S : Scheme) (a b : ℕ) → IsPaired S.pairs attribute.DescendingUrgency a b → HasEdge (relating S).urging a b
 unfolding relating
-paired_descending S a b p = paired_edge urges S.pairs attribute.DescendingUrgency a b refl p
+paired_descending S a b p = paired_edge is_urging S.pairs attribute.DescendingUrgency a b refl p
 
 paired_preempting : (S : Scheme) (a b : ℕ) → IsPaired S.pairs attribute.Preempts a b → HasEdge (relating S).urging a b
 unfolding relating
-paired_preempting S a b p = paired_edge urges S.pairs attribute.Preempts a b refl p
+paired_preempting S a b p = paired_edge is_urging S.pairs attribute.Preempts a b refl p
 
 -- ---- stops
 
@@ -117,12 +117,25 @@ stops_before R execution urgency f r law g u (inl h) = h.0
 stops_before R execution urgency f r law g u (inr h) = law R urgency f r g u (g.preempts f r h)
 
 -- what stops an element has it in its list
-list_stops : (R : Relating) (s : Schedule) (f r : ℕ) → Urged → Agrees R → UrgencyOrder R s.urgency → AreStops R s.execution s.urgency s.stops
+pub list_stops : (R : Relating) (s : Schedule) (f r : ℕ) → Urged → Agrees R → UrgencyOrder R s.urgency → AreStops R s.execution s.urgency s.stops
     → Stops R s.execution s.urgency f r → In s.urgency f × ListStops s.stops f r
 list_stops R s f r law g u are h =
     let both = both_in s.urgency f r (stops_before R s.execution s.urgency f r law g u h) in
     let one = are.each f (u.order.below f both.0) in
     (both.0, record { stopped = one.0; at = one.1; has = picks_in (Stops R s.execution s.urgency f) s.urgency one.0 r one.2 both.1 h })
+
+picks_have : (P : ℕ → Type 0) (us xs : List ℕ) (a : ℕ) → Picks P us xs → In xs a → P a
+picks_have P [] xs a p i = absurd (subst (λ ys. In ys a) p i)
+picks_have P (u ∷ us) xs a (inl p) i = elim (subst (λ ys. In ys a) p.1.1 i) [ inl e ↦ subst P (sym e) p.0 | inr k ↦ picks_have P us p.1.0 a p.1.2 k ]
+picks_have P (u ∷ us) xs a (inr p) i = picks_have P us xs a p.1 i
+
+-- and what has it in its list stops it
+pub stops_listed : (R : Relating) (s : Schedule) (f r : ℕ) → UrgencyOrder R s.urgency → AreStops R s.execution s.urgency s.stops
+    → In s.urgency f × ListStops s.stops f r → Stops R s.execution s.urgency f r
+stops_listed R s f r u are h =
+    let one = are.each f (u.order.below f h.0) in
+    let same : h.1.stopped ≡ one.0 = same_Some h.1.stopped one.0 (sym h.1.at ∙ one.1) in
+    picks_have (Stops R s.execution s.urgency f) s.urgency one.0 r one.2 (subst (λ ys. In ys r) same h.1.has)
 
 fires_where : (S : Scheme) (s : Schedule) (r : ℕ) → ((f : ℕ) → ¬ StopsIn S s f r) → (is_ready : ℕ → Bool) (fired : List ℕ)
     → OthersAreStopped S s is_ready fired → is_ready r ≡ true → In fired r
