@@ -6,7 +6,7 @@ use Rattle.bsv_design.specs.declared.schedule.Schedule.{Schedule}
 use Rattle.bsv_design.specs.Schemes.{Scheme}
 use Rattle.bsv_attr.specs.declared.fault.AttrFault.{AttrFault}
 use Rattle.bsv_attr.specs.declared.fault.AttrFault.TheVariants.{NoImplicit, FireWhenEnabled}
-use Rattle.bsv_attr.specs.Asserting.{AreExplicit, AreUnstopped, IsAccepted, NamesImplicit, NamesStopped, NamesStopper, TellsImplicit, TellsStopper}
+use Rattle.bsv_attr.specs.Asserting.{AreExplicit, AreUnstopped, IsAccepted, NamesImplicit, NamesStopped, NamesStopper, TellsStopper}
 use Rattle.bsv_attr.specs.Implicit.{are_implicit, IsFirstTrue}
 use Rattle.bsv_attr.specs.Stopping.{IsFirstStopper}
 use Rattle.bsv_attr.proofs.Stoppers.{stopper_in, stopper_one}

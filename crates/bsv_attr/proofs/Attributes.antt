@@ -22,7 +22,6 @@ use Rattle.bsv_design.specs.Kinds.{kind_laws}
 use Rattle.bsv_design.specs.Schemes.{Scheme, Look, Asking, design_scheme, kinds_of, trace_of, answers, given, seen, ready, guard_of, is_open, required, all_hold, all_open}
 use Rattle.bsv_design.specs.Traces.{Trace, kind_at, site_at, demand_at, body_trace}
 use Rattle.bsv_prim.specs.declared.part.Part.{Part}
-use Rattle.bsv_graph.specs.declared.edge.Edge.{Edge}
 use Rattle.bsv_graph.specs.ExecutionOrders.{ExecutionOrder}
 use Rattle.bsv_graph.specs.Orders.{In, StandsBefore}
 use Rattle.bsv_graph.specs.Relating.{Relating, Agrees}

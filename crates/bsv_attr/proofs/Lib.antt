@@ -5,3 +5,4 @@ pub mod Rules
 pub mod Asserted
 pub mod Attributes
 pub mod Alike
+pub mod SampleDesign

@@ -7,7 +7,7 @@ use Rattle.bsv_design.specs.declared.tree.Attribute.TheVariants as attribute
 use Rattle.bsv_design.specs.declared.tree.Pair.{Pair}
 use Rattle.bsv_design.specs.Relations.{goes, feeds}
 use Rattle.bsv_design.specs.Roles.{is_rule, is_value}
-use Rattle.bsv_design.specs.Schemes.{Scheme, Outline}
+use Rattle.bsv_design.specs.Schemes.{Scheme}
 use Rattle.bsv_graph.specs.declared.edge.Edge.{Edge}
 use Rattle.bsv_graph.specs.Relating.{Relating}
 

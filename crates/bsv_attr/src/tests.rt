@@ -1,10 +1,9 @@
-ghost use Rattle.std.specs.Prelude.{◌≡◌, ◌<◌, IfOk};
+ghost use Rattle.std.specs.Prelude.{◌≡◌, ◌<◌, [], codes, IfOk, None};
+ghost use Rattle.bsv_design.specs.declared.element.Role.TheVariants as Role;
 ghost use Rattle.bsv_design.specs.Kinds.{kind_table};
 
 use crate::implicit::first_implicit;
-use crate::marks::is_marked;
-use crate::stopping::first_stopper;
-use crate::{asserts, is_countable, obeyed, same_obeyed};
+use crate::{AttrFault, asserts, is_countable, listed as listed_stops, obeyed, same_obeyed};
 use bsv_bits::Name;
 use bsv_design::{Assert, Call, Condition, Design, Element, Kind, NamedPart, Role, Schedule};
 use bsv_prim::WireKind;
@@ -46,11 +45,19 @@ fn call(alloc: Global, method: u32) -> Call
 
 /// A rule of these conditions and calls.
 fn rule(alloc: Global, conditions: Items<Condition>, calls: Items<Call>) -> Result<Element, Fail>
-    ensures conditions { IfOk result (λ e. e.conditions ≡ conditions) }
-    ensures calls { IfOk result (λ e. e.calls ≡ calls) }
+    ensures { IfOk result (λ e. e ≡ record {
+      name = codes "r";
+      role = Role.Rule;
+      arguments = [];
+      nodes = [];
+      conditions = conditions;
+      calls = calls;
+      result = None;
+    }) }
 {
+    let name = Name::new(alloc, b"r")?;
     Ok(Element {
-        name: Name::new(alloc, b"r")?,
+        name,
         role: Role::Rule,
         arguments: Items::new(alloc),
         nodes: Items::new(alloc),
@@ -94,63 +101,50 @@ fn the_first_implicit_condition(rt: HostRuntime) -> Result<(), Fail> {
     Ok(())
 }
 
-#[test]
-fn marked_rules(rt: HostRuntime) -> Result<(), Fail> {
-    let marks = [
-        Assert {
-            rule: 1,
-            fires: true,
-        },
-        Assert {
-            rule: 2,
-            fires: false,
-        },
-    ];
-    assert!(rt; is_marked(&marks, 1, true) && is_marked(&marks, 2, false));
-    assert!(rt; !is_marked(&marks, 1, false) && !is_marked(&marks, 3, true));
-    Ok(())
-}
-
 /// A list of these.
 fn listed(alloc: Global, items: &[u32]) -> Result<Items<u32>, Fail> {
     Ok(Items::from_slice(alloc, items)?)
 }
 
-/// In urgency the last of three elements is the first; it stops the others, and the first one stops the one behind it.
-fn schedule(alloc: Global) -> Result<Schedule, Fail> {
+/// The schedule of one rule that stops these.
+fn schedule(alloc: Global, stopped: &[u32]) -> Result<Schedule, Fail> {
     let mut stops = Items::new(alloc);
-    stops.push(listed(alloc, &[1])?)?;
-    stops.push(listed(alloc, &[])?)?;
-    stops.push(listed(alloc, &[0, 1])?)?;
+    stops.push(listed(alloc, stopped)?)?;
     Ok(Schedule {
-        execution: listed(alloc, &[0, 1, 2])?,
-        urgency: listed(alloc, &[2, 0, 1])?,
+        execution: listed(alloc, &[0])?,
+        urgency: listed(alloc, &[0])?,
         stops,
     })
 }
 
-#[test]
-fn the_first_stopper(rt: HostRuntime) -> Result<(), Fail> {
-    let schedule = schedule(rt.alloc())?;
-    assert_eq!(rt; first_stopper(&schedule, 0), Some(2));
-    assert_eq!(rt; first_stopper(&schedule, 1), Some(2));
-    assert_eq!(rt; first_stopper(&schedule, 2), None);
-    Ok(())
+/// A design of one rule that does nothing and is marked with both attributes.
+fn design(alloc: Global) -> Result<Design, Fail> {
+    let name = Name::new(alloc, b"top")?;
+    let mut elements = Items::new(alloc);
+    elements.push(rule(alloc, Items::new(alloc), Items::new(alloc))?)?;
+    let mut marks = Items::new(alloc);
+    marks.push(Assert {
+        rule: 0,
+        fires: false,
+    })?;
+    marks.push(Assert {
+        rule: 0,
+        fires: true,
+    })?;
+    let design = Design::new(name, elements, Items::new(alloc), Items::new(alloc), marks);
+    Ok(design)
 }
 
 #[test]
-fn no_elements(rt: HostRuntime) -> Result<(), Fail> {
+fn a_rule_that_is_stopped(rt: HostRuntime) -> Result<(), Fail> {
+    listed_stops();
     obeyed();
     same_obeyed();
     let alloc = rt.alloc();
-    let design = Design::new(
-        Name::new(alloc, b"top")?,
-        Items::new(alloc),
-        Items::new(alloc),
-        Items::new(alloc),
-        Items::new(alloc),
-    );
+    let design = design(alloc)?;
     assert!(rt; is_countable(&design));
-    assert_eq!(rt; asserts(&design, &schedule(alloc)?), Ok(()));
+    assert_eq!(rt; asserts(&design, &schedule(alloc, &[])?), Ok(()));
+    let stopped = Err(AttrFault::FireWhenEnabled(0, 0));
+    assert_eq!(rt; asserts(&design, &schedule(alloc, &[0])?), stopped);
     Ok(())
 }
