@@ -4,8 +4,6 @@ use Rattle.std.specs.Prelude.{◌≡◌, ℕ, List, Option, Some, None, Result, 
 use Rattle.bsv_fail.specs.Given.{over}
 use Rattle.bsv_types.specs.declared.typed.Typed.{Typed}
 use Rattle.bsv_check.specs.Seen.{typed_seen}
-use Rattle.bsv_design.specs.declared.tree.Attribute.{Attribute}
-use Rattle.bsv_design.specs.declared.tree.Attribute.TheVariants as attribute
 use Rattle.bsv_design.specs.Relations.{KeepsTheRule}
 use Rattle.bsv_design.specs.Schemes.{tree_scheme}
 use Rattle.bsv_design.specs.Trees.{Hierarchy}
@@ -17,6 +15,7 @@ use Rattle.bsv_elab.specs.Told.{Builds}
 use Rattle.bsv_flow.specs.declared.loading.Loaded.{Loaded}
 use Rattle.bsv_flow.specs.declared.refusal.Refusal.{Refusal}
 use Rattle.bsv_flow.specs.declared.refusal.Refusal.TheVariants as refusal
+use Rattle.bsv_flow.specs.Attributes.{attribute_word}
 use Rattle.bsv_flow.specs.Breaches.{TellsBreach}
 use Rattle.bsv_flow.specs.Loads.{IsLoaded}
 use Rattle.bsv_flow.specs.Typings.{typing_of, IsTyped, IsUntyped}
@@ -29,12 +28,6 @@ limit_word limit.Depth = codes "depth"
 limit_word limit.Weight = codes "weight"
 limit_word limit.Calls = codes "calls"
 limit_word limit.Modules = codes "modules"
-
--- an attribute as it is written
-abbrev pub attribute_word : Attribute → List ℕ
-attribute_word attribute.DescendingUrgency = codes "descending_urgency"
-attribute_word attribute.ExecutionOrder = codes "execution_order"
-attribute_word attribute.Preempts = codes "preempts"
 
 -- the refusal that a fault of building tells; want of memory is none
 abbrev pub refusal_of : ElabFault → Option Refusal

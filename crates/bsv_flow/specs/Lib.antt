@@ -1,3 +1,4 @@
+pub mod Attributes
 pub mod Breaches
 pub mod Buildings
 pub mod Loads
@@ -8,3 +9,4 @@ pub mod Refusals
 pub mod Sources
 pub mod Typings
 pub mod Yields
+pub mod Schedulings

@@ -3,16 +3,17 @@ ghost use Rattle.bsv_check.specs.Checked.{Made};
 ghost use Rattle.bsv_check.specs.Rightness.{is_counted};
 ghost use Rattle.bsv_design.specs.Seen.{hierarchy};
 ghost use Rattle.bsv_types.specs.declared.typed.Typed.{Typed as TheTyped};
-ghost use Rattle.bsv_flow.specs.Buildings.{limit_word, attribute_word, refusal_of, tree_of, IsProgram, IsBuilt, Rejects};
+ghost use Rattle.bsv_flow.specs.Buildings.{limit_word, refusal_of, tree_of, IsProgram, IsBuilt, Rejects};
 ghost use Rattle.bsv_flow.specs.OneAnswer.{IsSameRefusal};
 ghost use Rattle.bsv_flow.specs.Typings.{typing_of};
 ghost use Rattle.bsv_flow.specs.declared.loading.Loaded.{Loaded as TheLoaded};
 ghost use Rattle.bsv_flow.specs.declared.refusal.CompileFault.TheVariants.{Refused, ReadFault};
 ghost use Rattle.bsv_flow.specs.declared.refusal.Refusal.{Refusal as TheRefusal};
 
+use crate::naming::attribute_word;
 use crate::refusal::{CompileFault, Refusal};
 use bsv_bits::{Name, OutOfMemory};
-use bsv_design::{Attribute, Tree};
+use bsv_design::Tree;
 use bsv_elab::{ElabFault, LimitKind, build};
 use bsv_types::Typed;
 use std::alloc::Global;
@@ -28,17 +29,6 @@ fn limit_word(kind: LimitKind) -> &'static str
         LimitKind::Weight => "weight",
         LimitKind::Calls => "calls",
         LimitKind::Modules => "modules",
-    }
-}
-
-/// An attribute as it is written.
-fn attribute_word(attribute: Attribute) -> &'static str
-    ensures { result.now ≡ attribute_word attribute }
-{
-    match attribute {
-        Attribute::DescendingUrgency => "descending_urgency",
-        Attribute::ExecutionOrder => "execution_order",
-        Attribute::Preempts => "preempts",
     }
 }
 

@@ -12,51 +12,13 @@ ghost use Rattle.bsv_flow.specs.Breaches.{TellsBreach};
 ghost use Rattle.bsv_flow.specs.declared.refusal.CompileFault.TheVariants.{Refused, ReadFault};
 ghost use Rattle.bsv_flow.specs.declared.refusal.Refusal.{Refusal as TheRefusal};
 
+use crate::naming::{element_name, method_name, part_path};
 use crate::refusal::{CompileFault, Refusal};
 use bsv_bits::{Name, OutOfMemory};
-use bsv_design::{Design, Guards, NamedPart, Tree};
+use bsv_design::{Design, Guards, Tree};
 use bsv_guard::{GuardFault, lift};
 use bsv_inline::flatten;
-use bsv_prim::Primitive;
 use std::alloc::Global;
-
-/// The name of an element, by its position.
-#[tactic(auto, using(crate::proofs::Flattened::names_same), unfolding(bsv_design::specs::Schemes::design_scheme))]
-fn element_name(design: &Design, position: u32) -> &[u8]
-    ensures { result.now ≡ breaches.element_name (design_scheme (blueprint design.now)) position }
-{
-    match design.elements.get(position as usize) {
-        Some(element) => element.name.bytes(),
-        None => b"",
-    }
-}
-
-/// The path of a part.
-fn part_path(parts: &[NamedPart], part: u32) -> &[u8]
-    ensures { result.now ≡ breaches.part_path parts.now part }
-{
-    match parts.get(part as usize) {
-        Some(part) => part.path.bytes(),
-        None => b"",
-    }
-}
-
-/// The name of a method of a part.
-#[tactic(auto, using(crate::proofs::Flattened::no_more_names))]
-fn method_name(parts: &[NamedPart], part: u32, method: u32) -> &[u8]
-    ensures { result.now ≡ breaches.method_name parts.now part method }
-{
-    match parts.get(part as usize) {
-        Some(part) => {
-            if method < part.kind.methods() {
-                part.kind.method_name(method).as_bytes()
-            } else {
-                b""
-            }
-        }
-        None => b"",
-    }
-}
 
 /// The refusal of two calls of an element that may not stand in it.
 fn breach(

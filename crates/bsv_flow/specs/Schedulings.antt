@@ -1,0 +1,104 @@
+-- What scheduling answers of a tree: its schedule, or the first refusal behind building (Hoe and Arvind 2004; Bluespec
+-- reference guide, "Scheduling attributes").
+use Rattle.std.specs.Prelude.{◌≡◌, ℕ, List, [], ◌++◌, map, slice_get, Option, Some, None, codes}
+use Rattle.bsv_design.specs.declared.design.NamedPart.{NamedPart}
+use Rattle.bsv_design.specs.declared.schedule.Schedule.{Schedule}
+use Rattle.bsv_design.specs.declared.tree.Pair.{Pair}
+use Rattle.bsv_design.specs.Relations.{KeepsTheRule, sites_of}
+use Rattle.bsv_design.specs.Schemes.{Scheme, tree_scheme}
+use Rattle.bsv_design.specs.Sources.{parts_among}
+use Rattle.bsv_design.specs.Traces.{Site, Demand, with_dot}
+use Rattle.bsv_design.specs.Trees.{Hierarchy}
+use Rattle.bsv_graph.specs.Elements.{relating}
+use Rattle.bsv_graph.specs.ExecutionOrders.{Executes}
+use Rattle.bsv_graph.specs.Relating.{Relating}
+use Rattle.bsv_graph.specs.Stops.{AreStops}
+use Rattle.bsv_graph.specs.UrgencyOrders.{Urges}
+use Rattle.bsv_order.specs.declared.fault.OrderFault.{OrderFault}
+use Rattle.bsv_order.specs.declared.fault.OrderFault.TheVariants as order
+use Rattle.bsv_order.specs.Answers.{Refuses}
+use Rattle.bsv_urgency.specs.declared.fault.UrgencyFault.{UrgencyFault}
+use Rattle.bsv_urgency.specs.declared.fault.UrgencyFault.TheVariants as urgency
+use Rattle.bsv_urgency.specs.Answers.{Declines}
+use Rattle.bsv_attr.specs.Asserting.{IsAccepted, NamesImplicit, NamesStopper}
+use Rattle.bsv_attr.specs.Implicit.{demands_of}
+use Rattle.bsv_flow.specs.declared.refusal.Refusal.{Refusal}
+use Rattle.bsv_flow.specs.declared.refusal.Refusal.TheVariants as refusal
+use Rattle.bsv_flow.specs.Attributes.{attribute_word}
+use Rattle.bsv_flow.specs.Breaches.{element_name, part_path, method_name, or_no_name, TellsBreach}
+
+-- what is scheduled: a scheme, whose parts have these paths
+pub record Subject : Type 0 where
+  pub scheme : Scheme
+  pub parts : List NamedPart
+
+abbrev pub subject : Hierarchy → Subject
+subject h = record { scheme = tree_scheme h; parts = parts_among h.instances }
+
+abbrev pub related : Subject → Relating
+related s = relating s.scheme
+
+-- ---- the schedule
+
+-- both orders, and what each element stops
+pub record IsOrdered (s : Subject) (made : Schedule) : Type 0 where
+  pub executes : Executes (related s) made.execution
+  pub urges : Urges (related s) made.urgency
+  pub stops : AreStops (related s) made.execution made.urgency made.stops
+
+-- no two calls of one element break the rule of one element, and no mark of a rule is refused
+pub record IsScheduled (s : Subject) (made : Schedule) : Type 0 where
+  pub kept : (n : ℕ) → KeepsTheRule s.scheme n
+  pub ordered : IsOrdered s made
+  pub accepted : IsAccepted s.scheme made
+
+-- ---- how a refusal is told
+
+abbrev pub pair_told : (List ℕ → List ℕ → List ℕ → Refusal) → Subject → Pair → Refusal
+pair_told told s p = told (attribute_word p.attribute) (element_name s.scheme p.before) (element_name s.scheme p.after)
+
+-- want of memory is none
+abbrev pub order_told : Subject → OrderFault → Option Refusal
+order_told s (order.WireCycle a) = Some (refusal.WireCycle (element_name s.scheme a))
+order_told s (order.ValueClash v) = Some (refusal.ValueClash (element_name s.scheme v))
+order_told s (order.ExecutionCycle p) = Some (pair_told refusal.ExecutionCycle s p)
+order_told s order.OutOfMemory = None
+
+abbrev pub urgency_told : Subject → UrgencyFault → Option Refusal
+urgency_told s (urgency.UrgencyCycle p) = Some (pair_told refusal.UrgencyCycle s p)
+urgency_told s (urgency.MethodBehindRule m q) = Some (refusal.MethodBehindRule (element_name s.scheme m) (element_name s.scheme q))
+urgency_told s urgency.OutOfMemory = None
+
+abbrev pub demand_name : Demand → List ℕ
+demand_name d = or_no_name d.name
+
+abbrev pub call_name : List NamedPart → Site → List ℕ
+call_name ps x = with_dot (part_path ps x.target.part) (method_name ps x.target.part x.target.method)
+
+-- the conditions of an element by their names, and then its calls
+abbrev pub names_in : Subject → ℕ → List (List ℕ)
+names_in s n = map demand_name (demands_of s.scheme n) ++ map (call_name s.parts) (sites_of s.scheme n)
+
+abbrev pub place_name : Subject → ℕ → ℕ → List ℕ
+place_name s n place = or_no_name (slice_get (names_in s n) place)
+
+abbrev pub implicit_told : Subject → ℕ → ℕ → Refusal
+implicit_told s r place = refusal.NoImplicit (element_name s.scheme r) (place_name s r place)
+
+abbrev pub stopper_told : Subject → ℕ → ℕ → Refusal
+stopper_told s r f = refusal.FireWhenEnabled (element_name s.scheme r) (element_name s.scheme f)
+
+-- ---- the first refusal
+
+-- each behind the ones before it
+pub data Unscheduled (h : Hierarchy) : Refusal → Type 0 where
+  in_rule : {r : Refusal} → TellsBreach h r → Unscheduled h r
+  executing : {r : Refusal} → ((n : ℕ) → KeepsTheRule (tree_scheme h) n)
+      → (f : OrderFault) → Refuses (related (subject h)) f → order_told (subject h) f ≡ Some r → Unscheduled h r
+  urging : {r : Refusal} → ((n : ℕ) → KeepsTheRule (tree_scheme h) n)
+      → (execution : List ℕ) → Executes (related (subject h)) execution
+      → (f : UrgencyFault) → Declines (related (subject h)) h.pairs f → urgency_told (subject h) f ≡ Some r → Unscheduled h r
+  implicit : ((n : ℕ) → KeepsTheRule (tree_scheme h) n) → (made : Schedule) → IsOrdered (subject h) made
+      → (r place : ℕ) → NamesImplicit (tree_scheme h) r place → Unscheduled h (implicit_told (subject h) r place)
+  stopped : ((n : ℕ) → KeepsTheRule (tree_scheme h) n) → (made : Schedule) → IsOrdered (subject h) made
+      → (r f : ℕ) → NamesStopper (tree_scheme h) made r f → Unscheduled h (stopper_told (subject h) r f)
