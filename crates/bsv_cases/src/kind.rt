@@ -19,10 +19,11 @@ pub(crate) enum Kind {
     Recursion,
     NameTaken,
     NoSuchRule,
+    InRule,
     NotYet,
 }
 
-const KINDS: [Kind; 19] = [
+const KINDS: [Kind; 20] = [
     Kind::Limit,
     Kind::BadByte,
     Kind::OpenComment,
@@ -41,6 +42,7 @@ const KINDS: [Kind; 19] = [
     Kind::Recursion,
     Kind::NameTaken,
     Kind::NoSuchRule,
+    Kind::InRule,
     Kind::NotYet,
 ];
 
@@ -66,6 +68,7 @@ impl Kind {
             Kind::Recursion => "Recursion",
             Kind::NameTaken => "NameTaken",
             Kind::NoSuchRule => "NoSuchRule",
+            Kind::InRule => "InRule",
             Kind::NotYet => "NotYet",
         }
     }
@@ -91,6 +94,7 @@ impl Kind {
             Kind::Recursion => 15,
             Kind::NameTaken => 16,
             Kind::NoSuchRule => 26,
+            Kind::InRule => 18,
             Kind::NotYet => 0,
         }
     }

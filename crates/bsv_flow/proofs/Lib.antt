@@ -11,3 +11,5 @@ pub mod Steps
 pub mod Told
 pub mod Trees
 pub mod Yielded
+pub mod Flattened
+pub mod FirstBreaches

@@ -3,7 +3,7 @@ use Rattle.std.proofs.Common.{◌≡◌, ℕ, ◌⊎◌, inl, inr, List, Result,
 use Rattle.bsv_check.specs.Checked.{Made}
 use Rattle.bsv_flow.specs.declared.loading.Loaded.{Loaded}
 use Rattle.bsv_flow.specs.declared.refusal.Refusal.{Refusal}
-use Rattle.bsv_flow.specs.Loads.{IsLoaded, Refuses}
+use Rattle.bsv_flow.specs.Loads.{IsLoaded}
 use Rattle.bsv_flow.specs.Typings.{typing_of, IsTyped, IsUntyped}
 use Rattle.bsv_flow.proofs.Decided as loading
 

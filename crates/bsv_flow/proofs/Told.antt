@@ -1,8 +1,8 @@
 -- A fault of the check, with its place, is the refusal of what was loaded.
-use Rattle.std.proofs.Common.{◌≡◌, ◌∙◌, Option, Some, None, Result, Ok, Err, option_map, refl, ap}
+use Rattle.std.proofs.Common.{◌≡◌, ◌∙◌, Some, Err, option_map, ap}
 use Rattle.bsv_check.specs.declared.fault.CheckFault.{CheckFault}
 use Rattle.bsv_check.specs.declared.fault.CheckFault.TheVariants as fault
-use Rattle.bsv_check.specs.Checked.{Made, Refused, checked}
+use Rattle.bsv_check.specs.Checked.{Refused, checked}
 use Rattle.bsv_check.specs.Seen.{Refusing}
 use Rattle.bsv_flow.specs.declared.loading.Loaded.{Loaded}
 use Rattle.bsv_flow.specs.declared.refusal.Refusal.{Refusal}

@@ -1,3 +1,4 @@
+pub mod Breaches
 pub mod Buildings
 pub mod Loads
 pub mod OneAnswer

@@ -1,12 +1,13 @@
-//! From files to module trees: loading, typing, building, and the refusals.
+//! From files to designs of flat bodies: loading, typing, building, flattening, and the refusals.
 //!
 //! Modules in reading order: `refusal` (why a design is not compiled, and how it is told), `source`
 //! (the bytes of a file), `position` (the line and the column of a byte), `parse` (the package that
 //! a source is), `queue` (the files that imports name), `loading`, `typing` (the typed program of what
-//! was loaded), `building` (the tree of a typed program).
+//! was loaded), `building` (the tree of a typed program), `flattening` (its design, with the guards).
 #![tactic(auto)]
 
 mod building;
+mod flattening;
 mod loading;
 mod parse;
 mod position;
@@ -18,6 +19,7 @@ mod tests;
 mod typing;
 
 pub use building::{one_building, tree};
+pub use flattening::flat;
 pub use loading::{Loaded, load, one_loading};
 pub use refusal::{CompileFault, Refusal};
 pub use source::Source;

@@ -1,7 +1,7 @@
 ghost use Rattle.std.specs.Prelude.{◌≡◌, ◌≤◌, ◌++◌, OnOk, OnErr};
 ghost use Rattle.bsv_io.specs.Faults.{MayFault};
 ghost use Rattle.bsv_io.specs.Writing.{appended, AppendsPrefix};
-ghost use Rattle.bsv_flow.specs.Refusals.{limit_text, name_text, place_text, refusal_line, rule_text};
+ghost use Rattle.bsv_flow.specs.Refusals.{four_text, limit_text, name_text, place_text, refusal_line, three_text, two_text};
 ghost use Rattle.bsv_flow.specs.declared.refusal.CompileFault.TheVariants as fault;
 
 use bsv_bits::{Name, OutOfMemory};
@@ -47,6 +47,22 @@ pub enum Refusal {
     NameTaken(Name),
     /// A count passes its limit: what is counted, and the limit.
     Limit(Name, u64),
+    /// Two calls of an element break the rule of one element: the element, the part, and the methods.
+    InRule(Name, Name, Name, Name),
+    /// An element stops a rule that is marked to fire: the rule, and the element.
+    FireWhenEnabled(Name, Name),
+    /// A call of a rule that is marked to have no implicit conditions has one: the rule, and the call.
+    NoImplicit(Name, Name),
+    /// This element is on a cycle of what elements see of one another.
+    WireCycle(Name),
+    /// This value method has no place in the execution order.
+    ValueClash(Name),
+    /// A pair closes a cycle of the execution order: its attribute, and both elements.
+    ExecutionCycle(Name, Name, Name),
+    /// A pair closes a cycle of the urgency order: its attribute, and both elements.
+    UrgencyCycle(Name, Name, Name),
+    /// This method is behind a rule in the urgency order: the method, and the first rule.
+    MethodBehindRule(Name, Name),
     /// An attribute names no rule of its module: the attribute, and the name.
     NoSuchRule(Name, Name),
 }
@@ -138,7 +154,33 @@ impl Refusal {
             Refusal::Recursion(name) => put_named(sink, b"refused 15 Recursion ", name),
             Refusal::NameTaken(path) => put_named(sink, b"refused 16 NameTaken ", path),
             Refusal::Limit(kind, number) => put_limit(sink, kind, *number),
-            Refusal::NoSuchRule(attribute, name) => put_rule(sink, attribute, name),
+            Refusal::InRule(element, part, first, second) => {
+                put_four(sink, b"refused 18 InRule ", element, part, first, second)
+            }
+            Refusal::FireWhenEnabled(rule, element) => {
+                put_two(sink, b"refused 19 FireWhenEnabled ", rule, element)
+            }
+            Refusal::NoImplicit(rule, call) => put_two(sink, b"refused 20 NoImplicit ", rule, call),
+            Refusal::WireCycle(element) => put_named(sink, b"refused 21 WireCycle ", element),
+            Refusal::ValueClash(method) => put_named(sink, b"refused 22 ValueClash ", method),
+            Refusal::ExecutionCycle(attribute, before, after) => {
+                put_three(
+                    sink,
+                    b"refused 23 ExecutionCycle ",
+                    attribute,
+                    before,
+                    after,
+                )
+            }
+            Refusal::UrgencyCycle(attribute, before, after) => {
+                put_three(sink, b"refused 24 UrgencyCycle ", attribute, before, after)
+            }
+            Refusal::MethodBehindRule(method, rule) => {
+                put_two(sink, b"refused 25 MethodBehindRule ", method, rule)
+            }
+            Refusal::NoSuchRule(attribute, name) => {
+                put_two(sink, b"refused 26 NoSuchRule ", attribute, name)
+            }
         }
     }
 }
@@ -206,12 +248,31 @@ fn put_limit<S: Sink>(sink: &mut S, kind: &Name, number: u64) -> Result<(), Fail
     )
 }
 
-/// Puts the line of an attribute that names no rule.
-fn put_rule<S: Sink>(sink: &mut S, attribute: &Name, name: &Name) -> Result<(), Failed>
-    ensures ok { OnOk result (S.writing sink.new
-        ≡ appended (rule_text attribute.now name.now) (S.writing sink.old)) }
-    ensures prefix { AppendsPrefix (rule_text attribute.now name.now) (S.writing sink.old)
-        (S.writing sink.new) }
+/// Puts a line that ends with two names.
+fn put_two<S: Sink>(sink: &mut S, front: &[u8], first: &Name, second: &Name) -> Result<(), Failed>
+    ensures ok { OnOk result (S.writing sink.new ≡ appended
+        (front.now ++ two_text first.now second.now) (S.writing sink.old)) }
+    ensures prefix { AppendsPrefix (front.now ++ two_text first.now second.now)
+        (S.writing sink.old) (S.writing sink.new) }
+    ensures count { (S.writing sink.old).faults ≤ (S.writing sink.new).faults }
+    ensures counted { OnErr result (MayFault (S.writing sink.old).faults
+        (S.writing sink.new).faults) }
+{
+    put_all(sink, &[front, first.bytes(), b" ", second.bytes(), b"\n"])
+}
+
+/// Puts a line that ends with three names.
+fn put_three<S: Sink>(
+    sink: &mut S,
+    front: &[u8],
+    first: &Name,
+    second: &Name,
+    third: &Name,
+) -> Result<(), Failed>
+    ensures ok { OnOk result (S.writing sink.new ≡ appended
+        (front.now ++ three_text first.now second.now third.now) (S.writing sink.old)) }
+    ensures prefix { AppendsPrefix (front.now ++ three_text first.now second.now third.now)
+        (S.writing sink.old) (S.writing sink.new) }
     ensures count { (S.writing sink.old).faults ≤ (S.writing sink.new).faults }
     ensures counted { OnErr result (MayFault (S.writing sink.old).faults
         (S.writing sink.new).faults) }
@@ -219,10 +280,45 @@ fn put_rule<S: Sink>(sink: &mut S, attribute: &Name, name: &Name) -> Result<(), 
     put_all(
         sink,
         &[
-            b"refused 26 NoSuchRule ",
-            attribute.bytes(),
+            front,
+            first.bytes(),
             b" ",
-            name.bytes(),
+            second.bytes(),
+            b" ",
+            third.bytes(),
+            b"\n",
+        ],
+    )
+}
+
+/// Puts a line that ends with four names.
+fn put_four<S: Sink>(
+    sink: &mut S,
+    front: &[u8],
+    first: &Name,
+    second: &Name,
+    third: &Name,
+    fourth: &Name,
+) -> Result<(), Failed>
+    ensures ok { OnOk result (S.writing sink.new ≡ appended
+        (front.now ++ four_text first.now second.now third.now fourth.now) (S.writing sink.old)) }
+    ensures prefix { AppendsPrefix (front.now ++ four_text first.now second.now third.now fourth.now)
+        (S.writing sink.old) (S.writing sink.new) }
+    ensures count { (S.writing sink.old).faults ≤ (S.writing sink.new).faults }
+    ensures counted { OnErr result (MayFault (S.writing sink.old).faults
+        (S.writing sink.new).faults) }
+{
+    put_all(
+        sink,
+        &[
+            front,
+            first.bytes(),
+            b" ",
+            second.bytes(),
+            b" ",
+            third.bytes(),
+            b" ",
+            fourth.bytes(),
             b"\n",
         ],
     )

@@ -3,3 +3,6 @@ pub mod WalkLemmas
 pub mod EdgeLemmas
 pub mod LeastLemmas
 pub mod OrderedLemmas
+pub mod UsesLemmas
+pub mod DesignLemmas
+pub mod RelationsLemmas

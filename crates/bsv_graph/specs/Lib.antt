@@ -8,5 +8,10 @@ pub mod Relating
 pub mod ExecutionOrders
 pub mod UrgencyOrders
 pub mod Stops
+pub mod Elements
+pub mod Relations
 pub mod Growing
 pub mod Ready
+pub mod Related
+pub mod Grouping
+pub mod Uses

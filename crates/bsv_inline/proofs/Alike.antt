@@ -1,21 +1,18 @@
 -- A design of flat bodies is the scheme of its tree.
-use Rattle.std.proofs.Common.{◌≡◌, ◌∙◌, ℕ, zero, suc, ◌+◌, ◌<◌, ◌≤◌, ◌⊎◌, inl, inr, Bool, true, false, List, [], ◌∷◌, ◌++◌, map, length, Option, Some, None, refl, sym, ap, ap₂, subst, arith, append_assoc, append-nil}
+use Rattle.std.proofs.Common.{◌≡◌, ◌∙◌, ℕ, zero, suc, ◌+◌, ◌<◌, ◌≤◌, ◌⊎◌, inl, inr, Bool, true, false, List, [], ◌∷◌, ◌++◌, map, length, Some, None, refl, sym, ap, arith, append_assoc, append-nil}
 use Rattle.std.specs.Prelude.{slice_get, nat_lt, if◌then◌else◌}
 use Rattle.std.proofs.lemmas.Bool.{ltb-true, cases_lt}
 use Rattle.std.proofs.lemmas.Option.{slice_get_past}
-use Rattle.bsv_bits.specs.Words.{Bits, bit}
+use Rattle.bsv_bits.specs.Words.{Bits}
 use Rattle.bsv_design.specs.declared.element.Element.{Element}
 use Rattle.bsv_design.specs.declared.design.NamedPart.{NamedPart}
-use Rattle.bsv_design.specs.declared.kind.Kind.{Kind}
-use Rattle.bsv_design.specs.declared.source.Source.{Source}
-use Rattle.bsv_design.specs.Bodies.{Target, Answers, target}
+use Rattle.bsv_design.specs.Bodies.{Answers}
 use Rattle.bsv_design.specs.Designs.{Blueprint}
 use Rattle.bsv_design.specs.Relations.{no_answers}
-use Rattle.bsv_design.specs.Schemes.{Scheme, Outline, outline, outline_of, outline_at, outlines_below, calls_of, uses_of, trace_of, carried_trace, kinds_of, ports_of, filled, design_scheme, tree_scheme, AreAlike, AreArgumentsOf}
+use Rattle.bsv_design.specs.Schemes.{Outline, outline, outline_of, outline_at, outlines_below, calls_of, uses_of, trace_of, carried_trace, kinds_of, ports_of, filled, design_scheme, tree_scheme, AreAlike}
 use Rattle.bsv_design.specs.Sources.{source_at, element_at, element_count, parts_among}
-use Rattle.bsv_design.specs.Traces.{Site, Trace, body_trace, step_trace, target_of}
+use Rattle.bsv_design.specs.Traces.{Site, Trace, body_trace}
 use Rattle.bsv_design.specs.Trees.{Hierarchy}
-use Rattle.bsv_design.specs.Uses.{uses}
 use Rattle.bsv_inline.specs.Flattening.{kinds, IsFlat, AreFlat}
 use Rattle.bsv_inline.proofs.Flattened.{flat_at, targets_of}
 use Rattle.bsv_inline.proofs.StepUses.{targets_are_uses}

@@ -2,6 +2,8 @@
 use Rattle.std.proofs.Common.{◌≡◌, ◌∙◌, ℕ, ◌+◌, Bool, true, false, cond, not, ◌&&◌, List, [], ◌∷◌, ◌++◌, length, take, Some, refl, sym, ap, ap₂, subst, arith, append_assoc, append-nil, length-append}
 use Rattle.std.specs.Prelude.{slice_get, ◌==◌, if◌then◌else◌}
 use Rattle.bsv_bits.specs.Words.{Bits, bit}
+use Rattle.bsv_design.specs.declared.node.Branch.{Branch}
+use Rattle.bsv_design.specs.declared.node.Node.TheVariants as node
 use Rattle.bsv_design.specs.declared.steps.Atom.{Atom}
 use Rattle.bsv_design.specs.Bodies.{at}
 use Rattle.bsv_design.specs.Computing as computing
@@ -10,9 +12,7 @@ use Rattle.bsv_design.specs.Running.{Results, Run, Standing, Happening, or_zero,
 use Rattle.bsv_inline.specs.declared.choices.Given.{Given}
 use Rattle.bsv_inline.specs.declared.choices.Head.{Head}
 use Rattle.bsv_inline.specs.declared.choices.Tested.{Tested}
-use Rattle.bsv_design.specs.declared.node.Branch.{Branch}
 use Rattle.bsv_inline.specs.declared.calls.Call.{Call}
-use Rattle.bsv_design.specs.declared.node.Node.TheVariants as node
 use Rattle.bsv_inline.specs.declared.state.State.{State}
 use Rattle.bsv_inline.specs.Bodies.{Shows, AreSites, AreNeeds}
 use Rattle.bsv_inline.specs.Flat.{Flat, Alternative, Spot, no, put, one_choice, operand, operands, in_turn, picks_from, picks, giving, tested, join_one, join_all, head, heads_from, arms, nest, nest_from, nested, closed, choose, inside}

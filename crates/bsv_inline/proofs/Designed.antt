@@ -1,29 +1,24 @@
 -- The flat bodies of a tree are a design.
-use Rattle.std.proofs.Common.{◌≡◌, ◌∙◌, ℕ, zero, suc, ◌+◌, ◌<◌, IsTrue, Bool, true, false, List, [], ◌∷◌, ◌++◌, map, length, Option, Some, None, refl, sym, ap, subst, arith, length-append}
+use Rattle.std.proofs.Common.{◌≡◌, ◌∙◌, ℕ, zero, suc, ◌+◌, ◌<◌, Bool, true, false, List, [], ◌∷◌, ◌++◌, map, length, Option, Some, None, refl, sym, ap, subst, arith, length-append}
 use Rattle.std.specs.Prelude.{slice_get, nat_lt, option_map, if◌then◌else◌}
 use Rattle.std.specs.List.{list_all}
 use Rattle.std.proofs.Math.Logic.{∥∥₁_elim, ∥∥₁_prop}
 use Rattle.std.proofs.lemmas.Bool.{lt-ltb}
-use Rattle.bsv_bits.specs.Words.{Bits}
 use Rattle.bsv_types.specs.declared.modules.Module.{Module}
 use Rattle.bsv_types.specs.Names.{countable}
 use Rattle.bsv_design.specs.declared.design.Design.{Design}
 use Rattle.bsv_design.specs.declared.design.NamedPart.{NamedPart}
 use Rattle.bsv_design.specs.declared.element.Element.{Element}
-use Rattle.bsv_design.specs.declared.element.Role.{Role}
-use Rattle.bsv_design.specs.declared.element.Port.{Port}
-use Rattle.bsv_design.specs.declared.kind.Kind.{Kind}
 use Rattle.bsv_design.specs.declared.source.Source.{Source}
 use Rattle.bsv_design.specs.declared.tree.Assert.{Assert}
 use Rattle.bsv_design.specs.declared.tree.Instance.{Instance}
 use Rattle.bsv_design.specs.declared.tree.Pair.{Pair}
 use Rattle.bsv_design.specs.declared.whole.Tree.{Tree}
-use Rattle.bsv_design.specs.Bodies.{Answers}
 use Rattle.bsv_design.specs.Designs.{Blueprint, IsElement, IsDesign}
 use Rattle.bsv_design.specs.Schemes.{design_scheme, tree_scheme, AreAlike}
 use Rattle.bsv_design.specs.Seen.{blueprint, hierarchy}
 use Rattle.bsv_design.specs.Sources.{source_at, element_at, element_count, parts_among}
-use Rattle.bsv_design.specs.Traces.{body_trace, step_trace}
+use Rattle.bsv_design.specs.Traces.{body_trace}
 use Rattle.bsv_design.specs.Trees.{Hierarchy, IsTree}
 use Rattle.bsv_inline.specs.declared.body.Body.{Body}
 use Rattle.bsv_inline.specs.Bodies.{IsBody}
@@ -32,7 +27,7 @@ use Rattle.bsv_inline.specs.Placed.{element, call_fits}
 use Rattle.bsv_inline.proofs.Alike.{alike}
 use Rattle.bsv_inline.proofs.Flattened.{flat_at, exclusive, decided}
 use Rattle.bsv_inline.proofs.Outlined.{AreOutlined, KeepsNames}
-use Rattle.bsv_inline.proofs.OutlinedDesigns.{laid_out, is_design}
+use Rattle.bsv_inline.proofs.OutlinedDesigns.{is_design}
 use Rattle.bsv_inline.proofs.OutlinedNames.{keeps_names}
 use Rattle.bsv_inline.proofs.SameTrace.{IsElementOf, same_trace, acts_where_fits}
 
@@ -96,9 +91,10 @@ pub laid_more : (h : Hierarchy) (es all : List Element) (e : Element) (n : ℕ) 
     → AreLaidOut h 0 all × (n + 1 ≡ length all)
 laid_more h es all e n f at g is =
     let from : n ≡ 0 + length es = omega (arith, at) in
-    let long : length (es ++ e ∷ []) ≡ length es + 1 = omega (arith, length-append es (e ∷ [])) in
-    (subst (AreLaidOut h 0) (sym is) (more_from h es e 0 f (subst (λ i. IsLaidOut h i e) from g)),
-     ap (λ k. k + 1) at ∙ sym long ∙ ap (λ (xs : List Element). length xs) (sym is))
+    let long : length (es ++ e ∷ []) ≡ length es + 1 = omega (arith, length-append es (e ∷ [])) in (
+      subst (AreLaidOut h 0) (sym is) (more_from h es e 0 f (subst (λ i. IsLaidOut h i e) from g)),
+      ap (λ k. k + 1) at ∙ sym long ∙ ap (λ (xs : List Element). length xs) (sym is),
+    )
 
 -- ---- all elements
 

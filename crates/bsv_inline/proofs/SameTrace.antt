@@ -203,3 +203,11 @@ same_trace ms is ks count ss gives b e body of right r ws long =
     (sites_same ms is ks vs b.calls h.calls (body.calls own ws long) right) (demands_same ms is ks vs b.conditions h.needs (body.conditions own ws long))
     ∙ ap (λ (z : Option Bits). trace (map (site_of is) h.calls) (map (demand_of ms is) h.needs) z) (result_same vs h.words b.result gives (body.result own ws long))
     ∙ steps_are ms is ss gives r ws
+
+-- the same of the element that is made of a body whose calls fit
+pub element_trace : (ms : List Module) (is : List Instance) (ks : List Kind) (count : ℕ) (ss : List Step) (gives : Option Atom) (b : Body)
+    → (name : List ℕ) (as_role : Role) (ports : List Port) (e : Element) → e ≡ element ms is name as_role ports b
+    → IsBody count ss gives b → IsTrue (list_all (call_fits ks is) b.calls)
+    → (r : Answers) (ws : List Bits) → length ws ≡ count → body_trace ks e r ws ≡ step_trace ms is ss gives r ws
+element_trace ms is ks count ss gives b name as_role ports e made body fit =
+    same_trace ms is ks count ss gives b e body (is_element ms is name as_role ports b e made) (acts_where_fits ks is b.calls fit)

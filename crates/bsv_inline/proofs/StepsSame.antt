@@ -2,6 +2,7 @@
 use Rattle.std.proofs.Common.{◌≡◌, ◌∙◌, ℕ, suc, ◌+◌, Bool, true, false, List, [], ◌∷◌, ◌++◌, length, Option, Some, refl, sym, ap, ap₂, subst, arith, append_assoc, append-nil, length-append}
 use Rattle.std.specs.Prelude.{slice_get}
 use Rattle.bsv_bits.specs.Words.{Bits, bit}
+use Rattle.bsv_design.specs.declared.node.Node.TheVariants as node
 use Rattle.bsv_design.specs.declared.steps.Atom.{Atom}
 use Rattle.bsv_design.specs.declared.steps.Compute.{Compute}
 use Rattle.bsv_design.specs.declared.steps.MethodPlace.{MethodPlace}
@@ -9,7 +10,6 @@ use Rattle.bsv_design.specs.Running as steps
 use Rattle.bsv_design.specs.Running.{Results, Run, Standing, Happening, SiteCall, Need, followed, quiet, word_of, words_of, is_one}
 use Rattle.bsv_inline.specs.declared.calls.Call.{Call}
 use Rattle.bsv_inline.specs.declared.calls.Condition.{Condition}
-use Rattle.bsv_design.specs.declared.node.Node.TheVariants as node
 use Rattle.bsv_inline.specs.declared.state.Asked.{Asked}
 use Rattle.bsv_inline.specs.declared.state.State.{State}
 use Rattle.bsv_inline.specs.Bodies.{Shows, AreSites, AreNeeds}

@@ -2,6 +2,7 @@
 use Rattle.std.proofs.Common.{◌≡◌, ◌∙◌, ℕ, ◌+◌, true, false, List, [], ◌∷◌, ◌++◌, map, length, Option, Some, None, refl, sym, ap, subst, arith, append_assoc, append-nil, length-append}
 use Rattle.std.specs.Prelude.{slice_get}
 use Rattle.bsv_bits.specs.Words.{Bits, bit}
+use Rattle.bsv_design.specs.declared.node.Node.TheVariants as node
 use Rattle.bsv_design.specs.declared.steps.Arm.{Arm, roll-Arm, map-Arm, fold-Arm, fold-roll-Arm}
 use Rattle.bsv_design.specs.declared.steps.Atom.{Atom}
 use Rattle.bsv_design.specs.declared.steps.Choice.{Choice, roll-Choice, map-Choice, fold-Choice, fold-roll-Choice}
@@ -11,7 +12,6 @@ use Rattle.bsv_design.specs.Running as steps
 use Rattle.bsv_design.specs.Running.{Results, Run, happening, or_zero, word_of, step_run, choice_run, arm_run}
 use Rattle.bsv_inline.specs.declared.body.Body.{Body}
 use Rattle.bsv_inline.specs.declared.calls.Call.{Call}
-use Rattle.bsv_design.specs.declared.node.Node.TheVariants as node
 use Rattle.bsv_inline.specs.declared.state.Asked.{Asked}
 use Rattle.bsv_inline.specs.declared.state.State.{State}
 use Rattle.bsv_inline.specs.Bodies.{Shows, AreSites, AreNeeds, IsResult, IsBody}

@@ -2,6 +2,8 @@
 use Rattle.std.proofs.Common.{◌≡◌, ◌∙◌, ℕ, zero, suc, ◌+◌, List, [], ◌∷◌, ◌++◌, length, map, take, Option, Some, None, refl, sym, ap, ap₂, subst, arith, append_assoc, append-nil, length-append}
 use Rattle.std.specs.Prelude.{false, slice_get}
 use Rattle.bsv_bits.specs.Words.{Bits, bit, word_not}
+use Rattle.bsv_design.specs.declared.node.Node.{Node}
+use Rattle.bsv_design.specs.declared.node.Node.TheVariants as node
 use Rattle.bsv_design.specs.declared.steps.Atom.{Atom}
 use Rattle.bsv_design.specs.declared.steps.Atom.TheVariants as atom
 use Rattle.bsv_design.specs.declared.steps.Compute.{Compute}
@@ -11,8 +13,6 @@ use Rattle.bsv_design.specs.Computing as computing
 use Rattle.bsv_design.specs.Running as steps
 use Rattle.bsv_design.specs.Running.{Results, or_zero, word_of, words_of}
 use Rattle.bsv_inline.specs.declared.calls.Call.{Call}
-use Rattle.bsv_design.specs.declared.node.Node.{Node}
-use Rattle.bsv_design.specs.declared.node.Node.TheVariants as node
 use Rattle.bsv_inline.specs.declared.state.State.{State}
 use Rattle.bsv_inline.specs.Bodies.{Shows}
 use Rattle.bsv_inline.specs.Flat.{put, stand, found, operand, operands_from, operands, compute}

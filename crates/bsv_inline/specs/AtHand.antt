@@ -1,12 +1,14 @@
 -- For each method of the code the definition of its name, with what is at hand in front.
-use Rattle.std.specs.Prelude.{ℕ, Bool, List, [], map, Option}
+use Rattle.std.specs.Prelude.{ℕ, Bool, List, [], map, slice_get, Option, Some, None}
+use Rattle.bsv_types.specs.declared.modules.Method.{Method}
+use Rattle.bsv_types.specs.declared.modules.Module.{Module}
+use Rattle.bsv_design.specs.declared.node.Branch.{Branch}
 use Rattle.bsv_design.specs.declared.steps.Arm.{Arm}
 use Rattle.bsv_design.specs.declared.steps.Atom.{Atom}
 use Rattle.bsv_design.specs.declared.steps.Choice.{Choice, out-Choice}
 use Rattle.bsv_design.specs.declared.steps.MethodPlace.{MethodPlace}
 use Rattle.bsv_design.specs.declared.steps.Step.{Step}
 use Rattle.bsv_inline.specs.declared.flattener.Flattener.{Flattener}
-use Rattle.bsv_design.specs.declared.node.Branch.{Branch}
 use Rattle.bsv_inline.specs.declared.calls.Call.{Call}
 use Rattle.bsv_inline.specs.declared.state.Asked.{Asked}
 use Rattle.bsv_inline.specs.declared.state.State.{State}
@@ -69,3 +71,8 @@ choose b c s = flat.choice c (spot b) s
 
 abbrev pub step : Flattener → Step → State → Asked × State
 step b x s = flat.flat x (spot b) s
+
+-- the method of a module of this number
+abbrev pub method_of : Option Module → ℕ → Option Method
+method_of None method = None
+method_of (Some m) method = slice_get m.methods method

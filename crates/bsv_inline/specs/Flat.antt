@@ -1,6 +1,8 @@
 -- Steps laid out as nodes, one after the other.
 use Rattle.std.specs.Prelude.{ℕ, ◌+◌, Bool, true, false, List, [], ◌∷◌, ◌++◌, length, take, slice_get, Option, Some, None, if◌then◌else◌}
 use Rattle.bsv_bits.specs.Words.{bit}
+use Rattle.bsv_design.specs.declared.node.Node.{Node}
+use Rattle.bsv_design.specs.declared.node.Node.TheVariants as node
 use Rattle.bsv_design.specs.declared.steps.Atom.{Atom}
 use Rattle.bsv_design.specs.declared.steps.Atom.TheVariants as atom
 use Rattle.bsv_design.specs.declared.steps.Compute.{Compute}
@@ -13,8 +15,6 @@ use Rattle.bsv_design.specs.declared.steps.Step.TheOpen.{Step-F, Choice-F, Arm-F
 use Rattle.bsv_design.specs.declared.node.Branch.{Branch}
 use Rattle.bsv_inline.specs.declared.calls.Call.{Call}
 use Rattle.bsv_inline.specs.declared.calls.Condition.{Condition}
-use Rattle.bsv_design.specs.declared.node.Node.{Node}
-use Rattle.bsv_design.specs.declared.node.Node.TheVariants as node
 use Rattle.bsv_inline.specs.declared.state.Asked.{Asked}
 use Rattle.bsv_inline.specs.declared.state.State.{State}
 use Rattle.bsv_inline.specs.declared.choices.Given.{Given}

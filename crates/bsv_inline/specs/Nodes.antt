@@ -5,9 +5,9 @@ use Rattle.bsv_bits.specs.Words.{Bits, bit, word_not}
 use Rattle.bsv_design.specs.Bodies.{at}
 use Rattle.bsv_design.specs.Computing as computing
 use Rattle.bsv_design.specs.Running.{Results, or_zero}
-use Rattle.bsv_inline.specs.declared.calls.Call.{Call}
 use Rattle.bsv_design.specs.declared.node.Node.{Node}
 use Rattle.bsv_design.specs.declared.node.Node.TheVariants as node
+use Rattle.bsv_inline.specs.declared.calls.Call.{Call}
 
 -- what the call of this number gives
 abbrev pub answer : Results → ℕ → List Bits → Option Call → Bits

@@ -2,7 +2,6 @@
 -- they stand for (Bluespec reference guide, "Module and interface instantiation").
 use Rattle.std.specs.Prelude.{◌≡◌, ℕ, ◌+◌, ◌≤◌, nat_lt, Bool, false, ◌&&◌, List, map, length, slice_get, Option, Some, None, option_map}
 use Rattle.std.specs.Bool.{beq}
-use Rattle.bsv_types.specs.declared.modules.Method.{Method}
 use Rattle.bsv_types.specs.declared.modules.Module.{Module}
 use Rattle.bsv_design.specs.declared.element.Call.{Call as PartCall}
 use Rattle.bsv_design.specs.declared.element.Condition.{Condition as NamedCondition}
@@ -30,10 +29,6 @@ placed_call is c = record {
   branches = c.branches;
   args = c.arguments;
 }
-
-abbrev pub method_of : Option Module → ℕ → Option Method
-method_of None method = None
-method_of (Some m) method = slice_get m.methods method
 
 abbrev pub named_condition : List Module → List Instance → Condition → NamedCondition
 named_condition ms is c = record { truth = c.truth; taken = c.taken; implicit = option_map (place_name ms is) c.name }

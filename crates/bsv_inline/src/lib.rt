@@ -26,6 +26,4 @@ mod state;
 mod tests;
 mod walk;
 
-pub use body::{Body, flat_body};
-pub use calls::{Call, Condition};
 pub use designs::flatten;

@@ -1,6 +1,6 @@
 ghost use Rattle.std.specs.Prelude.{◌≡◌, IfOk, slice_get};
 ghost use Rattle.bsv_design.specs.Traces.{with_dot, method_text, place_name};
-ghost use Rattle.bsv_inline.specs.Placed.{method_of};
+ghost use Rattle.bsv_inline.specs.AtHand.{method_of};
 
 use crate::state::Laid;
 use bsv_bits::Name;
@@ -50,11 +50,8 @@ pub(crate) fn name_of(
     match &instance.made {
         Made::Primitive(..) => Name::new(alloc, path),
         Made::Module(built) => {
-            path_of(
-                alloc,
-                path,
-                method_name(modules, built.module, place.method),
-            )
+            let name = method_name(modules, built.module, place.method);
+            path_of(alloc, path, name)
         }
     }
 }

@@ -1,4 +1,7 @@
-use crate::{Condition, Placer, flat_body, part_numbers};
+use crate::body::flat_body;
+use crate::calls::Condition;
+use crate::parts::part_numbers;
+use crate::placer::Placer;
 use bsv_bits::{Name, Word};
 use bsv_design::{
     Arm, Atom, Branch, Built, Choice, Compute, Instance, Kind, Made, MethodPlace, NamedPart, Node,

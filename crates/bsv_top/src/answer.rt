@@ -26,7 +26,7 @@ use crate::report::write_opening;
 use crate::simulate::Halt;
 use crate::trace::Lines;
 use bsv_bits::{Name, OutOfMemory, Word};
-use bsv_flow::{CompileFault, Loaded, Refusal, load, tree, typed};
+use bsv_flow::{CompileFault, Loaded, Refusal, flat, load, tree, typed};
 use bsv_io::{Failed, Files, Sink};
 use std::alloc::{AllocError, Global};
 
@@ -194,7 +194,7 @@ fn simulate<F: Files, O: Sink>(
     report_clocks(files, machine, &mut state, &mut next, &mut buffer, out)
 }
 
-/// Loads the file and what it imports, where it has a typing and a tree.
+/// Loads the file and what it imports, where it has a typing, a tree and a design.
 fn load_built<F: Files>(
     alloc: Global,
     files: &mut F,
@@ -221,7 +221,8 @@ fn load_built<F: Files>(
 {
     let loaded = load(alloc, files, name)?;
     let program = typed(alloc, &loaded)?;
-    let _tree = tree(alloc, program, top)?;
+    let built = tree(alloc, program, top)?;
+    let _design = flat(alloc, &built)?;
     Ok(loaded)
 }
 

@@ -1,4 +1,4 @@
-use crate::{acts, has_widths, is_countable, value_acts_not, widths};
+use crate::{has_widths, is_countable, value_acts_not, widths};
 use bsv_bits::{Name, Operator, Word};
 use bsv_design::{Call, Condition, Element, Kind, NamedPart, Node, Port, Role};
 use bsv_prim::{RWireKind, RegUKind};
@@ -109,12 +109,6 @@ fn a_value_calls_nothing_that_acts(rt: HostRuntime) -> Result<(), Fail> {
     let acting = element(alloc, "add", Role::Value, 8)?;
     assert!(rt; has_widths(alloc, parts.as_slice(), &acting)?);
     assert!(rt; !value_acts_not(parts.as_slice(), &acting));
-    assert!(rt;
-        parts
-            .as_slice()
-            .iter()
-            .all(|part| acts(&part.kind, 0) || acts(&part.kind, 1))
-    );
     let may = element(alloc, "add", Role::ActionValue, 8)?;
     assert!(rt; value_acts_not(parts.as_slice(), &may));
     Ok(())

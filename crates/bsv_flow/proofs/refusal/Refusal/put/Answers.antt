@@ -89,7 +89,47 @@ unfolding refusal_line
 returns-in-Limit-clause-ok g c =
     subst (λ (r : Refusal). OnOk c.put_limit.result (g.S.Sink.writing c.put_limit.new.sink ≡ appended (refusal_line r) (g.S.Sink.writing c.args.sink.now))) (sym c.in-Limit.is) c.put_limit.ensures.ok
 
+pub returns-in-InRule-clause-ok : goal.returns-in-InRule-clause-ok
+unfolding refusal_line
+returns-in-InRule-clause-ok g c =
+    subst (λ (r : Refusal). OnOk c.put_four.result (g.S.Sink.writing c.put_four.new.sink ≡ appended (refusal_line r) (g.S.Sink.writing c.args.sink.now))) (sym c.in-InRule.is) c.put_four.ensures.ok
+
+pub returns-in-FireWhenEnabled-clause-ok : goal.returns-in-FireWhenEnabled-clause-ok
+unfolding refusal_line
+returns-in-FireWhenEnabled-clause-ok g c =
+    subst (λ (r : Refusal). OnOk c.put_two.result (g.S.Sink.writing c.put_two.new.sink ≡ appended (refusal_line r) (g.S.Sink.writing c.args.sink.now))) (sym c.in-FireWhenEnabled.is) c.put_two.ensures.ok
+
+pub returns-in-NoImplicit-clause-ok : goal.returns-in-NoImplicit-clause-ok
+unfolding refusal_line
+returns-in-NoImplicit-clause-ok g c =
+    subst (λ (r : Refusal). OnOk c.put_two-in-NoImplicit.result (g.S.Sink.writing c.put_two-in-NoImplicit.new.sink ≡ appended (refusal_line r) (g.S.Sink.writing c.args.sink.now))) (sym c.in-NoImplicit.is) c.put_two-in-NoImplicit.ensures.ok
+
+pub returns-in-WireCycle-clause-ok : goal.returns-in-WireCycle-clause-ok
+unfolding refusal_line
+returns-in-WireCycle-clause-ok g c =
+    subst (λ (r : Refusal). OnOk c.put_named-in-WireCycle.result (g.S.Sink.writing c.put_named-in-WireCycle.new.sink ≡ appended (refusal_line r) (g.S.Sink.writing c.args.sink.now))) (sym c.in-WireCycle.is) c.put_named-in-WireCycle.ensures.ok
+
+pub returns-in-ValueClash-clause-ok : goal.returns-in-ValueClash-clause-ok
+unfolding refusal_line
+returns-in-ValueClash-clause-ok g c =
+    subst (λ (r : Refusal). OnOk c.put_named-in-ValueClash.result (g.S.Sink.writing c.put_named-in-ValueClash.new.sink ≡ appended (refusal_line r) (g.S.Sink.writing c.args.sink.now))) (sym c.in-ValueClash.is) c.put_named-in-ValueClash.ensures.ok
+
+pub returns-in-ExecutionCycle-clause-ok : goal.returns-in-ExecutionCycle-clause-ok
+unfolding refusal_line
+returns-in-ExecutionCycle-clause-ok g c =
+    subst (λ (r : Refusal). OnOk c.put_three.result (g.S.Sink.writing c.put_three.new.sink ≡ appended (refusal_line r) (g.S.Sink.writing c.args.sink.now))) (sym c.in-ExecutionCycle.is) c.put_three.ensures.ok
+
+pub returns-in-UrgencyCycle-clause-ok : goal.returns-in-UrgencyCycle-clause-ok
+unfolding refusal_line
+returns-in-UrgencyCycle-clause-ok g c =
+    subst (λ (r : Refusal). OnOk c.put_three-in-UrgencyCycle.result (g.S.Sink.writing c.put_three-in-UrgencyCycle.new.sink ≡ appended (refusal_line r) (g.S.Sink.writing c.args.sink.now))) (sym c.in-UrgencyCycle.is) c.put_three-in-UrgencyCycle.ensures.ok
+
+pub returns-in-MethodBehindRule-clause-ok : goal.returns-in-MethodBehindRule-clause-ok
+unfolding refusal_line
+returns-in-MethodBehindRule-clause-ok g c =
+    subst (λ (r : Refusal). OnOk c.put_two-in-MethodBehindRule.result (g.S.Sink.writing c.put_two-in-MethodBehindRule.new.sink ≡ appended (refusal_line r) (g.S.Sink.writing c.args.sink.now))) (sym c.in-MethodBehindRule.is) c.put_two-in-MethodBehindRule.ensures.ok
+
 pub returns-in-NoSuchRule-clause-ok : goal.returns-in-NoSuchRule-clause-ok
 unfolding refusal_line
 returns-in-NoSuchRule-clause-ok g c =
-    subst (λ (r : Refusal). OnOk c.put_rule.result (g.S.Sink.writing c.put_rule.new.sink ≡ appended (refusal_line r) (g.S.Sink.writing c.args.sink.now))) (sym c.in-NoSuchRule.is) c.put_rule.ensures.ok
+    subst (λ (r : Refusal). OnOk c.put_two-in-NoSuchRule.result (g.S.Sink.writing c.put_two-in-NoSuchRule.new.sink ≡ appended (refusal_line r) (g.S.Sink.writing c.args.sink.now))) (sym c.in-NoSuchRule.is) c.put_two-in-NoSuchRule.ensures.ok

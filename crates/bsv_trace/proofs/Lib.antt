@@ -1,0 +1,15 @@
+pub mod Adding
+pub mod Asked
+pub mod Clearing
+pub mod Complete
+pub mod Filling
+pub mod Fitting
+pub mod Fresh
+pub mod Methods
+pub mod Pieces
+pub mod Places
+pub mod QueueTexts
+pub mod Readable
+pub mod Sound
+pub mod Turns
+pub mod Values

@@ -1,0 +1,6 @@
+use Rattle.std.proofs.Common.{◌≡◌, drop}
+use Rattle.bsv_trace.specs.Reading as spec
+use Rattle.bsv_trace.proofs.call.method_named.Given as goal
+
+abbrev pub invariant-loop-number : goal.invariant-loop-number
+invariant-loop-number l = spec.method_from 0 l.methods l.name ≡ spec.method_from l.number (drop l.number l.methods) l.name

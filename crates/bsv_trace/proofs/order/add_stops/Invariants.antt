@@ -1,0 +1,13 @@
+use Rattle.std.proofs.Common.{length}
+use Rattle.std.specs.List.{flat_map}
+use Rattle.bsv_trace.specs.Texts as texts
+use Rattle.bsv_trace.proofs.Adding.{Going}
+use Rattle.bsv_trace.proofs.order.add_stops.Given as goal
+
+abbrev pub decreases-loop-place : goal.decreases-loop-place
+decreases-loop-place g l = length l.left
+
+abbrev pub invariant-loop-place : goal.invariant-loop-place
+invariant-loop-place g l =
+    let named = texts.name_at l.elements in
+    Going (flat_map (texts.stops_line named l.stops) l.fn.urgency) (flat_map (texts.stops_line named l.stops) l.left) l.fn.buffer l.buffer (g.S.Sink.writing l.fn.sink) (g.S.Sink.writing l.sink)

@@ -1,0 +1,74 @@
+-- What a line of a trace is, and what it asks for: calls of methods of the top, with a blank between each two, as in
+-- `start(0x10,3) result()`.
+use Rattle.std.specs.Prelude.{◌≡◌, ◌≢◌, ℕ, ◌^◌, ◌<◌, ◌≤◌, true, List, [], ◌∷◌, ◌++◌, length, slice_get, slice_set, Some, codes}
+use Rattle.std.specs.List.{join_with_byte}
+use Rattle.bsv_bits.specs.Words.{Bits}
+use Rattle.bsv_design.specs.declared.element.Element.{Element}
+use Rattle.bsv_design.specs.declared.element.Port.{Port}
+use Rattle.bsv_design.specs.Schemes.{Asking}
+use Rattle.bsv_design.specs.States.{methods_in, nothing_asked}
+use Rattle.bsv_trace.specs.Numbers.{IsNumber}
+
+-- ---- arguments
+
+-- the text is the number of a word that the argument can hold
+pub record IsArgument (p : Port) (text : List ℕ) (w : Bits) : Type 0 where
+  pub number : IsNumber text w.value
+  pub width : w.width ≡ p.width
+  pub below : w.value < 2 ^ p.width
+
+-- a text and a word for each argument of a method
+abbrev pub AreArguments : List Port → List (List ℕ) → List Bits → Type 0
+AreArguments [] [] [] = Unit {0}
+AreArguments (p ∷ ps) (text ∷ texts) (w ∷ ws) = IsArgument p text w × AreArguments ps texts ws
+AreArguments _ _ _ = ⊥
+
+-- ---- calls
+
+-- a call of a method, by the method's place, with its arguments
+pub record MethodCall : Type 0 where
+  pub method : ℕ
+  pub words : List Bits
+
+-- the name of a method, and its arguments in brackets with a comma between each two
+pub record IsCall (methods : List Element) (text : List ℕ) (c : MethodCall) : Type 0 where
+  pub element : Element
+  pub at : slice_get methods c.method ≡ Some element
+  pub pieces : List (List ℕ)
+  pub arguments : AreArguments element.arguments pieces c.words
+  pub written : text ≡ element.name ++ codes "(" ++ join_with_byte 44 pieces ++ codes ")"
+
+abbrev pub AreCalls : List Element → List (List ℕ) → List MethodCall → Type 0
+AreCalls methods [] [] = Unit {0}
+AreCalls methods (text ∷ texts) (c ∷ cs) = IsCall methods text c × AreCalls methods texts cs
+AreCalls methods _ _ = ⊥
+
+-- none of the calls is of this method
+abbrev pub CallsNot : ℕ → List MethodCall → Type 0
+CallsNot method [] = Unit {0}
+CallsNot method (c ∷ cs) = (method ≢ c.method) × CallsNot method cs
+
+-- no method is called twice
+abbrev pub AreApart : List MethodCall → Type 0
+AreApart [] = Unit {0}
+AreApart (c ∷ cs) = CallsNot c.method cs × AreApart cs
+
+-- ---- what is asked for
+
+-- one call more
+abbrev pub asked_with : MethodCall → Asking → Asking
+asked_with c q = record { asked = slice_set q.asked c.method true; args = slice_set q.args c.method c.words }
+
+abbrev pub asked_with_all : List MethodCall → Asking → Asking
+asked_with_all [] q = q
+asked_with_all (c ∷ cs) q = asked_with_all cs (asked_with c q)
+
+-- the line asks for its calls and for nothing else
+pub record AsksFor (elements : List Element) (line : List ℕ) (q : Asking) : Type 0 where
+  pub pieces : List (List ℕ)
+  pub calls : List MethodCall
+  pub each : AreCalls (methods_in elements) pieces calls
+  pub apart : AreApart calls
+  pub written : line ≡ join_with_byte 32 pieces
+  pub short : length line ≤ 4096
+  pub asking : q ≡ asked_with_all calls (nothing_asked elements)
