@@ -1,15 +1,17 @@
 -- What holds of the attributes of a scheme holds of those of one that does the same.
-use Rattle.std.proofs.Common.{◌≡◌, ◌∙◌, ℕ, Bool, true, false, ◌&&◌, List, [], ◌∷◌, length, refl, sym, ap, subst, arith, inl, inr, IsTrue}
-use Rattle.std.specs.Prelude.{IsFalse}
+use Rattle.std.proofs.Common.{◌≡◌, ◌∙◌, ℕ, Bool, true, false, ◌&&◌, List, [], ◌∷◌, ◌++◌, map, length, refl, sym, ap, subst, arith, inl, inr, IsTrue}
+use Rattle.std.specs.Prelude.{◌↔◌, IsFalse, slice_get}
 use Rattle.bsv_bits.specs.Words.{Bits}
 use Rattle.bsv_design.specs.declared.element.Port.{Port}
 use Rattle.bsv_design.specs.declared.schedule.Schedule.{Schedule}
 use Rattle.bsv_design.specs.declared.tree.Attribute.{Attribute}
-use Rattle.bsv_design.specs.Relations.{goes, for_all, may_precede}
-use Rattle.bsv_design.specs.Schemes.{Scheme, Asking, Look, AreAlike, answers, filled, given, ready, seen, all_hold, all_open}
+use Rattle.bsv_design.specs.Relations.{goes, for_all, may_precede, no_answers}
+use Rattle.bsv_design.specs.Schemes.{Scheme, Asking, Look, AreAlike, answers, filled, given, ports_of, ready, seen, all_hold, all_open}
 use Rattle.bsv_design.specs.Traces.{Trace}
 use Rattle.bsv_graph.specs.Relating.{Relating}
 use Rattle.bsv_graph.specs.Stops.{Stops}
+use Rattle.bsv_attr.specs.Asserting.{IsExplicit, IsUnstopped, IsAccepted, NamesImplicit, NamesStopper}
+use Rattle.bsv_attr.specs.Implicit.{are_implicit, has_name, has_guard, IsFirstTrue, NoneTrue}
 use Rattle.bsv_attr.specs.Marks.{IsMarked, IsPaired}
 use Rattle.bsv_attr.specs.Obeying.{StopsIn, own, Obeys}
 use Rattle.bsv_attr.specs.Related.{relating}
@@ -79,3 +81,61 @@ obeys_alike S T s h o = record {
 
   marked : (fires : Bool) (r : ℕ) → IsMarked S.asserts fires r → IsMarked T.asserts fires r
   marked fires r m = subst (λ ms. IsMarked ms fires r) h.asserts m
+
+-- ---- what is refused
+
+-- the marks and the implicit conditions are the same
+record AreMarkedAlike (S T : Scheme) : Type 0 where
+  asserts : S.asserts ≡ T.asserts
+  implicit : (n : ℕ) → are_implicit S n ≡ are_implicit T n
+
+marked_alike : (S T : Scheme) → AreAlike S T → AreMarkedAlike S T
+unfolding are_implicit
+marked_alike S T h = record { asserts = h.asserts; implicit = same } where
+  run : (n : ℕ) → S.trace n no_answers (filled (ports_of (slice_get S.elements n)) []) ≡ T.trace n no_answers (filled (ports_of (slice_get T.elements n)) [])
+  run n = h.traces n no_answers _ (long_filled _ _) ∙ ap (λ es. T.trace n no_answers (filled (ports_of (slice_get es n)) [])) h.elements
+
+  same : (n : ℕ) → are_implicit S n ≡ are_implicit T n
+  same n = ap (λ (t : Trace). map has_name t.demands ++ map (has_guard S.kinds) t.sites) (run n)
+      ∙ ap (λ ks. let t : Trace = T.trace n no_answers (filled (ports_of (slice_get T.elements n)) []) in map has_name t.demands ++ map (has_guard ks) t.sites) h.kinds
+
+turned : (S T : Scheme) → AreMarkedAlike S T → AreMarkedAlike T S
+turned S T h = record { asserts = sym h.asserts; implicit = λ n. sym (h.implicit n) }
+
+module _ (S T : Scheme) (h : AreMarkedAlike S T) where
+  mark_to : (fires : Bool) (r : ℕ) → IsMarked S.asserts fires r → IsMarked T.asserts fires r
+  mark_to fires r m = subst (λ ms. IsMarked ms fires r) h.asserts m
+
+  mark_from : (fires : Bool) (r : ℕ) → IsMarked T.asserts fires r → IsMarked S.asserts fires r
+  mark_from fires r m = subst (λ ms. IsMarked ms fires r) (sym h.asserts) m
+
+  explicit_to : (n : ℕ) → IsExplicit S n → IsExplicit T n
+  explicit_to n e m = subst NoneTrue (h.implicit n) (e (mark_from false n m))
+
+  unstopped_to : (s : Schedule) (n : ℕ) → IsUnstopped S s n → IsUnstopped T s n
+  unstopped_to s n u m = u (mark_from true n m)
+
+  accepted_to : (s : Schedule) → IsAccepted S s → IsAccepted T s
+  accepted_to s acc = (λ n. explicit_to n (acc.0 n), λ n. unstopped_to s n (acc.1 n))
+
+  implicit_to : (r place : ℕ) → NamesImplicit S r place → NamesImplicit T r place
+  implicit_to r place i = record {
+    marked = mark_to false r i.marked;
+    implicit = subst (λ ts. IsFirstTrue ts place) (h.implicit r) i.implicit;
+    earlier = λ n less. explicit_to n (i.earlier n less);
+  }
+
+  stopper_to : (s : Schedule) (r f : ℕ) → NamesStopper S s r f → NamesStopper T s r f
+  stopper_to s r f i = (
+    λ n. explicit_to n (i.0 n),
+    record { marked = mark_to true r i.1.marked; stopper = i.1.stopper; earlier = λ n less. unstopped_to s n (i.1.earlier n less) },
+  )
+
+pub accepted_alike : (S T : Scheme) (s : Schedule) → AreAlike S T → IsAccepted S s ↔ IsAccepted T s
+accepted_alike S T s h = let m = marked_alike S T h in (accepted_to S T m s, accepted_to T S (turned S T m) s)
+
+pub implicit_alike : (S T : Scheme) (r place : ℕ) → AreAlike S T → NamesImplicit S r place ↔ NamesImplicit T r place
+implicit_alike S T r place h = let m = marked_alike S T h in (implicit_to S T m r place, implicit_to T S (turned S T m) r place)
+
+pub stopper_alike : (S T : Scheme) (s : Schedule) (r f : ℕ) → AreAlike S T → NamesStopper S s r f ↔ NamesStopper T s r f
+stopper_alike S T s r f h = let m = marked_alike S T h in (stopper_to S T m s r f, stopper_to T S (turned S T m) s r f)

@@ -69,7 +69,8 @@ fn unstopped(design: &Design, schedule: &Schedule) -> Result<(), AttrFault>
 /// rules are taken by position.
 pub fn asserts(design: &Design, schedule: &Schedule) -> Result<(), AttrFault>
     requires { IsTrue (list_all calling.is_countable design.now.elements) }
-    ensures accepted { IsOk result ↔ IsAccepted (design_scheme (blueprint design.now)) schedule.now }
+    ensures accepted { IsOk result
+        ↔ IsAccepted (design_scheme (blueprint design.now)) schedule.now }
     ensures no_implicit { (r place : ℕ) → (result ≡ Err (told.NoImplicit r place))
         ↔ NamesImplicit (design_scheme (blueprint design.now)) r place }
     ensures fires { (r f : ℕ) → (result ≡ Err (told.FireWhenEnabled r f))

@@ -1,5 +1,5 @@
 ghost use Rattle.std.specs.Prelude.{◌↔◌, ℕ};
-ghost use Rattle.bsv_attr.specs.Asserting.{IsAccepted};
+ghost use Rattle.bsv_attr.specs.Asserting.{IsAccepted, NamesImplicit, NamesStopper};
 ghost use Rattle.bsv_attr.specs.Obeying.{Obeys};
 ghost use Rattle.bsv_attr.specs.Related.{relating};
 ghost use Rattle.bsv_attr.specs.Stopping.{ListStops};
@@ -39,4 +39,14 @@ pub fn obeyed()
 /// A schedule that obeys the attributes of a scheme obeys those of a scheme that does the same.
 pub fn same_obeyed()
     ensures { (S T : Scheme) (s : Schedule) → AreAlike S T → Obeys T s → Obeys S s }
+{}
+
+/// What the asserting attributes refuse in a scheme they refuse in a scheme that does the same.
+pub fn same_asserted()
+    ensures accepted { (S T : Scheme) (s : Schedule) → AreAlike S T
+        → IsAccepted S s ↔ IsAccepted T s }
+    ensures no_implicit { (S T : Scheme) (r place : ℕ) → AreAlike S T
+        → NamesImplicit S r place ↔ NamesImplicit T r place }
+    ensures fires { (S T : Scheme) (s : Schedule) (r f : ℕ) → AreAlike S T
+        → NamesStopper S s r f ↔ NamesStopper T s r f }
 {}

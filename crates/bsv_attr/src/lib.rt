@@ -19,4 +19,4 @@ mod tests;
 
 pub use asserting::{asserts, is_countable};
 pub use fault::AttrFault;
-pub use laws::{listed, obeyed, same_obeyed};
+pub use laws::{listed, obeyed, same_asserted, same_obeyed};

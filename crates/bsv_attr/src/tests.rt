@@ -3,7 +3,9 @@ ghost use Rattle.bsv_design.specs.declared.element.Role.TheVariants as Role;
 ghost use Rattle.bsv_design.specs.Kinds.{kind_table};
 
 use crate::implicit::first_implicit;
-use crate::{AttrFault, asserts, is_countable, listed as listed_stops, obeyed, same_obeyed};
+use crate::{
+    AttrFault, asserts, is_countable, listed as listed_stops, obeyed, same_asserted, same_obeyed,
+};
 use bsv_bits::Name;
 use bsv_design::{Assert, Call, Condition, Design, Element, Kind, NamedPart, Role, Schedule};
 use bsv_prim::WireKind;
@@ -139,6 +141,7 @@ fn design(alloc: Global) -> Result<Design, Fail> {
 fn a_rule_that_is_stopped(rt: HostRuntime) -> Result<(), Fail> {
     listed_stops();
     obeyed();
+    same_asserted();
     same_obeyed();
     let alloc = rt.alloc();
     let design = design(alloc)?;

@@ -1,11 +1,16 @@
 -- What scheduling answers of a tree: its schedule, or the first refusal behind building (Hoe and Arvind 2004; Bluespec
 -- reference guide, "Scheduling attributes").
 use Rattle.std.specs.Prelude.{◌≡◌, ℕ, List, [], ◌++◌, map, slice_get, Option, Some, None, codes}
+use Rattle.bsv_design.specs.declared.design.Design.{Design}
 use Rattle.bsv_design.specs.declared.design.NamedPart.{NamedPart}
+use Rattle.bsv_design.specs.declared.element.Call.{Call}
+use Rattle.bsv_design.specs.declared.element.Condition.{Condition}
+use Rattle.bsv_design.specs.declared.element.Element.{Element}
 use Rattle.bsv_design.specs.declared.schedule.Schedule.{Schedule}
 use Rattle.bsv_design.specs.declared.tree.Pair.{Pair}
 use Rattle.bsv_design.specs.Relations.{KeepsTheRule, sites_of}
-use Rattle.bsv_design.specs.Schemes.{Scheme, tree_scheme}
+use Rattle.bsv_design.specs.Schemes.{Scheme, design_scheme, tree_scheme}
+use Rattle.bsv_design.specs.Seen.{blueprint}
 use Rattle.bsv_design.specs.Sources.{parts_among}
 use Rattle.bsv_design.specs.Traces.{Site, Demand, with_dot}
 use Rattle.bsv_design.specs.Trees.{Hierarchy}
@@ -35,6 +40,10 @@ pub record Subject : Type 0 where
 abbrev pub subject : Hierarchy → Subject
 subject h = record { scheme = tree_scheme h; parts = parts_among h.instances }
 
+-- the same of a design
+abbrev pub design_subject : Design → Subject
+design_subject d = record { scheme = design_scheme (blueprint d); parts = d.parts }
+
 abbrev pub related : Subject → Relating
 related s = relating s.scheme
 
@@ -53,6 +62,9 @@ pub record IsScheduled (s : Subject) (made : Schedule) : Type 0 where
   pub accepted : IsAccepted s.scheme made
 
 -- ---- how a refusal is told
+
+abbrev pub pair_names : Subject → Pair → List ℕ × List ℕ × List ℕ
+pair_names s p = (attribute_word p.attribute, element_name s.scheme p.before, element_name s.scheme p.after)
 
 abbrev pub pair_told : (List ℕ → List ℕ → List ℕ → Refusal) → Subject → Pair → Refusal
 pair_told told s p = told (attribute_word p.attribute) (element_name s.scheme p.before) (element_name s.scheme p.after)
@@ -88,17 +100,53 @@ implicit_told s r place = refusal.NoImplicit (element_name s.scheme r) (place_na
 abbrev pub stopper_told : Subject → ℕ → ℕ → Refusal
 stopper_told s r f = refusal.FireWhenEnabled (element_name s.scheme r) (element_name s.scheme f)
 
+-- the same of a flat body: its conditions by their names, and then its calls
+abbrev pub call_text : List NamedPart → Call → List ℕ
+call_text ps c = with_dot (part_path ps c.part) (method_name ps c.part c.method)
+
+abbrev pub condition_text : Option Condition → List ℕ
+condition_text None = []
+condition_text (Some c) = or_no_name c.implicit
+
+abbrev pub condition_at : Element → ℕ → List ℕ
+condition_at e place = condition_text (slice_get e.conditions place)
+
+abbrev pub call_of : List NamedPart → Option Call → List ℕ
+call_of ps None = []
+call_of ps (Some c) = call_text ps c
+
+abbrev pub call_at : List NamedPart → Element → ℕ → List ℕ
+call_at ps e place = call_of ps (slice_get e.calls place)
+
+abbrev pub texts_in : List NamedPart → Element → List (List ℕ)
+texts_in ps e = map (λ c. or_no_name c.implicit) e.conditions ++ map (call_text ps) e.calls
+
+-- ---- the first refusal of the orders, and of the marks
+
+-- why there is no execution order
+pub record IsUnexecuted (s : Subject) (r : Refusal) : Type 0 where
+  pub fault : OrderFault
+  pub refuses : Refuses (related s) fault
+  pub told : order_told s fault ≡ Some r
+
+-- why there is no urgency order
+pub record IsUnurged (s : Subject) (r : Refusal) : Type 0 where
+  pub fault : UrgencyFault
+  pub declines : Declines (related s) s.scheme.pairs fault
+  pub told : urgency_told s fault ≡ Some r
+
+-- why a mark is refused
+pub data IsUnasserted (s : Subject) (made : Schedule) : Refusal → Type 0 where
+  implicit : (rule place : ℕ) → NamesImplicit s.scheme rule place → IsUnasserted s made (implicit_told s rule place)
+  stopped : (rule f : ℕ) → NamesStopper s.scheme made rule f → IsUnasserted s made (stopper_told s rule f)
+
 -- ---- the first refusal
 
 -- each behind the ones before it
-pub data Unscheduled (h : Hierarchy) : Refusal → Type 0 where
-  in_rule : {r : Refusal} → TellsBreach h r → Unscheduled h r
-  executing : {r : Refusal} → ((n : ℕ) → KeepsTheRule (tree_scheme h) n)
-      → (f : OrderFault) → Refuses (related (subject h)) f → order_told (subject h) f ≡ Some r → Unscheduled h r
-  urging : {r : Refusal} → ((n : ℕ) → KeepsTheRule (tree_scheme h) n)
-      → (execution : List ℕ) → Executes (related (subject h)) execution
-      → (f : UrgencyFault) → Declines (related (subject h)) h.pairs f → urgency_told (subject h) f ≡ Some r → Unscheduled h r
-  implicit : ((n : ℕ) → KeepsTheRule (tree_scheme h) n) → (made : Schedule) → IsOrdered (subject h) made
-      → (r place : ℕ) → NamesImplicit (tree_scheme h) r place → Unscheduled h (implicit_told (subject h) r place)
-  stopped : ((n : ℕ) → KeepsTheRule (tree_scheme h) n) → (made : Schedule) → IsOrdered (subject h) made
-      → (r f : ℕ) → NamesStopper (tree_scheme h) made r f → Unscheduled h (stopper_told (subject h) r f)
+pub data Unscheduled (h : Hierarchy) (r : Refusal) : Type 0 where
+  in_rule : TellsBreach h r → Unscheduled h r
+  executing : ((n : ℕ) → KeepsTheRule (tree_scheme h) n) → IsUnexecuted (subject h) r → Unscheduled h r
+  urging : ((n : ℕ) → KeepsTheRule (tree_scheme h) n) → (execution : List ℕ) → Executes (related (subject h)) execution
+      → IsUnurged (subject h) r → Unscheduled h r
+  asserting : ((n : ℕ) → KeepsTheRule (tree_scheme h) n) → (made : Schedule) → IsOrdered (subject h) made
+      → IsUnasserted (subject h) made r → Unscheduled h r

@@ -1,10 +1,16 @@
-ghost use Rattle.std.specs.Prelude.{◌≡◌, ℕ, List, Some, Err, IfOk};
-ghost use Rattle.bsv_io.specs.Faults.{MayFault};
-ghost use Rattle.bsv_design.specs.Guards.{needs_of};
-ghost use Rattle.bsv_design.specs.Schemes.{design_scheme, kinds_of, tree_scheme, AreAlike};
+ghost use Rattle.std.specs.Prelude.{◌≡◌, ℕ, List, Some, Err, IfOk, OnOk, IsTrue, slice_get};
+ghost use Rattle.std.specs.List.{list_all};
+ghost use Rattle.bsv_attr.specs.Asserting.{IsAccepted};
+ghost use Rattle.bsv_attr.specs.Calling.{is_countable};
+ghost use Rattle.bsv_design.specs.Schemes.{design_scheme};
 ghost use Rattle.bsv_design.specs.Seen.{blueprint, hierarchy};
+ghost use Rattle.bsv_graph.specs.ExecutionOrders.{Executes};
+ghost use Rattle.bsv_graph.specs.Relating.{feed_edges};
+ghost use Rattle.bsv_graph.specs.UrgencyOrders.{Urges};
+ghost use Rattle.bsv_graph.specs.Walks.{IsAcyclic};
+ghost use Rattle.bsv_flow.specs.Breaches as breaches;
 ghost use Rattle.bsv_flow.specs.Schedulings as spec;
-ghost use Rattle.bsv_flow.specs.Schedulings.{IsScheduled, Unscheduled, subject};
+ghost use Rattle.bsv_flow.specs.Schedulings.{IsScheduled, IsUnexecuted, IsUnurged, IsUnasserted, Unscheduled, design_subject, related, subject};
 ghost use Rattle.bsv_flow.specs.declared.refusal.CompileFault.TheVariants.{Refused, ReadFault};
 ghost use Rattle.bsv_flow.specs.declared.refusal.Refusal.{Refusal as TheRefusal};
 
@@ -13,9 +19,11 @@ use crate::naming::{attribute_word, element_name, method_name, part_path};
 use crate::refusal::{CompileFault, Refusal};
 use bsv_attr::{AttrFault, asserts};
 use bsv_bits::{Name, OutOfMemory};
-use bsv_design::{Design, Element, Guards, Pair, Schedule, Tree};
+use bsv_design::{Design, Element, Guards, NamedPart, Pair, Schedule, Tree};
+use bsv_inline::path_of;
 use bsv_order::{OrderFault, execution};
 use bsv_urgency::{UrgencyFault, schedule, urgency};
+use sqlite_items::Items;
 use std::alloc::Global;
 use std::thread::Threads;
 
@@ -25,4 +33,246 @@ pub struct Compiled {
     pub design: Design,
     pub guards: Guards,
     pub schedule: Schedule,
+}
+
+/// The name of an element.
+fn named(alloc: Global, design: &Design, position: u32) -> Result<Name, OutOfMemory>
+    ensures { IfOk result (λ name.
+        name ≡ breaches.element_name (design_scheme (blueprint design.now)) position) }
+{
+    Name::new(alloc, element_name(design, position))
+}
+
+/// An attribute with a pair of elements.
+fn paired(alloc: Global, design: &Design, pair: Pair) -> Result<(Name, Name, Name), OutOfMemory>
+    ensures { IfOk result (λ names. names ≡ spec.pair_names (design_subject design.now) pair) }
+{
+    Ok((
+        Name::new(alloc, attribute_word(pair.attribute).as_bytes())?,
+        named(alloc, design, pair.before)?,
+        named(alloc, design, pair.after)?,
+    ))
+}
+
+/// The refusal that a fault of the execution order tells.
+fn order_refusal(
+    alloc: Global,
+    design: &Design,
+    fault: OrderFault,
+) -> Result<Refusal, OutOfMemory>
+    ensures { IfOk result (λ r. spec.order_told (design_subject design.now) fault ≡ Some r) }
+{
+    match fault {
+        OrderFault::WireCycle(element) => {
+            let name = named(alloc, design, element)?;
+            Ok(Refusal::WireCycle(name))
+        }
+        OrderFault::ValueClash(method) => {
+            let name = named(alloc, design, method)?;
+            Ok(Refusal::ValueClash(name))
+        }
+        OrderFault::ExecutionCycle(pair) => {
+            let (attribute, before, after) = paired(alloc, design, pair)?;
+            Ok(Refusal::ExecutionCycle(attribute, before, after))
+        }
+        OrderFault::OutOfMemory => Err(OutOfMemory),
+    }
+}
+
+/// The refusal that a fault of the urgency order tells.
+fn urgency_refusal(
+    alloc: Global,
+    design: &Design,
+    fault: UrgencyFault,
+) -> Result<Refusal, OutOfMemory>
+    ensures { IfOk result (λ r. spec.urgency_told (design_subject design.now) fault ≡ Some r) }
+{
+    match fault {
+        UrgencyFault::UrgencyCycle(pair) => {
+            let (attribute, before, after) = paired(alloc, design, pair)?;
+            Ok(Refusal::UrgencyCycle(attribute, before, after))
+        }
+        UrgencyFault::MethodBehindRule(method, rule) => {
+            let method = named(alloc, design, method)?;
+            let rule = named(alloc, design, rule)?;
+            Ok(Refusal::MethodBehindRule(method, rule))
+        }
+        UrgencyFault::OutOfMemory => Err(OutOfMemory),
+    }
+}
+
+/// The name of a condition or a call of an element, by its place.
+fn text_at(
+    alloc: Global,
+    parts: &[NamedPart],
+    element: &Element,
+    place: u32,
+) -> Result<Name, OutOfMemory>
+    ensures { IfOk result (λ name. name
+        ≡ breaches.or_no_name (slice_get (spec.texts_in parts.now element.now) place)) }
+{
+    let place = place as usize;
+    let conditions = element.conditions.len();
+    if place < conditions {
+        return condition_text(alloc, element, place);
+    }
+    call_text(alloc, parts, element, place - conditions)
+}
+
+/// The name of a condition.
+fn condition_text(alloc: Global, element: &Element, place: usize) -> Result<Name, OutOfMemory>
+    ensures { IfOk result (λ name. name ≡ spec.condition_at element.now place) }
+{
+    match element.conditions.get(place) {
+        Some(condition) => match &condition.implicit {
+            Some(name) => Name::new(alloc, name.bytes()),
+            None => Name::new(alloc, b""),
+        },
+        None => Name::new(alloc, b""),
+    }
+}
+
+/// The path and the name of what a call calls.
+fn call_text(
+    alloc: Global,
+    parts: &[NamedPart],
+    element: &Element,
+    place: usize,
+) -> Result<Name, OutOfMemory>
+    ensures { IfOk result (λ name. name ≡ spec.call_at parts.now element.now place) }
+{
+    match element.calls.get(place) {
+        Some(call) => path_of(
+            alloc,
+            part_path(parts, call.part),
+            method_name(parts, call.part, call.method),
+        ),
+        None => Name::new(alloc, b""),
+    }
+}
+
+/// The refusal of an implicit condition.
+#[tactic(auto, using(crate::proofs::Scheduled::implicit_same))]
+fn implicit_refusal(
+    alloc: Global,
+    design: &Design,
+    rule: u32,
+    place: u32,
+) -> Result<Refusal, OutOfMemory>
+    ensures { IfOk result (λ r. r ≡ spec.implicit_told (design_subject design.now) rule place) }
+{
+    let Some(element) = design.elements.get(rule as usize) else {
+        return Err(OutOfMemory);
+    };
+    let name = named(alloc, design, rule)?;
+    let call = text_at(alloc, design.parts.as_slice(), element, place)?;
+    Ok(Refusal::NoImplicit(name, call))
+}
+
+/// The refusal of what stops a rule that is to fire.
+fn stopper_refusal(
+    alloc: Global,
+    design: &Design,
+    rule: u32,
+    element: u32,
+) -> Result<Refusal, OutOfMemory>
+    ensures { IfOk result (λ r. r ≡ spec.stopper_told (design_subject design.now) rule element) }
+{
+    let name = named(alloc, design, rule)?;
+    let stopper = named(alloc, design, element)?;
+    Ok(Refusal::FireWhenEnabled(name, stopper))
+}
+
+/// The execution order of a design.
+fn executed<R: Threads + Sync>(
+    rt: &R,
+    alloc: Global,
+    design: &Design,
+) -> Result<Items<u32>, CompileFault>
+    ensures executes { IfOk result (λ order.
+        Executes (related (design_subject design.now)) order) }
+    ensures refused { (r : TheRefusal) → result ≡ Err (Refused r)
+        → IsUnexecuted (design_subject design.now) r }
+    ensures own { (name : List ℕ) → result ≡ Err (ReadFault name) → ⊥ }
+{
+    match execution(rt, alloc, design) {
+        Ok(order) => Ok(order),
+        Err(fault) => Err(CompileFault::Refused(order_refusal(alloc, design, fault)?)),
+    }
+}
+
+/// The urgency order of a design.
+fn urged(alloc: Global, design: &Design) -> Result<Items<u32>, CompileFault>
+    requires { IsAcyclic (feed_edges (related (design_subject design.now))) }
+    ensures urges { IfOk result (λ order. Urges (related (design_subject design.now)) order) }
+    ensures refused { (r : TheRefusal) → result ≡ Err (Refused r)
+        → IsUnurged (design_subject design.now) r }
+    ensures own { (name : List ℕ) → result ≡ Err (ReadFault name) → ⊥ }
+{
+    match urgency(alloc, design) {
+        Ok(order) => Ok(order),
+        Err(fault) => Err(CompileFault::Refused(urgency_refusal(alloc, design, fault)?)),
+    }
+}
+
+/// Whether each element has few enough conditions and calls for a number to name each.
+fn are_countable(elements: &[Element]) -> bool
+    ensures { result ≡ list_all is_countable elements.now }
+{
+    let mut rest = elements;
+    while let Some((element, after)) = rest.split_first() {
+        let places = element.conditions.len().checked_add(element.calls.len());
+        if !places.is_some_and(|count| count < 4_294_967_296) {
+            return false;
+        }
+        rest = after;
+    }
+    true
+}
+
+/// The marks of rules hold in a schedule.
+fn asserted(alloc: Global, design: &Design, schedule: &Schedule) -> Result<(), CompileFault>
+    ensures accepted { OnOk result
+        (IsAccepted (design_scheme (blueprint design.now)) schedule.now) }
+    ensures refused { (r : TheRefusal) → result ≡ Err (Refused r)
+        → IsUnasserted (design_subject design.now) schedule.now r }
+    ensures own { (name : List ℕ) → result ≡ Err (ReadFault name) → ⊥ }
+{
+    if !are_countable(design.elements.as_slice()) {
+        return Err(CompileFault::OutOfMemory);
+    }
+    let refusal = match asserts(design, schedule) {
+        Ok(()) => return Ok(()),
+        Err(AttrFault::NoImplicit(rule, place)) => implicit_refusal(alloc, design, rule, place)?,
+        Err(AttrFault::FireWhenEnabled(rule, element)) => {
+            stopper_refusal(alloc, design, rule, element)?
+        }
+    };
+    Err(CompileFault::Refused(refusal))
+}
+
+/// The design of a tree with its guards and its schedule, or the first refusal of two calls of one element,
+/// of the two orders, or of the marks of rules.
+pub fn scheduled<R: Threads + Sync>(
+    rt: &R,
+    alloc: Global,
+    tree: &Tree,
+) -> Result<Compiled, CompileFault>
+    ensures compiled { IfOk result (λ c. spec.IsCompiled (hierarchy tree.now) c) }
+    ensures scheduled { IfOk result (λ c.
+        IsScheduled (subject (hierarchy tree.now)) c.schedule) }
+    ensures refused { (r : TheRefusal) → result ≡ Err (Refused r)
+        → Unscheduled (hierarchy tree.now) r }
+    ensures own { (name : List ℕ) → result ≡ Err (ReadFault name) → ⊥ }
+{
+    let (design, guards) = flat(alloc, tree)?;
+    let execution = executed(rt, alloc, &design)?;
+    let urgency = urged(alloc, &design)?;
+    let schedule = schedule(alloc, &design, execution, urgency)?;
+    asserted(alloc, &design, &schedule)?;
+    Ok(Compiled {
+        design,
+        guards,
+        schedule,
+    })
 }

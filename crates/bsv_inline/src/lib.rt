@@ -27,3 +27,4 @@ mod tests;
 mod walk;
 
 pub use designs::flatten;
+pub use naming::path_of;
