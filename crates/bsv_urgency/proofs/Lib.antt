@@ -2,3 +2,4 @@ pub mod BehindLemmas
 pub mod PlaceLemmas
 pub mod UrgencyLemmas
 pub mod Sampled
+pub mod AnswerLemmas

@@ -1,14 +1,16 @@
 //! The urgency order of a design's elements, and which of them yields to which.
 //!
 //! Modules in reading order: `fault` (why there is no order), `behind` (a method that stands behind a rule), `order`
-//! (the order), `places` (the places of elements in an order), `stops` (what each element stops), `schedules` (both orders
-//! with the stops). What the order is, and what stops, is defined in `UrgencyOrders` and `Stops` of `bsv_graph`; the
-//! answers of `urgency` stand in `specs/Answers.antt`. The other files of `specs/` say how the code goes about it; no
+//! (the order), `laws` (there is one answer), `places` (the places of elements in an order), `stops` (what each element
+//! stops), `schedules` (both orders, with the stops). The order, its faults and the stops are defined in
+//! `specs/UrgencyOrders.antt` and `specs/Stops.antt` of `bsv_graph`; `specs/Answers.antt` says which answer tells which
+//! fault. `specs/Samples.antt` is what the tests make. The other files of `specs/` say how the code goes about it; no
 //! promise rests on them.
 #![tactic(auto)]
 
 mod behind;
 mod fault;
+mod laws;
 mod order;
 mod places;
 mod schedules;
@@ -17,5 +19,6 @@ mod stops;
 mod tests;
 
 pub use fault::UrgencyFault;
-pub use order::{one_urgency, urgency};
+pub use laws::one_urgency;
+pub use order::urgency;
 pub use schedules::schedule;

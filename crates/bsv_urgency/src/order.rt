@@ -1,13 +1,13 @@
-ghost use Rattle.std.specs.Prelude.{◌≡◌, ◌<◌, ℕ, List, length, Some, slice_get, IfOk, IfErr};
-ghost use Rattle.bsv_design.specs.declared.design.Design.{Design};
+ghost use Rattle.std.specs.Prelude.{◌≡◌, ◌<◌, ℕ, List, length, Some, slice_get, Result, IfOk, IfErr};
 ghost use Rattle.bsv_design.specs.declared.tree.Pair.{Pair};
 ghost use Rattle.bsv_graph.specs.Elements.{is_urging, edges_of};
 ghost use Rattle.bsv_graph.specs.Relating.{feed_edges};
 ghost use Rattle.bsv_graph.specs.Relations.{relating_of};
 ghost use Rattle.bsv_graph.specs.UrgencyOrders.{Urges};
 ghost use Rattle.bsv_graph.specs.Walks.{IsAcyclic};
-ghost use Rattle.bsv_urgency.specs.declared.fault.UrgencyFault.TheVariants as fault;
-ghost use Rattle.bsv_urgency.specs.Answers.{Declines, design_relating, urging_pairs};
+ghost use Rattle.bsv_urgency.specs.declared.fault.UrgencyFault.{UrgencyFault};
+ghost use Rattle.bsv_urgency.specs.declared.fault.UrgencyFault.TheVariants as told;
+ghost use Rattle.bsv_urgency.specs.Answers.{Refuses, IsAnswer, IsGivenUnlessMemory, design_relating, urging_pairs};
 ghost use Rattle.bsv_urgency.specs.Stages.{HasUrging};
 
 use crate::behind::method_behind_rule;
@@ -32,7 +32,7 @@ fn urging_pair(pairs: &[Pair], place: usize) -> Option<Pair>
 fn cycle_at(pairs: &[Pair], place: usize) -> UrgencyFault
     requires { place < length (urging_pairs pairs.now) }
     ensures { (p : Pair)
-        × (slice_get (urging_pairs pairs.now) place ≡ Some p) × (result ≡ fault.UrgencyCycle p) }
+        × (slice_get (urging_pairs pairs.now) place ≡ Some p) × (result ≡ told.UrgencyCycle p) }
 {
     match urging_pair(pairs, place) {
         Some(pair) => UrgencyFault::UrgencyCycle(pair),
@@ -49,7 +49,7 @@ fn graph_of_urgency(
     requires feeds { IsAcyclic (feed_edges (relating_of relations.now)) }
     requires pairs { (relating_of relations.now).urging ≡ edges_of is_urging pairs.now }
     ensures ok { IfOk result (λ g. HasUrging (relating_of relations.now) g) }
-    ensures err { IfErr result (λ e. Declines (relating_of relations.now) pairs.now e) }
+    ensures err { IfErr result (λ e. Refuses (relating_of relations.now) pairs.now e) }
 {
     let mut graph = Graph::new(alloc, relations.count())?;
     let feeds = relations.feed_edges(alloc)?;
@@ -69,7 +69,7 @@ fn order_of(
     requires feeds { IsAcyclic (feed_edges (relating_of relations.now)) }
     requires pairs { (relating_of relations.now).urging ≡ edges_of is_urging pairs.now }
     ensures ok { IfOk result (λ order. Urges (relating_of relations.now) order) }
-    ensures err { IfErr result (λ e. Declines (relating_of relations.now) pairs.now e) }
+    ensures err { IfErr result (λ e. Refuses (relating_of relations.now) pairs.now e) }
 {
     let graph = graph_of_urgency(alloc, pairs, relations)?;
     let order = graph.least_order(alloc)?;
@@ -79,19 +79,17 @@ fn order_of(
     }
 }
 
-/// The urgency order of the design's elements, or the first reason why there is none.
+/// The urgency order of the elements: the least list, compared by positions, that respects the feeds and the pairs of
+/// `descending_urgency` and `preempts`.
 pub fn urgency(alloc: Global, design: &Design) -> Result<Items<u32>, UrgencyFault>
     requires { IsAcyclic (feed_edges (design_relating design.now)) }
     ensures accepted { IfOk result (λ order. Urges (design_relating design.now) order) }
     ensures refused { IfErr result
-        (λ e. Declines (design_relating design.now) design.now.pairs e) }
+        (λ fault. Refuses (design_relating design.now) design.now.pairs fault) }
+    ensures exact { (answer : Result (List ℕ) UrgencyFault)
+        → IsAnswer (design_relating design.now) design.now.pairs answer
+        → IsGivenUnlessMemory result answer }
 {
     let relations = Relations::new(alloc, design)?;
     order_of(alloc, design.pairs.as_slice(), &relations)
 }
-
-/// A design has at most one urgency order.
-pub fn one_urgency()
-    ensures { (d : Design) (xs ys : List ℕ)
-        → Urges (design_relating d) xs → Urges (design_relating d) ys → xs ≡ ys }
-{}

@@ -48,10 +48,7 @@ fn the_order_and_the_stops(rt: HostRuntime) -> Result<(), Fail> {
     let alloc = rt.alloc();
     let design = two_rules(alloc)?;
     let execution = Items::from_slice(alloc, &[0, 1])?;
-    let order = match urgency(alloc, &design) {
-        Ok(order) => order,
-        Err(_) => panic!(rt; "there is an order"),
-    };
+    let order = urgency(alloc, &design)?;
     let made = schedule(alloc, &design, execution, order)?;
     assert_eq!(rt; made.execution.as_slice(), [0, 1].as_slice());
     assert_eq!(rt; made.urgency.as_slice(), [1, 0].as_slice());
