@@ -8,8 +8,9 @@ use Rattle.bsv_design.specs.declared.element.Condition.{Condition}
 use Rattle.bsv_design.specs.declared.element.Element.{Element}
 use Rattle.bsv_design.specs.declared.schedule.Schedule.{Schedule}
 use Rattle.bsv_design.specs.declared.tree.Pair.{Pair}
+use Rattle.bsv_design.specs.Guards.{needs_of}
 use Rattle.bsv_design.specs.Relations.{KeepsTheRule, sites_of}
-use Rattle.bsv_design.specs.Schemes.{Scheme, design_scheme, tree_scheme}
+use Rattle.bsv_design.specs.Schemes.{Scheme, AreAlike, design_scheme, kinds_of, tree_scheme}
 use Rattle.bsv_design.specs.Seen.{blueprint}
 use Rattle.bsv_design.specs.Sources.{parts_among}
 use Rattle.bsv_design.specs.Traces.{Site, Demand, with_dot}
@@ -27,8 +28,11 @@ use Rattle.bsv_urgency.specs.declared.fault.UrgencyFault.TheVariants as urgency
 use Rattle.bsv_urgency.specs.Answers.{Declines}
 use Rattle.bsv_attr.specs.Asserting.{IsAccepted, NamesImplicit, NamesStopper}
 use Rattle.bsv_attr.specs.Implicit.{demands_of}
+use Rattle.bsv_guard.specs.Lifted.{AreLifted}
+use Rattle.bsv_inline.specs.Flattening.{top_name}
 use Rattle.bsv_flow.specs.declared.refusal.Refusal.{Refusal}
 use Rattle.bsv_flow.specs.declared.refusal.Refusal.TheVariants as refusal
+use Rattle.bsv_flow.specs.declared.scheduling.Compiled.{Compiled}
 use Rattle.bsv_flow.specs.Attributes.{attribute_word}
 use Rattle.bsv_flow.specs.Breaches.{element_name, part_path, method_name, or_no_name, TellsBreach}
 
@@ -150,3 +154,13 @@ pub data Unscheduled (h : Hierarchy) (r : Refusal) : Type 0 where
       → IsUnurged (subject h) r → Unscheduled h r
   asserting : ((n : ℕ) → KeepsTheRule (tree_scheme h) n) → (made : Schedule) → IsOrdered (subject h) made
       → IsUnasserted (subject h) made r → Unscheduled h r
+
+-- ---- what was compiled
+
+-- the design is that of the tree, with the guards that its calls need
+pub record IsCompiledOf (h : Hierarchy) (c : Compiled) : Type 0 where
+  pub alike : AreAlike (tree_scheme h) (design_scheme (blueprint c.design))
+  pub name : top_name h ≡ Some c.design.name
+  pub parts : c.design.parts ≡ parts_among h.instances
+  pub needs : c.guards.needs ≡ needs_of (kinds_of (blueprint c.design)) c.design.elements
+  pub lifted : AreLifted (blueprint c.design) c.guards.needs

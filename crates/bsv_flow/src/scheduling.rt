@@ -102,6 +102,7 @@ fn urgency_refusal(
 }
 
 /// The name of a condition or a call of an element, by its place.
+#[tactic(auto, using(crate::proofs::Scheduled::of_condition, crate::proofs::Scheduled::of_call))]
 fn text_at(
     alloc: Global,
     parts: &[NamedPart],
@@ -253,12 +254,13 @@ fn asserted(alloc: Global, design: &Design, schedule: &Schedule) -> Result<(), C
 
 /// The design of a tree with its guards and its schedule, or the first refusal of two calls of one element,
 /// of the two orders, or of the marks of rules.
+#[tactic(auto, using(crate::proofs::Scheduled::compiled_of, crate::proofs::Scheduled::scheduled_of, crate::proofs::Scheduled::unexecuted, crate::proofs::Scheduled::unurged, crate::proofs::Scheduled::unasserted, crate::proofs::Scheduled::order_of))]
 pub fn scheduled<R: Threads + Sync>(
     rt: &R,
     alloc: Global,
     tree: &Tree,
 ) -> Result<Compiled, CompileFault>
-    ensures compiled { IfOk result (λ c. spec.IsCompiled (hierarchy tree.now) c) }
+    ensures compiled { IfOk result (λ c. spec.IsCompiledOf (hierarchy tree.now) c) }
     ensures scheduled { IfOk result (λ c.
         IsScheduled (subject (hierarchy tree.now)) c.schedule) }
     ensures refused { (r : TheRefusal) → result ≡ Err (Refused r)
