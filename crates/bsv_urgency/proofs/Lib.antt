@@ -1,0 +1,5 @@
+pub mod BehindLemmas
+pub mod PlaceLemmas
+pub mod UrgencyLemmas
+pub mod Sampled
+pub mod AnswerLemmas

@@ -1,0 +1,6 @@
+pub mod Answers
+pub mod Acting
+pub mod Stages
+pub mod Placed
+pub mod Placing
+pub mod Samples
