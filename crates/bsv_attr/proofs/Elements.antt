@@ -1,0 +1,100 @@
+-- From the elements of a design to its scheme.
+use Rattle.std.proofs.Common.{◌≡◌, ◌∙◌, ℕ, ◌<◌, ◌^◌, ◌+◌, ◌&&◌, Bool, true, false, List, [], ◌∷◌, ◌++◌, map, length, get_or, Some, None, refl, ap, subst, IsTrue, zero, suc, ltb-true, nat_lt}
+use Rattle.std.specs.Prelude.{slice_get, Option, option_map}
+use Rattle.std.specs.List.{list_all}
+use Rattle.std.proofs.Math.Logic.{∥∥₁_elim}
+use Rattle.std.proofs.Math.Bool.{Bool-set}
+use Rattle.std.proofs.lemmas.Bool.{lt-ltb}
+use Rattle.std.proofs.lemmas.Option.{same_Some, slice_get-map, slice_get_read, slice_get_within}
+use Rattle.bsv_bits.specs.Words.{Bits}
+use Rattle.bsv_design.specs.declared.design.Design.{Design}
+use Rattle.bsv_design.specs.declared.design.NamedPart.{NamedPart}
+use Rattle.bsv_design.specs.declared.element.Call.{Call}
+use Rattle.bsv_design.specs.declared.element.Element.{Element}
+use Rattle.bsv_design.specs.Bodies.{words}
+use Rattle.bsv_design.specs.Designs.{Blueprint, IsDesign, IsRuleIn}
+use Rattle.bsv_design.specs.Relations.{no_answers}
+use Rattle.bsv_design.specs.Schemes.{design_scheme, kinds_of, trace_of, ports_of, filled}
+use Rattle.bsv_design.specs.Seen.{blueprint}
+use Rattle.bsv_design.specs.Traces.{Trace, body_trace, site_at, demand_at}
+use Rattle.bsv_design.specs.Widths.{call_fits, method_fits, has_width}
+use Rattle.bsv_attr.specs.Calling.{is_countable, names_method, names_method_of, condition_named, implicit_places}
+use Rattle.bsv_attr.specs.Implicit.{are_implicit, has_name, has_guard}
+use Rattle.bsv_attr.specs.Marks.{IsMarked}
+
+both_left : (a b : Bool) → (a && b) ≡ true → a ≡ true
+both_left true b h = refl
+both_left false b h = h
+
+both_right : (a b : Bool) → (a && b) ≡ true → b ≡ true
+both_right true b h = h
+both_right false b h = absurd cc
+
+-- ---- what holds of each design
+
+fits_names : (o : Option NamedPart) (ws : List ℕ) (c : Call) → method_fits (option_map (λ p. p.kind) o) ws c ≡ true → names_method_of o c.method ≡ true
+fits_names None ws c h = h
+fits_names (Some p) ws c h = both_left _ _ h
+
+fit_named : (ps : List NamedPart) (ws : List ℕ) (cs : List Call) → list_all (call_fits (map (λ p. p.kind) ps) ws) cs ≡ true → list_all (names_method ps) cs ≡ true
+fit_named ps ws [] h = refl
+fit_named ps ws (c ∷ cs) h =
+    let kinds = map (λ (p : NamedPart). p.kind) ps in
+    let here : method_fits (slice_get kinds c.part) ws c ≡ true = both_right (has_width (slice_get ws c.taken) 1) _ (both_left _ _ h) in
+    let named : names_method ps c ≡ true =
+    fits_names (slice_get ps c.part) ws c (subst (λ o. method_fits o ws c ≡ true) (slice_get-map (λ (p : NamedPart). p.kind) ps c.part) here) in
+    ap (λ b. b && list_all (names_method ps) cs) named ∙ fit_named ps ws cs (both_right (call_fits kinds ws c) _ h)
+
+pub calls_named : (d : Design) (n : ℕ) (e : Element) → slice_get d.elements n ≡ Some e → IsTrue (list_all (names_method d.parts) e.calls)
+calls_named d n e at =
+    ∥∥₁_elim d.right (Bool-set _ _) (λ (right : IsDesign (blueprint d)). fit_named _ _ e.calls (right.elements n e at).fits.calls)
+
+pub few_elements : (d : Design) → length d.elements < 2 ^ 32
+few_elements d =
+    let few : nat_lt (length d.elements) (2 ^ 32) ≡ true = ∥∥₁_elim d.right (Bool-set _ _) (λ (right : IsDesign (blueprint d)). right.few_elements) in
+    ltb-true _ _ few
+
+test_lt : (m n : ℕ) → m < n → nat_lt m n ≡ true
+test_lt = lt-ltb
+
+rule_within : (es : List Element) (n : ℕ) → IsRuleIn es n → nat_lt n (length es) ≡ true
+rule_within es n r = test_lt n (length es) (slice_get_within es n r.element r.at)
+
+-- marks are of elements
+pub marked_within : (d : Design) (fires : Bool) (n : ℕ) → IsMarked d.asserts fires n → n < length d.elements
+marked_within d fires n m =
+    let within : nat_lt n (length d.elements) ≡ true =
+    ∥∥₁_elim d.right (Bool-set _ _) (λ (right : IsDesign (blueprint d)). rule_within d.elements n (subst (IsRuleIn d.elements) m.is.rule (right.asserts m.place m.mark m.at))) in
+    ltb-true _ _ within
+
+few_at : (es : List Element) (n : ℕ) (e : Element) → list_all is_countable es ≡ true → slice_get es n ≡ Some e → is_countable e ≡ true
+few_at [] n e h at = absurd cc
+few_at (x ∷ es) zero e h at = subst (λ y. is_countable y ≡ true) (same_Some x e at) (both_left (is_countable x) _ h)
+few_at (x ∷ es) (suc n) e h at = few_at es n e (both_right (is_countable x) _ h) at
+
+pub few_places : (d : Design) (n : ℕ) (e : Element) → IsTrue (list_all is_countable d.elements) → slice_get d.elements n ≡ Some e → length e.conditions + length e.calls < 2 ^ 32
+few_places d n e h at = ltb-true _ _ (few_at d.elements n e h at)
+
+pub element_in : (d : Design) (xs : List Element) (n : ℕ) (e : Element) → xs ≡ d.elements → n < length xs → e ≡ get_or xs n e → slice_get d.elements n ≡ Some e
+element_in d xs n e are within is = subst (λ ys. slice_get ys n ≡ Some e) are (slice_get_read xs _ n e refl within is)
+
+-- ---- what is implicit
+
+map_both : {A B C : Type 0} (f : B → C) (g : A → B) (xs : List A) → map f (map g xs) ≡ map (λ x. f (g x)) xs
+map_both f g [] = refl
+map_both f g (x ∷ xs) = ap (λ ys. f (g x) ∷ ys) (map_both f g xs)
+
+pub of_body : (ps : List NamedPart) (e : Element) (ws : List Bits)
+    → map has_name (map (demand_at ws) e.conditions) ++ map (has_guard (map (λ p. p.kind) ps)) (map (site_at (map (λ p. p.kind) ps) ws) e.calls) ≡ implicit_places ps e
+of_body ps e ws =
+    let ks = map (λ (p : NamedPart). p.kind) ps in
+    ap (λ xs. xs ++ map (has_guard ks) (map (site_at ks ws) e.calls)) (map_both has_name (demand_at ws) e.conditions)
+    ∙ ap (λ xs. map condition_named e.conditions ++ xs) (map_both (has_guard ks) (site_at ks ws) e.calls)
+
+pub implicit_is : (b : Blueprint) (n : ℕ) (e : Element) → slice_get b.elements n ≡ Some e → are_implicit (design_scheme b) n ≡ implicit_places b.parts e
+unfolding are_implicit design_scheme body_trace
+implicit_is b n e at =
+    let ks = kinds_of b in
+    let ws = filled (ports_of (slice_get (design_scheme b).elements n)) [] in
+    ap (λ o. let t : Trace = trace_of ks o no_answers ws in map has_name t.demands ++ map (has_guard ks) t.sites) at
+    ∙ of_body b.parts e (words e no_answers ws)

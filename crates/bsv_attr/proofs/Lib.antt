@@ -1,0 +1,8 @@
+pub mod Truths
+pub mod Stoppers
+pub mod Elements
+pub mod Rules
+pub mod Asserted
+pub mod Attributes
+pub mod Alike
+pub mod SampleDesign

@@ -1,0 +1,52 @@
+ghost use Rattle.std.specs.Prelude.{◌↔◌, ℕ};
+ghost use Rattle.bsv_attr.specs.Asserting.{IsAccepted, NamesImplicit, NamesStopper};
+ghost use Rattle.bsv_attr.specs.Obeying.{Obeys};
+ghost use Rattle.bsv_graph.specs.Elements.{relating};
+ghost use Rattle.bsv_attr.specs.Stopping.{ListStops};
+ghost use Rattle.bsv_design.specs.declared.schedule.Schedule.{Schedule};
+ghost use Rattle.bsv_design.specs.Designs.{Blueprint};
+ghost use Rattle.bsv_design.specs.Schemes.{Scheme, AreAlike, design_scheme};
+ghost use Rattle.bsv_graph.specs.ExecutionOrders.{ExecutionOrder};
+ghost use Rattle.bsv_graph.specs.Orders.{In};
+ghost use Rattle.bsv_graph.specs.Relating.{Relating, Agrees};
+ghost use Rattle.bsv_graph.specs.Stops.{Stops, AreStops};
+ghost use Rattle.bsv_graph.specs.UrgencyOrders.{UrgencyOrder};
+
+use bsv_graph::obeyed as pairs_obeyed;
+
+/// Where the lists of a schedule have what each element stops, an element is in the list of another exactly where that
+/// one stops it.
+pub fn listed()
+    ensures { (r : Relating) (s : Schedule) (f n : ℕ) → Agrees r → UrgencyOrder r s.urgency
+        → AreStops r s.execution s.urgency s.stops
+        → (In s.urgency f × ListStops s.stops f n) ↔ Stops r s.execution s.urgency f n }
+{
+    pairs_obeyed();
+}
+
+/// The schedule of a design obeys the attributes, where both orders are the design's, its lists have what each element
+/// stops, and the asserting attributes are accepted.
+pub fn obeyed()
+    ensures { (b : Blueprint) (s : Schedule) → Agrees (relating (design_scheme b))
+        → ExecutionOrder (relating (design_scheme b)) s.execution
+        → UrgencyOrder (relating (design_scheme b)) s.urgency
+        → AreStops (relating (design_scheme b)) s.execution s.urgency s.stops
+        → IsAccepted (design_scheme b) s → Obeys (design_scheme b) s }
+{
+    pairs_obeyed();
+}
+
+/// A schedule that obeys the attributes of a scheme obeys those of a scheme that does the same.
+pub fn same_obeyed()
+    ensures { (S T : Scheme) (s : Schedule) → AreAlike S T → Obeys T s → Obeys S s }
+{}
+
+/// What the asserting attributes refuse in a scheme they refuse in a scheme that does the same.
+pub fn same_asserted()
+    ensures accepted { (S T : Scheme) (s : Schedule) → AreAlike S T
+        → IsAccepted S s ↔ IsAccepted T s }
+    ensures no_implicit { (S T : Scheme) (r place : ℕ) → AreAlike S T
+        → NamesImplicit S r place ↔ NamesImplicit T r place }
+    ensures fires { (S T : Scheme) (s : Schedule) (r f : ℕ) → AreAlike S T
+        → NamesStopper S s r f ↔ NamesStopper T s r f }
+{}
