@@ -14,7 +14,7 @@ use Rattle.bsv_attr.specs.Asserting.{IsExplicit, IsUnstopped, IsAccepted, NamesI
 use Rattle.bsv_attr.specs.Implicit.{are_implicit, has_name, has_guard, IsFirstTrue, NoneTrue}
 use Rattle.bsv_attr.specs.Marks.{IsMarked, IsPaired}
 use Rattle.bsv_attr.specs.Obeying.{StopsIn, own, Obeys}
-use Rattle.bsv_attr.specs.Related.{relating}
+use Rattle.bsv_graph.specs.Elements.{relating}
 
 -- ---- stops
 

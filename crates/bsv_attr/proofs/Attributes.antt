@@ -33,7 +33,7 @@ use Rattle.bsv_attr.specs.Calling.{condition_named, call_guarded, implicit_place
 use Rattle.bsv_attr.specs.Implicit.{NoneTrue, are_implicit}
 use Rattle.bsv_attr.specs.Marks.{IsPaired}
 use Rattle.bsv_attr.specs.Obeying.{StopsIn, OthersAreStopped, own, Obeys}
-use Rattle.bsv_attr.specs.Related.{relating, edge_of, edges_of, is_ordering, is_urging, is_preempting, preempts}
+use Rattle.bsv_graph.specs.Elements.{relating, edge_of, edges_of, is_ordering, is_urging, is_preempting, preempts}
 use Rattle.bsv_attr.specs.Stopping.{ListStops}
 use Rattle.bsv_attr.proofs.Elements.{implicit_is}
 use Rattle.bsv_attr.proofs.Stoppers.{in_cases}

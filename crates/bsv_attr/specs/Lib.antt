@@ -1,4 +1,3 @@
-pub mod Related
 pub mod Marks
 pub mod Implicit
 pub mod Stopping

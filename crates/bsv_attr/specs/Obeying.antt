@@ -9,7 +9,7 @@ use Rattle.bsv_graph.specs.Orders.{In, StandsBefore}
 use Rattle.bsv_graph.specs.Stops.{Stops}
 use Rattle.bsv_attr.specs.Implicit.{has_name}
 use Rattle.bsv_attr.specs.Marks.{IsMarked, IsPaired}
-use Rattle.bsv_attr.specs.Related.{relating}
+use Rattle.bsv_graph.specs.Elements.{relating}
 
 -- a stops b in the schedule
 abbrev pub StopsIn : Scheme → Schedule → ℕ → ℕ → Type 0

@@ -1,7 +1,7 @@
 ghost use Rattle.std.specs.Prelude.{◌↔◌, ℕ};
 ghost use Rattle.bsv_attr.specs.Asserting.{IsAccepted, NamesImplicit, NamesStopper};
 ghost use Rattle.bsv_attr.specs.Obeying.{Obeys};
-ghost use Rattle.bsv_attr.specs.Related.{relating};
+ghost use Rattle.bsv_graph.specs.Elements.{relating};
 ghost use Rattle.bsv_attr.specs.Stopping.{ListStops};
 ghost use Rattle.bsv_design.specs.declared.schedule.Schedule.{Schedule};
 ghost use Rattle.bsv_design.specs.Designs.{Blueprint};

@@ -6,3 +6,4 @@ pub mod OrderedLemmas
 pub mod UsesLemmas
 pub mod DesignLemmas
 pub mod RelationsLemmas
+pub mod NothingLemmas
