@@ -13,3 +13,4 @@ pub mod Trees
 pub mod Yielded
 pub mod Flattened
 pub mod FirstBreaches
+pub mod ScheduledTrees

@@ -7,4 +7,3 @@ abbrev pub attribute_word : Attribute → List ℕ
 attribute_word attribute.DescendingUrgency = codes "descending_urgency"
 attribute_word attribute.ExecutionOrder = codes "execution_order"
 attribute_word attribute.Preempts = codes "preempts"
-

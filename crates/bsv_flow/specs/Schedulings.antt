@@ -25,7 +25,7 @@ use Rattle.bsv_order.specs.declared.fault.OrderFault.TheVariants as order
 use Rattle.bsv_order.specs.Answers.{Refuses}
 use Rattle.bsv_urgency.specs.declared.fault.UrgencyFault.{UrgencyFault}
 use Rattle.bsv_urgency.specs.declared.fault.UrgencyFault.TheVariants as urgency
-use Rattle.bsv_urgency.specs.Answers.{Declines}
+use Rattle.bsv_urgency.specs.Answers.{Refuses as Declines}
 use Rattle.bsv_attr.specs.Asserting.{IsAccepted, NamesImplicit, NamesStopper}
 use Rattle.bsv_attr.specs.Implicit.{demands_of}
 use Rattle.bsv_guard.specs.Lifted.{AreLifted}

@@ -25,6 +25,6 @@ pub use building::{one_building, tree};
 pub use flattening::flat;
 pub use loading::{Loaded, load, one_loading};
 pub use refusal::{CompileFault, Refusal};
-pub use scheduling::{Compiled, compile, scheduled};
+pub use scheduling::{Compiled, scheduled};
 pub use source::Source;
 pub use typing::{one_typing, typed};

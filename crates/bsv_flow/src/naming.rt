@@ -55,4 +55,3 @@ pub(crate) fn method_name(parts: &[NamedPart], part: u32, method: u32) -> &[u8]
         None => b"",
     }
 }
-

@@ -1,7 +1,5 @@
-ghost use Rattle.std.specs.Prelude.{◌≡◌, ℕ, List, Some, Err, IfOk, OnOk, IsTrue, slice_get};
-ghost use Rattle.std.specs.List.{list_all};
+ghost use Rattle.std.specs.Prelude.{◌≡◌, ℕ, List, Some, Err, IfOk, OnOk, slice_get};
 ghost use Rattle.bsv_attr.specs.Asserting.{IsAccepted};
-ghost use Rattle.bsv_attr.specs.Calling.{is_countable};
 ghost use Rattle.bsv_design.specs.Schemes.{design_scheme};
 ghost use Rattle.bsv_design.specs.Seen.{blueprint, hierarchy};
 ghost use Rattle.bsv_graph.specs.ExecutionOrders.{Executes};
@@ -17,7 +15,7 @@ ghost use Rattle.bsv_flow.specs.declared.refusal.Refusal.{Refusal as TheRefusal}
 use crate::flattening::flat;
 use crate::naming::{attribute_word, element_name, method_name, part_path};
 use crate::refusal::{CompileFault, Refusal};
-use bsv_attr::{AttrFault, asserts};
+use bsv_attr::{AttrFault, asserts, is_countable};
 use bsv_bits::{Name, OutOfMemory};
 use bsv_design::{Design, Element, Guards, NamedPart, Pair, Schedule, Tree};
 use bsv_inline::path_of;
@@ -55,11 +53,7 @@ fn paired(alloc: Global, design: &Design, pair: Pair) -> Result<(Name, Name, Nam
 }
 
 /// The refusal that a fault of the execution order tells.
-fn order_refusal(
-    alloc: Global,
-    design: &Design,
-    fault: OrderFault,
-) -> Result<Refusal, OutOfMemory>
+fn order_refusal(alloc: Global, design: &Design, fault: OrderFault) -> Result<Refusal, OutOfMemory>
     ensures { IfOk result (λ r. spec.order_told (design_subject design.now) fault ≡ Some r) }
 {
     match fault {
@@ -102,7 +96,7 @@ fn urgency_refusal(
 }
 
 /// The name of a condition or a call of an element, by its place.
-#[tactic(auto, using(crate::proofs::Scheduled::of_condition, crate::proofs::Scheduled::of_call))]
+#[tactic(auto, using(crate::proofs::ScheduledTrees::of_condition, crate::proofs::ScheduledTrees::of_call))]
 fn text_at(
     alloc: Global,
     parts: &[NamedPart],
@@ -153,7 +147,7 @@ fn call_text(
 }
 
 /// The refusal of an implicit condition.
-#[tactic(auto, using(crate::proofs::Scheduled::implicit_same))]
+#[tactic(auto, using(crate::proofs::ScheduledTrees::implicit_same))]
 fn implicit_refusal(
     alloc: Global,
     design: &Design,
@@ -203,6 +197,7 @@ fn executed<R: Threads + Sync>(
 }
 
 /// The urgency order of a design.
+#[tactic(auto, using(crate::proofs::ScheduledTrees::declined))]
 fn urged(alloc: Global, design: &Design) -> Result<Items<u32>, CompileFault>
     requires { IsAcyclic (feed_edges (related (design_subject design.now))) }
     ensures urges { IfOk result (λ order. Urges (related (design_subject design.now)) order) }
@@ -216,22 +211,8 @@ fn urged(alloc: Global, design: &Design) -> Result<Items<u32>, CompileFault>
     }
 }
 
-/// Whether each element has few enough conditions and calls for a number to name each.
-fn are_countable(elements: &[Element]) -> bool
-    ensures { result ≡ list_all is_countable elements.now }
-{
-    let mut rest = elements;
-    while let Some((element, after)) = rest.split_first() {
-        let places = element.conditions.len().checked_add(element.calls.len());
-        if !places.is_some_and(|count| count < 4_294_967_296) {
-            return false;
-        }
-        rest = after;
-    }
-    true
-}
-
 /// The marks of rules hold in a schedule.
+#[tactic(auto, using(crate::proofs::ScheduledTrees::unasserted_implicit, crate::proofs::ScheduledTrees::unasserted_stopped))]
 fn asserted(alloc: Global, design: &Design, schedule: &Schedule) -> Result<(), CompileFault>
     ensures accepted { OnOk result
         (IsAccepted (design_scheme (blueprint design.now)) schedule.now) }
@@ -239,22 +220,25 @@ fn asserted(alloc: Global, design: &Design, schedule: &Schedule) -> Result<(), C
         → IsUnasserted (design_subject design.now) schedule.now r }
     ensures own { (name : List ℕ) → result ≡ Err (ReadFault name) → ⊥ }
 {
-    if !are_countable(design.elements.as_slice()) {
+    if !is_countable(design) {
         return Err(CompileFault::OutOfMemory);
     }
-    let refusal = match asserts(design, schedule) {
-        Ok(()) => return Ok(()),
-        Err(AttrFault::NoImplicit(rule, place)) => implicit_refusal(alloc, design, rule, place)?,
-        Err(AttrFault::FireWhenEnabled(rule, element)) => {
-            stopper_refusal(alloc, design, rule, element)?
+    match asserts(design, schedule) {
+        Ok(()) => Ok(()),
+        Err(AttrFault::NoImplicit(rule, place)) => {
+            let refusal = implicit_refusal(alloc, design, rule, place)?;
+            Err(CompileFault::Refused(refusal))
         }
-    };
-    Err(CompileFault::Refused(refusal))
+        Err(AttrFault::FireWhenEnabled(rule, element)) => {
+            let refusal = stopper_refusal(alloc, design, rule, element)?;
+            Err(CompileFault::Refused(refusal))
+        }
+    }
 }
 
 /// The design of a tree with its guards and its schedule, or the first refusal of two calls of one element,
 /// of the two orders, or of the marks of rules.
-#[tactic(auto, using(crate::proofs::Scheduled::compiled_of, crate::proofs::Scheduled::scheduled_of, crate::proofs::Scheduled::unexecuted, crate::proofs::Scheduled::unurged, crate::proofs::Scheduled::unasserted, crate::proofs::Scheduled::order_of))]
+#[tactic(auto, using(crate::proofs::ScheduledTrees::compiled_of, crate::proofs::ScheduledTrees::scheduled_of, crate::proofs::ScheduledTrees::unexecuted, crate::proofs::ScheduledTrees::unurged, crate::proofs::ScheduledTrees::unasserted, crate::proofs::ScheduledTrees::executed_order, crate::proofs::ScheduledTrees::urged_order))]
 pub fn scheduled<R: Threads + Sync>(
     rt: &R,
     alloc: Global,
