@@ -1,6 +1,6 @@
 ghost use Rattle.std.specs.Prelude.{◌≡◌};
 
-use crate::{Edge, Graph, Table, marked_edges, obeyed, one_order, ordered};
+use crate::{Edge, Graph, Table, answered, marked_edges, obeyed, one_order, ordered};
 use std::process::Abort;
 use std::test::Fail;
 
@@ -47,6 +47,7 @@ fn the_least_order(rt: HostRuntime) -> Result<(), Fail> {
     one_order();
     ordered();
     obeyed();
+    answered();
     let alloc = rt.alloc();
     let mut graph = Graph::new(alloc, 4)?;
     graph.join_kept(&[edge(3, 1), edge(2, 0), edge(1, 3)]);
