@@ -4,7 +4,19 @@ ghost use Rattle.bsv_design.specs.Kinds.{kind_table};
 use crate::meeting::meet;
 use crate::related::Relation;
 use crate::uses::usage_of;
-use crate::{Edge, Graph, Relations, Table, feeds, goes, marked_edges, obeyed, one_order, ordered};
+use crate::{
+    Edge,
+    Graph,
+    Relations,
+    Table,
+    answered,
+    feeds,
+    goes,
+    marked_edges,
+    obeyed,
+    one_order,
+    ordered,
+};
 use bsv_bits::Name;
 use bsv_design::{Call, Design, Kind, NamedPart};
 use bsv_prim::WireKind;
@@ -60,6 +72,7 @@ fn the_least_order(rt: HostRuntime) -> Result<(), Fail> {
     one_order();
     ordered();
     obeyed();
+    answered();
     let alloc = rt.alloc();
     let mut graph = Graph::new(alloc, 4)?;
     graph.join_kept(&[edge(3, 1), edge(2, 0), edge(1, 3)]);
