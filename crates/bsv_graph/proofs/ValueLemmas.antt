@@ -37,7 +37,7 @@ value_is r a b h = go (r.value a) refl h
 
 -- an element that is no value method has no edges of the second case
 module _ (r : Relating) (v : ℕ) (other : r.value v ≡ false) where
-  pub value_down : (a b : ℕ) → IsTrue (is_value_edge r (suc v) a b) → IsTrue (is_value_edge r v a b)
+  value_down : (a b : ℕ) → IsTrue (is_value_edge r (suc v) a b) → IsTrue (is_value_edge r v a b)
   value_down a b h =
       let t = and_both (is_one_value r a b && goes_only r a b) (nat_lt (value_of r a b) (suc v)) h in
       let u = and_both (is_one_value r a b) (goes_only r a b) t.0 in
@@ -47,7 +47,7 @@ module _ (r : Relating) (v : ℕ) (other : r.value v ≡ false) where
             t.0 (lt_true (value_of r a b) v (omega (arith, ne, true_lt (value_of r a b) (suc v) t.1)))
       ]
 
-  early_down : (a b : ℕ) → HasEdge (early_edges r (suc v)) a b → HasEdge (early_edges r v) a b
+  pub early_down : (a b : ℕ) → HasEdge (early_edges r (suc v)) a b → HasEdge (early_edges r v) a b
   early_down a b h = elim (edge_parts (value_edges r (suc v)) (feed_edges r) a b h) [
     | inl k ↦ let t = where_of (is_value_edge r (suc v)) r.count a b k in
         edge_left (value_edges r v) (feed_edges r) a b (where_has (is_value_edge r v) r.count a b t.0 t.1 (value_down a b t.2))
@@ -55,12 +55,12 @@ module _ (r : Relating) (v : ℕ) (other : r.value v ≡ false) where
   ]
 
 -- at first there are the feeds alone
-pub value_zero : (r : Relating) (a b : ℕ) → IsTrue (is_value_edge r 0 a b) → ⊥
+value_zero : (r : Relating) (a b : ℕ) → IsTrue (is_value_edge r 0 a b) → ⊥
 value_zero r a b h =
     let t = and_both (is_one_value r a b && goes_only r a b) (nat_lt (value_of r a b) 0) h in
     absurd (omega (arith, true_lt (value_of r a b) 0 t.1))
 
-early_zero : (r : Relating) (a b : ℕ) → HasEdge (early_edges r 0) a b → HasEdge (feed_edges r) a b
+pub early_zero : (r : Relating) (a b : ℕ) → HasEdge (early_edges r 0) a b → HasEdge (feed_edges r) a b
 early_zero r a b h = elim (edge_parts (value_edges r 0) (feed_edges r) a b h) [
   | inl k ↦ absurd (value_zero r a b (where_of (is_value_edge r 0) r.count a b k).2)
   | inr k ↦ k
