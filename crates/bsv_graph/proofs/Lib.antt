@@ -10,3 +10,4 @@ pub mod Answering
 pub mod UsesLemmas
 pub mod DesignLemmas
 pub mod RelationsLemmas
+pub mod NothingLemmas

@@ -1,8 +1,23 @@
-ghost use Rattle.std.specs.Prelude.{◌≡◌};
+ghost use Rattle.std.specs.Prelude.{◌≡◌, IfOk};
+ghost use Rattle.bsv_design.specs.Kinds.{kind_table};
 
-use crate::{Edge, Graph, Table, answered, marked_edges, obeyed, one_order, ordered};
+use crate::meeting::meet;
+use crate::related::Relation;
+use crate::uses::usage_of;
+use crate::{
+    Edge, Graph, Relations, Table, answered, feeds, goes, marked_edges, obeyed, one_order, ordered,
+};
+use bsv_bits::Name;
+use bsv_design::{Call, Design, Kind, NamedPart};
+use bsv_prim::WireKind;
+use sqlite_items::Items;
+use std::alloc::Global;
 use std::process::Abort;
 use std::test::Fail;
+
+const WRITE: u32 = 0;
+
+const READ: u32 = 1;
 
 fn edge(from: u32, to: u32) -> Edge
     ensures from { result.from ≡ from }
@@ -53,5 +68,71 @@ fn the_least_order(rt: HostRuntime) -> Result<(), Fail> {
     let order = graph.least_order(alloc)?;
     assert_eq!(rt; order.as_slice(), [2, 0, 3, 1].as_slice());
     answered();
+    Ok(())
+}
+
+/// A wire, as a part.
+fn wire(alloc: Global) -> Result<NamedPart, Fail>
+    ensures methods { IfOk result (λ p. (kind_table p.kind).methods ≡ 2) }
+{
+    Ok(NamedPart {
+        path: Name::new(alloc, b"w")?,
+        kind: Kind::Wire(WireKind { width: 8 }),
+    })
+}
+
+/// A call of a method of the first part.
+fn call(alloc: Global, method: u32) -> Call
+    ensures part { result.part ≡ 0 }
+    ensures method { result.method ≡ method }
+{
+    Call {
+        part: 0,
+        method,
+        taken: 0,
+        branches: Items::new(alloc),
+        args: Items::new(alloc),
+    }
+}
+
+#[test]
+fn the_uses_that_meet(rt: HostRuntime) -> Result<(), Fail> {
+    let alloc = rt.alloc();
+    let parts = [wire(alloc)?];
+    let writes = usage_of(alloc, &parts, &[call(alloc, WRITE)])?;
+    let reads = usage_of(alloc, &parts, &[call(alloc, READ), call(alloc, READ)])?;
+    assert_eq!(rt; reads.uses.len(), 1);
+    assert!(rt; meet(Relation::Feeds, &parts, &writes, &reads));
+    assert!(rt; !meet(Relation::Feeds, &parts, &reads, &writes));
+    assert!(rt; meet(Relation::Clashes, &parts, &reads, &writes));
+    assert!(rt; !meet(Relation::Clashes, &parts, &writes, &reads));
+    Ok(())
+}
+
+/// A design without elements.
+fn nothing(alloc: Global) -> Result<Design, Fail> {
+    let name = Name::new(alloc, b"top")?;
+    let design = Design::new(
+        name,
+        Items::new(alloc),
+        Items::new(alloc),
+        Items::new(alloc),
+        Items::new(alloc),
+    );
+    Ok(design)
+}
+
+#[test]
+fn no_elements_relate(rt: HostRuntime) -> Result<(), Fail> {
+    let alloc = rt.alloc();
+    let design = nothing(alloc)?;
+    assert!(rt; goes(&design, 0, 1) && !feeds(&design, 0, 1));
+    let relations = Relations::new(alloc, &design)?;
+    assert_eq!(rt; relations.count(), 0);
+    assert_eq!(rt;
+        (relations.ordering().len(), relations.urging().len()),
+        (0, 0)
+    );
+    assert_eq!(rt; relations.feed_edges(alloc)?.len(), 0);
     Ok(())
 }

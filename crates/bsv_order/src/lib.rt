@@ -10,6 +10,8 @@ mod edges;
 mod fault;
 mod laws;
 mod order;
+#[cfg(test)]
+mod tests;
 mod values;
 
 pub use fault::OrderFault;
