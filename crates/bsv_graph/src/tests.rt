@@ -5,17 +5,7 @@ use crate::meeting::meet;
 use crate::related::Relation;
 use crate::uses::usage_of;
 use crate::{
-    Edge,
-    Graph,
-    Relations,
-    Table,
-    answered,
-    feeds,
-    goes,
-    marked_edges,
-    obeyed,
-    one_order,
-    ordered,
+    Edge, Graph, Relations, Table, answered, feeds, goes, marked_edges, obeyed, one_order, ordered,
 };
 use bsv_bits::Name;
 use bsv_design::{Call, Design, Kind, NamedPart};
