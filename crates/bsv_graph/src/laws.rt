@@ -1,13 +1,25 @@
-ghost use Rattle.std.specs.Prelude.{◌≡◌, ℕ, List};
+ghost use Rattle.std.specs.Prelude.{◌≡◌, ℕ, ◌<◌, ◌⊎◌, List, length};
 ghost use Rattle.bsv_graph.specs.declared.edge.Edge.{Edge};
-ghost use Rattle.bsv_graph.specs.ExecutionOrders.{ExecutionOrder};
+ghost use Rattle.bsv_graph.specs.ExecutionOrders.{
+  ExecutionOrder,
+  WireCycle,
+  ValueClash,
+  ExecutionCycle,
+  Executes,
+};
 ghost use Rattle.bsv_graph.specs.Orders.{IsLeastOrder, StandsBefore};
-ghost use Rattle.bsv_graph.specs.Relating.{Relating, Agrees};
-ghost use Rattle.bsv_graph.specs.Stops.{Ordered};
-ghost use Rattle.bsv_graph.specs.UrgencyOrders.{UrgencyOrder};
-ghost use Rattle.bsv_graph.specs.Walks.{HasEdge};
+ghost use Rattle.bsv_graph.specs.Relating.{Relating, Agrees, feed_edges};
+ghost use Rattle.bsv_graph.specs.Stops.{AreStops, Ordered};
+ghost use Rattle.bsv_graph.specs.UrgencyOrders.{
+  UrgencyOrder,
+  UrgencyCycle,
+  MethodBehindRule,
+  Urges,
+};
+ghost use Rattle.bsv_graph.specs.Walks.{HasEdge, IsAcyclic};
 
-/// There is at most one least order, and so one execution order and one urgency order.
+/// There is at most one least order, and so one execution order and one urgency order; and where these are given, each
+/// element stops the same others.
 pub fn one_order()
     ensures least { (n : ℕ) (es : List Edge) (xs ys : List ℕ)
         → IsLeastOrder n es xs → IsLeastOrder n es ys → xs ≡ ys }
@@ -15,6 +27,24 @@ pub fn one_order()
         → ExecutionOrder r xs → ExecutionOrder r ys → xs ≡ ys }
     ensures urgency { (r : Relating) (xs ys : List ℕ)
         → UrgencyOrder r xs → UrgencyOrder r ys → xs ≡ ys }
+    ensures stops { (r : Relating) (execution urgency : List ℕ) (xs ys : List (List ℕ))
+        → AreStops r execution urgency xs → AreStops r execution urgency ys → xs ≡ ys }
+{}
+
+/// However elements relate, they have an execution order or one of the faults, and where their feeds have no cycle, an
+/// urgency order or one of the faults; and each two lists say what stops what.
+pub fn answered()
+    ensures execution { (r : Relating) → Agrees r
+        → ((xs : List ℕ) × Executes r xs)
+        ⊎ ((a : ℕ) × WireCycle r a)
+        ⊎ ((v : ℕ) × ValueClash r v)
+        ⊎ ((k : ℕ) × ExecutionCycle r k × (k < length r.ordering)) }
+    ensures urgency { (r : Relating) → Agrees r → IsAcyclic (feed_edges r)
+        → ((xs : List ℕ) × Urges r xs)
+        ⊎ ((k : ℕ) × UrgencyCycle r k × (k < length r.urging))
+        ⊎ ((m : ℕ) × (q : ℕ) × MethodBehindRule r m q) }
+    ensures stops { (r : Relating) (execution urgency : List ℕ)
+        → (lists : List (List ℕ)) × AreStops r execution urgency lists }
 {}
 
 /// What a clock needs of the two orders holds of them.

@@ -43,7 +43,8 @@ pub(crate) fn related(
 ) -> bool
     requires first { IsTrue (spec.names_method (map (λ p. p.kind) parts.now) part first) }
     requires second { IsTrue (spec.names_method (map (λ p. p.kind) parts.now) part second) }
-    ensures { result ≡ spec.related relation (slice_get (map (λ p. p.kind) parts.now) part) first second }
+    ensures { result ≡ spec.related relation
+        (slice_get (map (λ p. p.kind) parts.now) part) first second }
 {
     match parts.get(part as usize) {
         Some(named) => related_by(relation, &named.kind, first, second),

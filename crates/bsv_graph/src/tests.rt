@@ -4,7 +4,9 @@ ghost use Rattle.bsv_design.specs.Kinds.{kind_table};
 use crate::meeting::meet;
 use crate::related::Relation;
 use crate::uses::usage_of;
-use crate::{Edge, Graph, Relations, Table, feeds, goes, marked_edges, obeyed, one_order, ordered};
+use crate::{
+    Edge, Graph, Relations, Table, answered, feeds, goes, marked_edges, obeyed, one_order, ordered,
+};
 use bsv_bits::Name;
 use bsv_design::{Call, Design, Kind, NamedPart};
 use bsv_prim::WireKind;
@@ -65,6 +67,7 @@ fn the_least_order(rt: HostRuntime) -> Result<(), Fail> {
     graph.join_kept(&[edge(3, 1), edge(2, 0), edge(1, 3)]);
     let order = graph.least_order(alloc)?;
     assert_eq!(rt; order.as_slice(), [2, 0, 3, 1].as_slice());
+    answered();
     Ok(())
 }
 

@@ -8,13 +8,14 @@ use Rattle.bsv_graph.specs.ExecutionOrders.{IsValueClash}
 use Rattle.bsv_graph.specs.Relating.{Relating, feed_edges, value_edges, early_edges, is_value_edge, goes_only}
 use Rattle.bsv_graph.specs.Walks.{HasEdge, Walk, IsAcyclic}
 use Rattle.bsv_graph.proofs.EdgeLemmas.{where_of, where_has}
+use Rattle.bsv_graph.proofs.ValueLemmas.{early_down, early_zero}
 use Rattle.bsv_graph.proofs.WalkLemmas.{edge_parts, edge_left, edge_right, marks_same, walk_map}
 use Rattle.bsv_graph.specs.Edges.{edges_from}
 use Rattle.std.proofs.lemmas.List.Elements.{filter-append}
 use Rattle.std.proofs.Common.{map, ap}
 use Rattle.std.proofs.lemmas.List.{map-append}
 use Rattle.bsv_order.specs.Between.{edge_between, edges_between}
-use Rattle.bsv_order.proofs.ValueLemmas.{value_there, value_back, value_up, value_down, value_zero}
+use Rattle.bsv_order.proofs.ValueLemmas.{value_there, value_back, value_up}
 
 pub graph_first : (g h : Graph) (xs fs : List Edge) → IsGraphOf [] g → xs ≡ fs → ForEdges g (λ es. IsGraphOf (xs ++ es) h) → IsGraphOf fs h
 graph_first g h xs fs e p f = rw (append-nil, p) at (f [] e)
@@ -76,47 +77,19 @@ module _ (r : Relating) (v : ℕ) (other : r.value v ≡ false) where
   more_test : (a b : ℕ) → IsTrue (is_value_edge r v a b) → IsTrue (is_value_edge r (suc v) a b)
   more_test a b h = value_up r v a b h
 
-  less_test : (a b : ℕ) → IsTrue (is_value_edge r (suc v) a b) → IsTrue (is_value_edge r v a b)
-  less_test a b h = value_down r v other a b h
-
   other_there : (fs : List Edge) (a b : ℕ) → HasEdge (value_edges r v ++ fs) a b → HasEdge (value_edges r (suc v) ++ fs) a b
   other_there fs a b h = elim (edge_parts (value_edges r v) fs a b h) [
     | inl k ↦ let t = where_of (is_value_edge r v) r.count a b k in edge_left (value_edges r (suc v)) fs a b (where_has (is_value_edge r (suc v)) r.count a b t.0 t.1 (more_test a b t.2))
     | inr k ↦ edge_right (value_edges r (suc v)) fs a b k
   ]
 
-  other_back : (fs : List Edge) (a b : ℕ) → HasEdge (value_edges r (suc v) ++ fs) a b → HasEdge (value_edges r v ++ fs) a b
-  other_back fs a b h = elim (edge_parts (value_edges r (suc v)) fs a b h) [
-    | inl k ↦ let t = where_of (is_value_edge r (suc v)) r.count a b k in edge_left (value_edges r v) fs a b (where_has (is_value_edge r v) r.count a b t.0 t.1 (less_test a b t.2))
-    | inr k ↦ edge_right (value_edges r v) fs a b k
-  ]
-
   pub graph_other : (g : Graph) → IsGraphOf (early_edges r v) g → IsGraphOf (early_edges r (suc v)) g
-  graph_other g m = marks_same (early_edges r v) (early_edges r (suc v)) g.reach (other_there (feed_edges r)) (other_back (feed_edges r)) m
-
-  pub acyclic_other : IsAcyclic (early_edges r v) → IsAcyclic (early_edges r (suc v))
-  acyclic_other f a w = f a (walk_map (other_back (feed_edges r)) w)
+  graph_other g m = marks_same (early_edges r v) (early_edges r (suc v)) g.reach (other_there (feed_edges r)) (early_down r v other) m
 
 -- at first there are the feeds alone
 module _ (r : Relating) where
-  none_below : (a b : ℕ) → HasEdge (value_edges r 0) a b → ⊥
-  none_below a b h = value_zero r a b (where_of (is_value_edge r 0) r.count a b h).2
-
-  zero_back : (a b : ℕ) → HasEdge (early_edges r 0) a b → HasEdge (feed_edges r) a b
-  zero_back a b h = elim (edge_parts (value_edges r 0) (feed_edges r) a b h) [ inl k ↦ absurd (none_below a b k) | inr k ↦ k ]
-
   pub graph_zero : (g : Graph) → IsGraphOf (feed_edges r) g → IsGraphOf (early_edges r 0) g
-  graph_zero g m = marks_same (feed_edges r) (early_edges r 0) g.reach (λ a b h. edge_right (value_edges r 0) (feed_edges r) a b h) zero_back m
-
-  pub acyclic_zero : IsAcyclic (feed_edges r) → IsAcyclic (early_edges r 0)
-  acyclic_zero f a w = f a (walk_map zero_back w)
-
-  pub acyclic_next : (v : ℕ) → IsAcyclic (early_edges r v) → ¬ IsValueClash r v → IsAcyclic (early_edges r (suc v))
-  acyclic_next v f n a w = go (r.value v) refl
-    where
-      go : (x : Bool) → r.value v ≡ x → ⊥
-      go true e = n (e, inr (a, w))
-      go false e = acyclic_other r v e f a w
+  graph_zero g m = marks_same (feed_edges r) (early_edges r 0) g.reach (λ a b h. edge_right (value_edges r 0) (feed_edges r) a b h) (early_zero r) m
 
   pub clash_next : (v : ℕ) → ((u : ℕ) → u < v → ¬ IsValueClash r u) → ¬ IsValueClash r v → (u : ℕ) → u < v + 1 → ¬ IsValueClash r u
   clash_next v f n u l c = elim (cases_lt u v) [

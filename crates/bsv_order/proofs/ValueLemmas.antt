@@ -1,29 +1,13 @@
 use Rattle.std.proofs.Common.{◌≡◌, ℕ, ◌<◌, ◌⊎◌, inl, inr, Bool, true, false, [], ◌∷◌, ◌++◌, refl, zero, suc, sym, subst, arith}
 use Rattle.std.proofs.lemmas.Bool.{cases_eq}
-use Rattle.std.proofs.lemmas.Bool.Decides.{nat_tests}
 use Rattle.std.specs.Prelude.{IsTrue, if◌then◌else◌, ◌&&◌, ◌||◌, not, nat_lt}
 use Rattle.bsv_graph.specs.declared.edge.Edge.{Edge}
 use Rattle.bsv_graph.specs.Relating.{Relating, goes_only, is_one_value, value_of, is_value_edge, value_edges}
 use Rattle.bsv_graph.specs.Walks.{HasEdge}
 use Rattle.bsv_graph.proofs.EdgeLemmas.{where_has, where_of}
+use Rattle.bsv_graph.proofs.ValueLemmas.{and_both, both_and, lt_true, true_lt}
 use Rattle.bsv_graph.proofs.WalkLemmas.{edge_parts, edge_left, edge_right}
 use Rattle.bsv_order.specs.Between.{edge_between, edges_between}
-
-and_both : (x y : Bool) → IsTrue (x && y) → IsTrue x × IsTrue y
-and_both true true h = (refl, refl)
-and_both true false h = cc
-and_both false y h = cc
-
-both_and : (x y : Bool) → IsTrue x → IsTrue y → IsTrue (x && y)
-both_and true true h k = refl
-both_and true false h k = cc
-both_and false y h k = cc
-
-lt_true : (m n : ℕ) → m < n → IsTrue (nat_lt m n)
-lt_true m n h = grind (arith, nat_tests, h)
-
-true_lt : (m n : ℕ) → IsTrue (nat_lt m n) → m < n
-true_lt m n h = grind (arith, nat_tests, h)
 
 -- the edges of a value method, as its tests say
 pub record TouchesAt (r : Relating) (v a b : ℕ) : Type 0 where
@@ -165,29 +149,3 @@ value_up r v a b h =
     let t = and_both (is_one_value r a b && goes_only r a b) (nat_lt (value_of r a b) v) h in
     both_and (is_one_value r a b && goes_only r a b) (nat_lt (value_of r a b) (suc v))
     t.0 (lt_true (value_of r a b) (suc v) (omega (arith, true_lt (value_of r a b) v t.1)))
-
-value_is : (r : Relating) (a b : ℕ) → IsTrue (is_one_value r a b) → IsTrue (r.value (value_of r a b))
-value_is r a b h = go (r.value a) refl h
-  where
-    go : (x : Bool) → r.value a ≡ x → IsTrue ((x && not (r.value b)) || (not x && r.value b)) → IsTrue (r.value (if x then a else b))
-    go true p k = p
-    go false p k = go' (r.value b) k
-      where
-        go' : (y : Bool) → IsTrue ((false && not y) || (not false && y)) → IsTrue y
-        go' true k = refl
-        go' false k = cc
-
-pub value_down : (r : Relating) (v : ℕ) → r.value v ≡ false → (a b : ℕ) → IsTrue (is_value_edge r (suc v) a b) → IsTrue (is_value_edge r v a b)
-value_down r v n a b h =
-    let t = and_both (is_one_value r a b && goes_only r a b) (nat_lt (value_of r a b) (suc v)) h in
-    let u = and_both (is_one_value r a b) (goes_only r a b) t.0 in
-    elim (cases_eq (value_of r a b) v) [
-      | inl e ↦ let k : r.value v ≡ true = subst (λ z. IsTrue (r.value z)) e (value_is r a b u.0) in cc
-      | inr ne ↦ both_and (is_one_value r a b && goes_only r a b) (nat_lt (value_of r a b) v)
-          t.0 (lt_true (value_of r a b) v (omega (arith, ne, true_lt (value_of r a b) (suc v) t.1)))
-    ]
-
-pub value_zero : (r : Relating) (a b : ℕ) → IsTrue (is_value_edge r 0 a b) → ⊥
-value_zero r a b h =
-    let t = and_both (is_one_value r a b && goes_only r a b) (nat_lt (value_of r a b) 0) h in
-    absurd (omega (arith, true_lt (value_of r a b) 0 t.1))

@@ -37,7 +37,8 @@ fn push_if(passes: bool, edge: Edge, edges: &mut Items<Edge>) -> Result<(), Allo
 fn add_soft(relations: &Relations, a: usize, edges: &mut Items<Edge>) -> Result<(), AllocError>
     requires { a < count_of relations.now }
     ensures { OnOk result (edges.new
-        ≡ edges.old ++ edges_from (is_soft (relating_of relations.now)) (count_of relations.now) a) }
+        ≡ edges.old
+        ++ edges_from (is_soft (relating_of relations.now)) (count_of relations.now) a) }
 {
     for b in 0..relations.count() {
         let edge = Edge {

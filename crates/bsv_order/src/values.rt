@@ -55,14 +55,16 @@ fn join_value(relations: &Relations, graph: &mut Graph, v: usize)
     requires element { v < count_of relations.now }
     ensures size { size_of graph.new ≡ size_of graph.old }
     ensures gains { ForEdges graph.old
-        (λ es. IsGraphOf (edges_between (relating_of relations.now) v (count_of relations.now) ++ es) graph.new) }
+        (λ es. IsGraphOf
+        (edges_between (relating_of relations.now) v (count_of relations.now) ++ es) graph.new) }
 {
     for e in 0..relations.count() {
         join_between(relations, graph, v, e);
     }
 }
 
-// Whether the value method clashes. The graph, which has the feeds and the edges of those before it, gains its own.
+// Whether the value method clashes. The graph, which has the feeds and the edges of those before it, gains
+// its own.
 fn clashes(relations: &Relations, graph: &mut Graph, v: usize) -> bool
     requires size { size_of graph.old ≡ count_of relations.now }
     requires element { v < count_of relations.now }
@@ -70,7 +72,8 @@ fn clashes(relations: &Relations, graph: &mut Graph, v: usize) -> bool
     ensures size { size_of graph.new ≡ size_of graph.old }
     ensures clash { IsTrue result → IsValueClash (relating_of relations.now) v }
     ensures none { IsFalse result → ¬ IsValueClash (relating_of relations.now) v }
-    ensures gains { IsFalse result → IsGraphOf (early_edges (relating_of relations.now) (suc v)) graph.new }
+    ensures gains { IsFalse result
+        → IsGraphOf (early_edges (relating_of relations.now) (suc v)) graph.new }
 {
     if !relations.is_value(v) {
         return false;
@@ -85,7 +88,8 @@ fn clashes(relations: &Relations, graph: &mut Graph, v: usize) -> bool
     }
 }
 
-/// The first value method that clashes. The graph, which has the feeds, gains the edges of the value methods.
+/// The first value method that clashes. The graph, which has the feeds, gains the edges of the value
+/// methods.
 pub(crate) fn first_clash(relations: &Relations, graph: &mut Graph) -> Option<u32>
     requires feeds { HasFeeds (relating_of relations.now) graph.old }
     ensures some { IfSome result (λ v. IsFirstValueClash (relating_of relations.now) v) }

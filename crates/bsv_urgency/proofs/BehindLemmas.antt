@@ -1,12 +1,16 @@
-use Rattle.std.proofs.Common.{◌≡◌, ℕ, ◌+◌, ◌<◌, inl, inr, Bool, true, false, List, [], ◌∷◌, ◌++◌, length, get_or, take, drop, refl, suc, sym, ◌∙◌, ap, subst, arith, add-one, take-append-drop, drop-cons}
-use Rattle.std.proofs.lemmas.List.{take_more}
+-- What stands behind the first rule of an order.
+use Rattle.std.proofs.Common.{◌≡◌, ℕ, ◌+◌, ◌-◌, ◌<◌, inl, inr, List, [], ◌∷◌, ◌++◌, length, get_or, take, drop, refl, suc, sym, ◌∙◌, ap, subst, arith, add-one, take-append-drop, drop-cons}
+use Rattle.std.proofs.lemmas.List.{take_more, take_all, length-drop}
 use Rattle.std.specs.Prelude.{IsTrue, IsFalse, All}
 use Rattle.bsv_graph.specs.Orders.{In, StandsBefore}
 use Rattle.bsv_graph.specs.Relating.{Relating}
 use Rattle.bsv_graph.specs.UrgencyOrders.{IsBehindRule, NoneBehindRule, IsLeastBehindRule, IsFirstRule}
 use Rattle.bsv_graph.proofs.LeastLemmas.{in_parts}
+use Rattle.bsv_graph.proofs.OrderedLemmas.{before_in}
+use Rattle.bsv_graph.proofs.WalkLemmas.{false_not}
 use Rattle.bsv_urgency.specs.Acting.{IsActionIn, IsLeastActionIn, NoActionIn}
 
+-- one more that is not the number
 pub not_in_more : (xs : List ℕ) (k d m : ℕ) → k < length xs → ¬ In (take k xs) m → (get_or xs k d ≡ m → ⊥) → ¬ In (take (k + 1) xs) m
 not_in_more xs k d m h f g i = elim (in_parts (take k xs) (get_or xs k d ∷ []) m (rw (take_more xs k d h) at i)) [
   | inl j ↦ f j
@@ -28,35 +32,25 @@ rules_more r xs k d h f g q i = elim (in_parts (take k xs) (get_or xs k d ∷ []
   | inr (inr j) ↦ absurd j
 ]
 
+-- the slice from a place on
+pub slice_rest : (xs : List ℕ) (k : ℕ) → take (length xs - (k + 1)) (drop (k + 1) xs) ≡ drop (k + 1) xs
+slice_rest xs k = take_all (length xs - (k + 1)) (drop (k + 1) xs) (omega (arith, length-drop (k + 1) xs))
+
 pub read_split : (xs : List ℕ) (k d : ℕ) → k < length xs → xs ≡ take k xs ++ (get_or xs k d ∷ drop (k + 1) xs)
 read_split xs k d h = rw add-one (sym (take-append-drop k xs) ∙ ap (λ z. take k xs ++ z) (drop-cons xs k d h))
 
 module _ (r : Relating) where
-  false_true : (b : Bool) → IsFalse b → IsTrue b → ⊥
-  false_true true h k = cc
-  false_true false h k = cc
-
   -- what stands behind a rule stands behind the first
   behind_in : (before behind : List ℕ) (q p m : ℕ) → ((k : ℕ) → In before k → IsFalse (r.rule k)) → IsTrue (r.rule p)
       → StandsBefore (before ++ (q ∷ behind)) p m → In behind m
   behind_in [] behind q p m f h (inl s) = s.1
-  behind_in [] behind q p m f h (inr s) = last behind p m s
-    where
-      last : (xs : List ℕ) (a b : ℕ) → StandsBefore xs a b → In xs b
-      last [] a b s = absurd s
-      last (x ∷ xs) a b (inl s) = inr s.1
-      last (x ∷ xs) a b (inr s) = inr (last xs a b s)
-  behind_in (x ∷ before) behind q p m f h (inl s) = absurd (false_true (r.rule x) (f x (inl refl)) (subst (λ z. IsTrue (r.rule z)) s.0 h))
+  behind_in [] behind q p m f h (inr s) = (before_in behind p m s).1
+  behind_in (x ∷ before) behind q p m f h (inl s) = absurd (false_not (r.rule x) (f x (inl refl)) (subst (λ z. IsTrue (r.rule z)) s.0 h))
   behind_in (x ∷ before) behind q p m f h (inr s) = behind_in before behind q p m (λ k i. f k (inr i)) h s
 
   in_behind : (before behind : List ℕ) (q m : ℕ) → In behind m → StandsBefore (before ++ (q ∷ behind)) q m
   in_behind [] behind q m i = inl (refl, i)
   in_behind (x ∷ before) behind q m i = inr (in_behind before behind q m i)
-
-  no_rule_before : (xs : List ℕ) (p m : ℕ) → StandsBefore xs p m → In xs p
-  no_rule_before [] p m s = absurd s
-  no_rule_before (x ∷ xs) p m (inl s) = inl s.0
-  no_rule_before (x ∷ xs) p m (inr s) = inr (no_rule_before xs p m s)
 
   module _ (xs : List ℕ) (k d : ℕ) (l : k < length xs) (rule : IsTrue (r.rule (get_or xs k d)))
       (f : (q : ℕ) → In (take k xs) q → IsFalse (r.rule q)) where
@@ -95,4 +89,4 @@ module _ (r : Relating) where
     none_behind g m b = g m (behind_action m b)
 
   pub none_at_all : (xs : List ℕ) → ((q : ℕ) → In xs q → IsFalse (r.rule q)) → NoneBehindRule r xs
-  none_at_all xs f m b = false_true (r.rule b.behind.0) (f b.behind.0 (no_rule_before xs b.behind.0 m b.behind.2)) b.behind.1
+  none_at_all xs f m b = false_not (r.rule b.behind.0) (f b.behind.0 (before_in xs b.behind.0 m b.behind.2).0) b.behind.1

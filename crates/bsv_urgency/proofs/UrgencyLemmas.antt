@@ -1,3 +1,4 @@
+-- The edges of the graph of urgency, and the pairs from which they come.
 use Rattle.std.proofs.Common.{◌≡◌, List, [], ◌++◌, append-nil, length, ap, refl, ◌∙◌}
 use Rattle.std.proofs.lemmas.List.{length-map}
 use Rattle.bsv_design.specs.declared.tree.Pair.{Pair}

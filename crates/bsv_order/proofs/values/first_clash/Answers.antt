@@ -1,6 +1,7 @@
 use Rattle.std.proofs.Common.{◌≡◌, refl, arith, add-one, ◌∙◌}
 use Rattle.bsv_graph.specs.Relations.{relating_of}
-use Rattle.bsv_order.proofs.StageLemmas.{graph_zero, acyclic_zero, acyclic_next, clash_next}
+use Rattle.bsv_graph.proofs.ValueLemmas.{acyclic_zero, acyclic_next}
+use Rattle.bsv_order.proofs.StageLemmas.{graph_zero, clash_next}
 use Rattle.bsv_order.proofs.values.first_clash.Goals as goal
 
 pub loop-v-init : goal.loop-v-init

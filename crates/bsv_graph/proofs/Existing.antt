@@ -1,0 +1,158 @@
+use Rattle.std.proofs.Common.{◌≡◌, ℕ, ◌<◌, ◌≤◌, add-one, ◌⊎◌, inl, inr, Bool, true, false, List, [], ◌∷◌, ◌++◌, length, get_or, set, take, replicate, refl, zero, suc, subst, arith}
+use Rattle.std.proofs.lemmas.Bool.{cases_lt}
+use Rattle.std.proofs.lemmas.List.{take_all}
+use Rattle.bsv_graph.specs.declared.edge.Edge.{Edge}
+use Rattle.bsv_graph.specs.Orders.{In, IsLeastOrder}
+use Rattle.bsv_graph.specs.Reaching.{AreWithin}
+use Rattle.bsv_graph.specs.Walks.{Walk, IsAcyclic, Closes, NoneCloses, ClosesFirst, Keeps, done, keep, drop}
+use Rattle.bsv_graph.proofs.WalkLemmas.{walk_then, none_first, none_more, closes_first}
+use Rattle.bsv_graph.proofs.LeastLemmas.{IsNext, IsGreedy, IsFilled, greedy_snoc, filled_none, filled_more, filled_fresh, filled_open, filled_some, filled_order, least_from_greedy}
+use Rattle.bsv_graph.proofs.Deciding.{Decided, decide_both, decide_not, decide_walk, decide_closes, decide_in, IsFirstWith, first_with}
+
+-- m is below k and not in the list, and no walk leads to it from another such number
+record IsEarliest (es : List Edge) (order : List ℕ) (k m : ℕ) : Type 0 where
+  below : m < k
+  fresh : ¬ In order m
+  first : (a : ℕ) → a < k → ¬ In order a → ¬ Walk es a m
+
+-- no walk leads to c from a number below n that is not in the list
+abbrev NoneLeads : List Edge → ℕ → List ℕ → ℕ → Type 0
+NoneLeads es n order c = (a : ℕ) → a < n → ¬ In order a → ¬ Walk es a c
+
+-- c is not in the list, and may come next
+abbrev MayFollow : List Edge → ℕ → List ℕ → ℕ → Type 0
+MayFollow es n order c = ¬ In order c × NoneLeads es n order c
+
+module _ (es : List Edge) (acyclic : IsAcyclic es) (order : List ℕ) where
+  -- k takes the place of the earliest so far where it leads to it
+  earliest_next : (k m : ℕ) → ¬ In order k → IsEarliest es order k m → Decided (Walk es k m) → (x : ℕ) × IsEarliest es order (suc k) x
+  earliest_next k m o u (inl leads) = (
+    k,
+    record {
+      below = omega arith;
+      fresh = o;
+      first = λ a l f w. elim (cases_lt a k) [
+        | inl lt ↦ u.first a lt f (walk_then w leads)
+        | inr ge ↦ let e : a ≡ k = omega arith in acyclic k (subst (λ z. Walk es z k) e w)
+      ];
+    },
+  )
+  earliest_next k m o u (inr apart) = (
+    m,
+    record {
+      below = omega (arith, u.below);
+      fresh = u.fresh;
+      first = λ a l f w. elim (cases_lt a k) [
+        | inl lt ↦ u.first a lt f w
+        | inr ge ↦ let e : a ≡ k = omega arith in apart (subst (λ z. Walk es z m) e w)
+      ];
+    },
+  )
+
+  earliest_more : (k : ℕ) → Decided (In order k) → ((a : ℕ) → a < k → In order a) ⊎ ((m : ℕ) × IsEarliest es order k m)
+      → ((a : ℕ) → a < suc k → In order a) ⊎ ((m : ℕ) × IsEarliest es order (suc k) m)
+  earliest_more k (inl i) (inl f) = inl (λ a l. elim (cases_lt a k) [
+    | inl lt ↦ f a lt
+    | inr ge ↦ let e : a ≡ k = omega arith in rw e i
+  ])
+  earliest_more k (inr o) (inl f) = inr (
+    k,
+    record {
+      below = omega arith;
+      fresh = o;
+      first = λ a l g w. elim (cases_lt a k) [
+        | inl lt ↦ g (f a lt)
+        | inr ge ↦ let e : a ≡ k = omega arith in acyclic k (subst (λ z. Walk es z k) e w)
+      ];
+    },
+  )
+  earliest_more k (inl i) (inr u) = inr (
+    u.0,
+    record {
+      below = omega (arith, u.1.below);
+      fresh = u.1.fresh;
+      first = λ a l g w. elim (cases_lt a k) [
+        | inl lt ↦ u.1.first a lt g w
+        | inr ge ↦ let e : a ≡ k = omega arith in g (rw e i)
+      ];
+    },
+  )
+  earliest_more k (inr o) (inr u) = inr (earliest_next k u.0 o u.1 (decide_walk es k u.0))
+
+  earliest : (k : ℕ) → ((a : ℕ) → a < k → In order a) ⊎ ((m : ℕ) × IsEarliest es order k m)
+  earliest zero = inl (λ a l. absurd (omega arith))
+  earliest (suc k) = earliest_more k (decide_in order k) (earliest k)
+
+  decide_none_leads : (n c : ℕ) → Decided (NoneLeads es n order c)
+  decide_none_leads n c = elim (first_with (λ a. ¬ In order a × Walk es a c) (λ a. decide_both (decide_not (decide_in order a)) (decide_walk es a c)) n) [
+    | inl f ↦ inl (λ a l h w. f a l (h, w))
+    | inr x ↦ inr (λ g. g x.0 x.1.below x.1.holds.0 x.1.holds.1)
+  ]
+
+  -- where a number is left, one is next
+  some_next : (n a : ℕ) → a < n → ¬ In order a → (x : ℕ) × IsNext es n order x
+  some_next n a l h = go (earliest n) (first_with (MayFollow es n order) (λ c. decide_both (decide_not (decide_in order c)) (decide_none_leads n c)) n)
+    where
+      go : ((b : ℕ) → b < n → In order b) ⊎ ((m : ℕ) × IsEarliest es order n m) → ((b : ℕ) → b < n → ¬ MayFollow es n order b) ⊎ ((x : ℕ) × IsFirstWith (MayFollow es n order) n x)
+          → (x : ℕ) × IsNext es n order x
+      go (inl f) x = absurd (h (f a l))
+      go (inr m) (inl f) = absurd (f m.0 m.1.below (m.1.fresh, m.1.first))
+      go (inr m) (inr x) = (
+        x.0,
+        record {
+          below = x.1.below;
+          fresh = x.1.holds.0;
+          ready = x.1.holds.1;
+          least = λ c k f g. elim (cases_lt c x.0) [
+            | inl lt ↦ absurd (x.1.lower c lt (f, g))
+            | inr ge ↦ ge
+          ];
+        },
+      )
+
+module _ (es : List Edge) (n : ℕ) (within : AreWithin n es) (acyclic : IsAcyclic es) where
+  -- the first i numbers of the least order
+  least_taken : (i : ℕ) → i ≤ n → (placed : List Bool) × (order : List ℕ) × IsFilled n placed order i × IsGreedy es n [] order
+  least_taken zero h = (replicate n false, [], filled_none n (replicate n false) refl, tt)
+  least_taken (suc i) h =
+      let t = least_taken i (omega arith) in
+      let s = filled_some n t.0 t.1 i t.2 (omega arith) in
+      let x = some_next es acyclic t.1 n s.0 s.1 (filled_fresh n t.0 t.1 i t.2 s.0 s.2) in
+      let o = filled_open n t.0 t.1 i t.2 x.0 x.1.below x.1.fresh in
+      (set t.0 x.0 true, t.1 ++ (x.0 ∷ []), rw add-one at (filled_more n t.0 t.1 i x.0 t.2 x.1.below o), greedy_snoc es n [] t.1 x.0 t.3 x.1)
+
+  pub least_exists : (xs : List ℕ) × IsLeastOrder n es xs
+  least_exists =
+      let t = least_taken n (omega arith) in
+      (t.1, least_from_greedy es n t.1 within (filled_order n t.0 t.1 n t.2 (omega arith)) t.3)
+
+-- the edges that are kept
+pub keeps_exists : (ps es : List Edge) → (fs : List Edge) × Keeps es ps fs
+keeps_exists [] es = (es, done)
+keeps_exists (p ∷ ps) es = elim (decide_closes es p) [
+  | inl c ↦ let k = keeps_exists ps es in (k.0, drop c k.1)
+  | inr c ↦ let k = keeps_exists ps (p ∷ es) in (k.0, keep c k.1)
+]
+
+pub keeps_within : {es ps fs : List Edge} (n : ℕ) → Keeps es ps fs → AreWithin n es → AreWithin n ps → AreWithin n fs
+keeps_within n done f g a b h = f a b h
+keeps_within n (keep {es} {ps} {fs} {p} m k) f g a b h =
+    keeps_within n k (λ x y i. elim i [ inl j ↦ g x y (inl j) | inr j ↦ f x y j ]) (λ x y i. g x y (inr i)) a b h
+keeps_within n (drop m k) f g a b h = keeps_within n k f (λ x y i. g x y (inr i)) a b h
+
+-- none of the edges closes a cycle, or there is a first
+module _ (es ps : List Edge) (d : Edge) where
+  closes_next : (k : ℕ) → k < length ps → NoneCloses es (take k ps) → Decided (Closes (take k ps ++ es) (get_or ps k d))
+      → NoneCloses es (take (suc k) ps) ⊎ ((j : ℕ) × ClosesFirst es ps j × (j < length ps))
+  closes_next k l f (inl c) = inr (k, closes_first es ps k d l f c, l)
+  closes_next k l f (inr c) = inl (rw add-one at (none_more es ps k d l f c))
+
+  closes_upto : (k : ℕ) → k ≤ length ps → NoneCloses es (take k ps) ⊎ ((j : ℕ) × ClosesFirst es ps j × (j < length ps))
+  closes_upto zero h = inl (none_first es)
+  closes_upto (suc k) h = elim (closes_upto k (omega arith)) [
+    | inl f ↦ closes_next k (omega arith) f (decide_closes (take k ps ++ es) (get_or ps k d))
+    | inr x ↦ inr x
+  ]
+
+pub closes_or_none : (es ps : List Edge) → NoneCloses es ps ⊎ ((k : ℕ) × ClosesFirst es ps k × (k < length ps))
+closes_or_none es ps = rw (take_all (length ps) ps (omega arith)) at (closes_upto es ps (record { from = 0; to = 0 }) (length ps) (omega arith))
