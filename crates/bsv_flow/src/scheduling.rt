@@ -8,7 +8,16 @@ ghost use Rattle.bsv_graph.specs.UrgencyOrders.{Urges};
 ghost use Rattle.bsv_graph.specs.Walks.{IsAcyclic};
 ghost use Rattle.bsv_flow.specs.Breaches as breaches;
 ghost use Rattle.bsv_flow.specs.Schedulings as spec;
-ghost use Rattle.bsv_flow.specs.Schedulings.{IsScheduled, IsUnexecuted, IsUnurged, IsUnasserted, Unscheduled, design_subject, related, subject};
+ghost use Rattle.bsv_flow.specs.Schedulings.{
+  IsScheduled,
+  IsUnexecuted,
+  IsUnurged,
+  IsUnasserted,
+  Unscheduled,
+  design_subject,
+  related,
+  subject,
+};
 ghost use Rattle.bsv_flow.specs.declared.refusal.CompileFault.TheVariants.{Refused, ReadFault};
 ghost use Rattle.bsv_flow.specs.declared.refusal.Refusal.{Refusal as TheRefusal};
 

@@ -1,4 +1,4 @@
-use crate::{CompileFault, Loaded, Refusal, flat, load, tree, typed};
+use crate::{CompileFault, Compiled, Loaded, Refusal, flat, load, scheduled, tree, typed};
 use bsv_bits::{Name, OutOfMemory};
 use bsv_design::Tree;
 use bsv_io::{MemFiles, MemSink};
@@ -7,6 +7,7 @@ use std::alloc::{AllocError, Global};
 use std::ops::Range;
 use std::process::Abort;
 use std::test::Fail;
+use std::thread::Threads;
 
 /// Files with bytes that a text of lines does not hold, and the line of the refusal.
 const REFUSED: [(&[u8], &str); 13] = [
@@ -107,6 +108,19 @@ module mkGcd(Gcd);
   method Bit#(8) result() if (y == 0); return x; endmethod
 endmodule: mkGcd
 endpackage: Gcd
+";
+
+/// Two rules that conflict, the second of which is to fire whenever it can.
+const STOPPED: &str = "\
+package Stopped;
+(* synthesize *)
+module mkStopped(Empty);
+  Reg#(Bit#(8)) x <- mkReg(0);
+  rule first; x <= x + 1; endrule
+  (* fire_when_enabled *)
+  rule second; x <= x + 2; endrule
+endmodule
+endpackage
 ";
 
 /// These pieces, one behind the other.
@@ -285,11 +299,16 @@ fn packages_are_typed(rt: HostRuntime) -> Result<(), Fail> {
     Ok(())
 }
 
+/// The tree of a package by the name of its top.
+fn tree_of(alloc: Global, file: &str, text: &str, top: &str) -> Result<Tree, CompileFault> {
+    let mut source = files_of(alloc, &[(file.as_bytes(), text.as_bytes())], &[])?;
+    let loaded = load(alloc, &mut source, file)?;
+    tree(alloc, typed(alloc, &loaded)?, top)
+}
+
 /// The tree of the greatest common divisor by the name of its top.
 fn built(alloc: Global, top: &str) -> Result<Tree, CompileFault> {
-    let mut source = files_of(alloc, &[(b"Gcd.bsv", GCD.as_bytes())], &[])?;
-    let loaded = load(alloc, &mut source, "Gcd.bsv")?;
-    tree(alloc, typed(alloc, &loaded)?, top)
+    tree_of(alloc, "Gcd.bsv", GCD, top)
 }
 
 /// How many instances a tree has, or why there is none.
@@ -328,6 +347,53 @@ fn trees_are_laid_out(rt: HostRuntime) -> Result<(), Fail> {
     match laid_out(rt.alloc()) {
         Ok(counts) => assert_eq!(rt; counts, (4, 2, 4)),
         Err(_) => assert!(rt; false),
+    }
+    Ok(())
+}
+
+/// The schedule of a package by the name of its top, or why there is none.
+fn schedule_of<R: Threads + Sync>(
+    rt: &R,
+    alloc: Global,
+    file: &str,
+    text: &str,
+    top: &str,
+) -> Result<Compiled, CompileFault> {
+    let tree = tree_of(alloc, file, text, top)?;
+    scheduled(rt, alloc, &tree)
+}
+
+/// The value method comes before all that writes what it reads.
+#[test]
+fn designs_are_scheduled(rt: HostRuntime) -> Result<(), Fail> {
+    match schedule_of(&rt, rt.alloc(), "Gcd.bsv", GCD, "mkGcd") {
+        Ok(compiled) => {
+            assert_eq!(rt;
+                compiled.schedule.execution.as_slice(),
+                [1, 0, 2, 3].as_slice()
+            );
+            assert_eq!(rt;
+                compiled.schedule.urgency.as_slice(),
+                [0, 1, 2, 3].as_slice()
+            );
+        }
+        Err(_) => assert!(rt; false),
+    }
+    Ok(())
+}
+
+/// A rule that is to fire whenever it can, behind a rule that it conflicts with.
+#[test]
+fn marks_of_rules_are_looked_at(rt: HostRuntime) -> Result<(), Fail> {
+    match schedule_of(&rt, rt.alloc(), "Stopped.bsv", STOPPED, "mkStopped") {
+        Ok(_) => assert!(rt; false),
+        Err(fault) => {
+            let told = fault_text(rt.alloc(), &fault)?;
+            assert_eq!(rt;
+                told.as_slice(),
+                b"refused 19 FireWhenEnabled second first\n".as_slice()
+            );
+        }
     }
     Ok(())
 }

@@ -9,12 +9,12 @@ pub returns-in_ok-refusal-in-Err-NoImplicit-clause-refused : goal.returns-in_ok-
 returns-in_ok-refusal-in-Err-NoImplicit-clause-refused c =
     let case = c.in-Err-NoImplicit in
     λ r e. unasserted_implicit c.args.design.now c.args.schedule.now case.rule case.place r
-        ((case.ensures.no_implicit case.rule case.place).0 (ap Err case.field-0-is))
-        (sym (told_same c.in_ok-refusal-in-Err-NoImplicit.refusal r e) ∙ c.in_ok-refusal-in-Err-NoImplicit.ensures)
+    ((case.ensures.no_implicit case.rule case.place).0 (ap Err case.field-0-is))
+    (sym (told_same c.in_ok-refusal-in-Err-NoImplicit.refusal r e) ∙ c.in_ok-refusal-in-Err-NoImplicit.ensures)
 
 pub returns-in_ok-refusal-in-Err-FireWhenEnabled-clause-refused : goal.returns-in_ok-refusal-in-Err-FireWhenEnabled-clause-refused
 returns-in_ok-refusal-in-Err-FireWhenEnabled-clause-refused c =
     let case = c.in-Err-FireWhenEnabled in
     λ r e. unasserted_stopped c.args.design.now c.args.schedule.now case.rule case.element r
-        ((case.ensures.fires case.rule case.element).0 (ap Err case.field-0-is))
-        (sym (told_same c.in_ok-refusal-in-Err-FireWhenEnabled.refusal r e) ∙ c.in_ok-refusal-in-Err-FireWhenEnabled.ensures)
+    ((case.ensures.fires case.rule case.element).0 (ap Err case.field-0-is))
+    (sym (told_same c.in_ok-refusal-in-Err-FireWhenEnabled.refusal r e) ∙ c.in_ok-refusal-in-Err-FireWhenEnabled.ensures)

@@ -8,14 +8,14 @@ returns-in_err-execution-clause-refused g c =
     let p = err_from_is_err_and c.from_residual-in_err-execution.result c.from_residual-in_err-execution.ensures.1 in
     let made = c.in_ok-design.ensures in
     λ r e. unexecuted _ c.in_ok-design.design made.alike made.parts made.kept r
-        (c.executed.ensures.refused r (c.in_err-execution.was ∙ ap Err (fault_same _ _ (ap Err (sym p.2) ∙ sym p.1 ∙ e))))
+    (c.executed.ensures.refused r (c.in_err-execution.was ∙ ap Err (fault_same _ _ (ap Err (sym p.2) ∙ sym p.1 ∙ e))))
 
 pub returns-in_err-urgency-clause-refused : goal.returns-in_err-urgency-clause-refused
 returns-in_err-urgency-clause-refused g c =
     let p = err_from_is_err_and c.from_residual-in_err-urgency.result c.from_residual-in_err-urgency.ensures.1 in
     let made = c.in_ok-design.ensures in
     λ r e. unurged _ c.in_ok-design.design made.alike made.parts made.kept c.in_ok-execution.execution c.in_ok-execution.ensures.executes r
-        (c.urged.ensures.refused r (c.in_err-urgency.was ∙ ap Err (fault_same _ _ (ap Err (sym p.2) ∙ sym p.1 ∙ e))))
+    (c.urged.ensures.refused r (c.in_err-urgency.was ∙ ap Err (fault_same _ _ (ap Err (sym p.2) ∙ sym p.1 ∙ e))))
 
 pub returns-in_err-asserted-clause-refused : goal.returns-in_err-asserted-clause-refused
 returns-in_err-asserted-clause-refused g c =
@@ -23,9 +23,9 @@ returns-in_err-asserted-clause-refused g c =
     let made = c.in_ok-design.ensures in
     let orders = c.in_ok-schedule.ensures in
     λ r e. unasserted _ c.in_ok-design.design made.alike made.parts made.kept c.in_ok-schedule.schedule
-        c.in_ok-execution.execution c.in_ok-urgency.urgency orders.execution orders.urgency
-        c.in_ok-execution.ensures.executes c.in_ok-urgency.ensures.urges orders.stops r
-        (c.asserted.ensures.refused r (c.in_err-asserted.was ∙ ap Err (fault_same _ _ (ap Err (sym p.2) ∙ sym p.1 ∙ e))))
+    c.in_ok-execution.execution c.in_ok-urgency.urgency orders.execution orders.urgency
+    c.in_ok-execution.ensures.executes c.in_ok-urgency.ensures.urges orders.stops r
+    (c.asserted.ensures.refused r (c.in_err-asserted.was ∙ ap Err (fault_same _ _ (ap Err (sym p.2) ∙ sym p.1 ∙ e))))
 
 pub returns-clause-scheduled : goal.returns-clause-scheduled
 returns-clause-scheduled g c =
