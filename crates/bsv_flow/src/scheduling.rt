@@ -22,12 +22,11 @@ ghost use Rattle.bsv_flow.specs.declared.refusal.CompileFault.TheVariants.{Refus
 ghost use Rattle.bsv_flow.specs.declared.refusal.Refusal.{Refusal as TheRefusal};
 
 use crate::flattening::flat;
-use crate::naming::{attribute_word, element_name, method_name, part_path};
+use crate::naming::{attribute_word, dotted, element_name, method_name, part_path};
 use crate::refusal::{CompileFault, Refusal};
 use bsv_attr::{AttrFault, asserts, is_countable};
 use bsv_bits::{Name, OutOfMemory};
 use bsv_design::{Design, Element, Guards, NamedPart, Pair, Schedule, Tree};
-use bsv_inline::path_of;
 use bsv_order::{OrderFault, execution};
 use bsv_urgency::{UrgencyFault, schedule, urgency};
 use sqlite_items::Items;
@@ -146,7 +145,7 @@ fn call_text(
     ensures { IfOk result (λ name. name ≡ spec.call_at parts.now element.now place) }
 {
     match element.calls.get(place) {
-        Some(call) => path_of(
+        Some(call) => dotted(
             alloc,
             part_path(parts, call.part),
             method_name(parts, call.part, call.method),

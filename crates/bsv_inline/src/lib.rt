@@ -27,4 +27,3 @@ mod tests;
 mod walk;
 
 pub use designs::flatten;
-pub use naming::path_of;

@@ -3,13 +3,13 @@ ghost use Rattle.bsv_design.specs.Traces.{with_dot, method_text, place_name};
 ghost use Rattle.bsv_inline.specs.AtHand.{method_of};
 
 use crate::state::Laid;
-use bsv_bits::{Name, OutOfMemory};
+use bsv_bits::Name;
 use bsv_design::{Instance, Made, MethodPlace};
 use bsv_types::Module;
 use std::alloc::Global;
 
 /// The path of what has the name in the instance of a path.
-pub fn path_of(alloc: Global, path: &[u8], name: &[u8]) -> Result<Name, OutOfMemory>
+pub(crate) fn path_of(alloc: Global, path: &[u8], name: &[u8]) -> Laid<Name>
     ensures { IfOk result (λ whole. whole ≡ with_dot path.now name.now) }
 {
     if path.is_empty() {
