@@ -1,4 +1,4 @@
-use crate::{CompileFault, Loaded, Refusal, flat, load, scheduled, tree, typed};
+use crate::{CompileFault, Loaded, Refusal, flat, load, tree, typed};
 use bsv_bits::{Name, OutOfMemory};
 use bsv_design::Tree;
 use bsv_io::{MemFiles, MemSink};
@@ -7,7 +7,6 @@ use std::alloc::{AllocError, Global};
 use std::ops::Range;
 use std::process::Abort;
 use std::test::Fail;
-use std::thread::Threads;
 
 /// Files with bytes that a text of lines does not hold, and the line of the refusal.
 const REFUSED: [(&[u8], &str); 13] = [
@@ -108,19 +107,6 @@ module mkGcd(Gcd);
   method Bit#(8) result() if (y == 0); return x; endmethod
 endmodule: mkGcd
 endpackage: Gcd
-";
-
-/// Two rules that conflict, the second of which is to fire whenever it can.
-const STOPPED: &str = "\
-package Stopped;
-(* synthesize *)
-module mkStopped(Empty);
-  Reg#(Bit#(8)) x <- mkReg(0);
-  rule first; x <= x + 1; endrule
-  (* fire_when_enabled *)
-  rule second; x <= x + 2; endrule
-endmodule
-endpackage
 ";
 
 /// These pieces, one behind the other.
@@ -299,16 +285,11 @@ fn packages_are_typed(rt: HostRuntime) -> Result<(), Fail> {
     Ok(())
 }
 
-/// The tree of a package by the name of its top.
-fn tree_of(alloc: Global, file: &str, text: &str, top: &str) -> Result<Tree, CompileFault> {
-    let mut source = files_of(alloc, &[(file.as_bytes(), text.as_bytes())], &[])?;
-    let loaded = load(alloc, &mut source, file)?;
-    tree(alloc, typed(alloc, &loaded)?, top)
-}
-
 /// The tree of the greatest common divisor by the name of its top.
 fn built(alloc: Global, top: &str) -> Result<Tree, CompileFault> {
-    tree_of(alloc, "Gcd.bsv", GCD, top)
+    let mut source = files_of(alloc, &[(b"Gcd.bsv", GCD.as_bytes())], &[])?;
+    let loaded = load(alloc, &mut source, "Gcd.bsv")?;
+    tree(alloc, typed(alloc, &loaded)?, top)
 }
 
 /// How many instances a tree has, or why there is none.
@@ -348,58 +329,6 @@ fn trees_are_laid_out(rt: HostRuntime) -> Result<(), Fail> {
         Ok(counts) => assert_eq!(rt; counts, (4, 2, 4)),
         Err(_) => assert!(rt; false),
     }
-    Ok(())
-}
-
-/// Which element of a schedule is executed first, and how many elements have a list of what they stop;
-/// or why there is no schedule.
-fn first_of<R: Threads + Sync>(
-    rt: &R,
-    alloc: Global,
-    tree: &Tree,
-) -> Result<(u32, usize), CompileFault> {
-    let compiled = scheduled(rt, alloc, tree)?;
-    let first = match compiled.schedule.execution.get(0) {
-        Some(first) => *first,
-        None => 0,
-    };
-    Ok((first, compiled.schedule.stops.len()))
-}
-
-/// The same of a package by the name of its top.
-fn first_scheduled<R: Threads + Sync>(
-    rt: &R,
-    alloc: Global,
-    file: &str,
-    text: &str,
-    top: &str,
-) -> Result<(u32, usize), CompileFault> {
-    let tree = tree_of(alloc, file, text, top)?;
-    first_of(rt, alloc, &tree)
-}
-
-/// The value method, which comes behind the method that acts, is executed before all others.
-#[test]
-fn designs_are_scheduled(rt: HostRuntime) -> Result<(), Fail> {
-    match first_scheduled(&rt, rt.alloc(), "Gcd.bsv", GCD, "mkGcd") {
-        Ok(first) => assert_eq!(rt; first, (1, 4)),
-        Err(_) => assert!(rt; false),
-    }
-    Ok(())
-}
-
-/// A rule that is to fire whenever it can, behind a rule that it conflicts with.
-#[test]
-fn marks_of_rules_are_looked_at(rt: HostRuntime) -> Result<(), Fail> {
-    let alloc = rt.alloc();
-    let told = match first_scheduled(&rt, alloc, "Stopped.bsv", STOPPED, "mkStopped") {
-        Ok(_) => Vec::new(alloc),
-        Err(fault) => fault_text(alloc, &fault)?,
-    };
-    assert_eq!(rt;
-        told.as_slice(),
-        b"refused 19 FireWhenEnabled second first\n".as_slice()
-    );
     Ok(())
 }
 
