@@ -1,4 +1,4 @@
-use crate::{CompileFault, Loaded, Refusal, flat, load, tree, typed};
+use crate::{CompileFault, Loaded, load, tree, typed};
 use bsv_bits::{Name, OutOfMemory};
 use bsv_design::Tree;
 use bsv_io::{MemFiles, MemSink};
@@ -307,71 +307,6 @@ fn programs_are_built(rt: HostRuntime) -> Result<(), Fail> {
         };
         assert_eq!(rt; count, instances, "{top}");
         assert_eq!(rt; found.as_slice(), told, "{top}");
-    }
-    Ok(())
-}
-
-/// How many elements and parts the design of the greatest common divisor has, and of how many elements
-/// there are needs.
-fn laid_out(alloc: Global) -> Result<(usize, usize, usize), CompileFault> {
-    let tree = built(alloc, "mkGcd")?;
-    let (design, guards) = flat(alloc, &tree)?;
-    Ok((
-        design.elements.len(),
-        design.parts.len(),
-        guards.needs.len(),
-    ))
-}
-
-#[test]
-fn trees_are_laid_out(rt: HostRuntime) -> Result<(), Fail> {
-    match laid_out(rt.alloc()) {
-        Ok(counts) => assert_eq!(rt; counts, (4, 2, 4)),
-        Err(_) => assert!(rt; false),
-    }
-    Ok(())
-}
-
-/// Each refusal of a schedule puts its line.
-#[test]
-fn refusals_of_schedules_are_told(rt: HostRuntime) -> Result<(), Fail> {
-    let alloc = rt.alloc();
-    let name = |text: &str| Name::new(alloc, text.as_bytes());
-    let order = "execution_order";
-    let rows: [(Refusal, &[u8]); 8] = [
-        (
-            Refusal::InRule(name("r")?, name("x")?, name("_read")?, name("_write")?),
-            b"refused 18 InRule r x _read _write\n",
-        ),
-        (
-            Refusal::FireWhenEnabled(name("b")?, name("a")?),
-            b"refused 19 FireWhenEnabled b a\n",
-        ),
-        (
-            Refusal::NoImplicit(name("get")?, name("f.first")?),
-            b"refused 20 NoImplicit get f.first\n",
-        ),
-        (Refusal::WireCycle(name("a")?), b"refused 21 WireCycle a\n"),
-        (
-            Refusal::ValueClash(name("v")?),
-            b"refused 22 ValueClash v\n",
-        ),
-        (
-            Refusal::ExecutionCycle(name(order)?, name("rd")?, name("wr")?),
-            b"refused 23 ExecutionCycle execution_order rd wr\n",
-        ),
-        (
-            Refusal::UrgencyCycle(name("preempts")?, name("rd")?, name("wr")?),
-            b"refused 24 UrgencyCycle preempts rd wr\n",
-        ),
-        (
-            Refusal::MethodBehindRule(name("m")?, name("r")?),
-            b"refused 25 MethodBehindRule m r\n",
-        ),
-    ];
-    for (refusal, line) in rows {
-        let found = fault_text(alloc, &CompileFault::Refused(refusal))?;
-        assert_eq!(rt; found.as_slice(), line);
     }
     Ok(())
 }
