@@ -1,3 +1,4 @@
 mod Numbered
 mod Meeting
 pub mod Asked
+pub mod Named

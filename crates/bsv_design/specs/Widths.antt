@@ -59,6 +59,15 @@ abbrev pub args_fit : Table → ℕ → List ℕ → ℕ → List ℕ → Bool
 args_fit t m ws k [] = k == t.arity m
 args_fit t m ws k (a ∷ args) = nat_lt k (t.arity m) && has_width (slice_get ws a) (t.argument_width m k) && args_fit t m ws (k + 1) args
 
+-- a part of this kind has the method
+abbrev pub has_method : Option Kind → ℕ → Bool
+has_method None m = false
+has_method (Some k) m = nat_lt m (kind_table k).methods
+
+-- the call names a method of a part
+abbrev pub call_named : List Kind → Call → Bool
+call_named ks c = has_method (slice_get ks c.part) c.method
+
 -- where nodes have these widths, the method is one of its part and has the arguments that it takes
 abbrev pub method_fits : Option Kind → List ℕ → Call → Bool
 method_fits None ws c = false

@@ -1,12 +1,12 @@
 //! The kinds of primitives of a hardware design, as one type, and the design as a tree of instances.
 //!
-//! Modules in reading order: `names` (the names of the methods), `kind` (the nine kinds), `statics` (what
-//! the variables of a module are), `steps` (what is left to do of an element), `values` (what carrying out
-//! speaks of), `tree` (the instances), `whole` (the tree, and what holds of it), `node` and `element` (an
-//! element as a flat body), `source` (an element as it was carried out), `design` (the design of such
-//! bodies, and what holds of it), `state`, `requests`, `fired` and `schedule` (what a clock takes and
-//! gives). The tables stand in `specs/Kinds.antt`, the names in `specs/MethodNames.antt`, and what all
-//! later definitions speak of in `specs/Schemes.antt`.
+//! Modules in reading order: `names` (the names of the methods), `kind` (the nine kinds), `statics`
+//! (what the variables of a module are), `steps` (what is left to do of an element), `values` (what
+//! carrying out speaks of), `tree` (the instances), `paths` (the text of a path), `whole` (the tree, and
+//! what holds of it), `node` and `element` (an element as a flat body), `source` (an element as it was
+//! carried out), `design` (the design of such bodies, and what holds of it), `state`, `requests`,
+//! `fired` and `schedule` (what a clock takes and gives). The tables stand in `specs/Kinds.antt`, the
+//! names in `specs/MethodNames.antt`, and what all later definitions speak of in `specs/Schemes.antt`.
 #![tactic(auto)]
 
 mod design;
@@ -16,6 +16,7 @@ mod interface;
 mod kind;
 mod names;
 mod node;
+mod paths;
 mod requests;
 mod schedule;
 mod source;
@@ -34,6 +35,7 @@ pub use fired::Fired;
 pub use interface::part_method_number;
 pub use kind::Kind;
 pub use node::{Branch, Node};
+pub use paths::path_of;
 pub use requests::Requests;
 pub use schedule::{Guards, Need, Schedule};
 pub use source::Source;

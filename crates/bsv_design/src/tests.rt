@@ -1,6 +1,6 @@
 ghost use Rattle.std.specs.Prelude.{◌≡◌};
 
-use crate::Kind;
+use crate::{Kind, path_of};
 use bsv_bits::{Name, OutOfMemory, Word};
 use bsv_fifo::{BypassKind, PipelineKind, PlainKind};
 use bsv_prim::{
@@ -412,5 +412,14 @@ fn calls(rt: HostRuntime) -> Result<(), Fail> {
     queue.apply(1, &mut part, &[]);
     assert_eq!(rt; queue.result(2, &part, &[]), byte(2));
     needs_threads(&queue);
+    Ok(())
+}
+
+#[test]
+fn paths(rt: HostRuntime) -> Result<(), Fail> {
+    let inside = path_of(rt.alloc(), b"cpu.alu", b"add")?;
+    assert_eq!(rt; inside.bytes(), b"cpu.alu.add".as_slice());
+    let top = path_of(rt.alloc(), b"", b"add")?;
+    assert_eq!(rt; top.bytes(), b"add".as_slice());
     Ok(())
 }

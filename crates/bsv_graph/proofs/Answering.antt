@@ -9,17 +9,17 @@ use Rattle.bsv_graph.specs.Edges.{edges_where}
 use Rattle.bsv_graph.specs.ExecutionOrders.{HasNeither, IsValueClash, NoValueClash, WireCycle, ValueClash, ExecutionCycle, Executes}
 use Rattle.bsv_graph.specs.Orders.{In, StandsBefore}
 use Rattle.bsv_graph.specs.Reaching.{AreWithin}
-use Rattle.bsv_graph.specs.Relating.{Relating, Agrees, feed_edges, is_value_edge, value_edges, early_edges, hard_edges, is_soft, soft_edges}
+use Rattle.bsv_graph.specs.Relating.{Relating, feed_edges, is_value_edge, value_edges, early_edges, hard_edges, soft_edges}
 use Rattle.bsv_graph.specs.Stops.{Stops, Picks, AreStops}
 use Rattle.bsv_graph.specs.UrgencyOrders.{urgency_edges, UrgencyOrder, IsBehindRule, IsFirstRule, UrgencyCycle, MethodBehindRule, Urges}
 use Rattle.bsv_graph.specs.Walks.{HasCycle, IsAcyclic, NoneCloses}
-use Rattle.bsv_graph.proofs.EdgeLemmas.{where_of, within_all}
+use Rattle.bsv_graph.proofs.EdgeLemmas.{where_of}
 use Rattle.bsv_graph.proofs.LeastLemmas.{bool_cases}
 use Rattle.bsv_graph.proofs.OrderedLemmas.{before_in}
 use Rattle.bsv_graph.proofs.WalkLemmas.{edge_parts, keeps_acyclic, none_acyclic}
 use Rattle.bsv_graph.proofs.ValueLemmas.{acyclic_zero, acyclic_next}
 use Rattle.bsv_graph.proofs.Deciding.{Decided, decide_both, decide_either, decide_true, decide_false, decide_before, first_with, cycle_or_none}
-use Rattle.bsv_graph.proofs.Existing.{least_exists, keeps_exists, keeps_within, closes_or_none}
+use Rattle.bsv_graph.proofs.Existing.{least_exists, keeps_exists, closes_or_none}
 
 -- all edges lead between elements
 where_within : (test : ℕ → ℕ → Bool) (n : ℕ) → AreWithin n (edges_where n test)
@@ -30,12 +30,6 @@ both_within n xs ys f g a b h = elim (edge_parts xs ys a b h) [ inl k ↦ f a b 
 
 early_within : (r : Relating) (k : ℕ) → AreWithin r.count (early_edges r k)
 early_within r k = both_within r.count (value_edges r k) (feed_edges r) (where_within (is_value_edge r k) r.count) (where_within r.feeds r.count)
-
-hard_within : (r : Relating) → Agrees r → AreWithin r.count (hard_edges r)
-hard_within r g = both_within r.count r.ordering (early_edges r r.count) (within_all r.count r.ordering g.ordering) (early_within r r.count)
-
-urgency_within : (r : Relating) → Agrees r → AreWithin r.count (urgency_edges r)
-urgency_within r g = both_within r.count r.urging (feed_edges r) (within_all r.count r.urging g.urging) (where_within r.feeds r.count)
 
 -- e is no value method, and neither of e and v goes before the other
 abbrev IsApart : Relating → ℕ → ℕ → Type 0
@@ -68,12 +62,12 @@ early_acyclic : (r : Relating) → IsAcyclic (feed_edges r) → NoValueClash r �
 early_acyclic r f n zero h a w = acyclic_zero r f a w
 early_acyclic r f n (suc k) h a w = acyclic_next r k (early_acyclic r f n k (omega arith)) (n k (omega arith)) a w
 
-execution_exists : (r : Relating) → Agrees r → IsAcyclic (feed_edges r) → NoValueClash r → NoneCloses (early_edges r r.count) r.ordering
+execution_exists : (r : Relating) → IsAcyclic (feed_edges r) → NoValueClash r → NoneCloses (early_edges r r.count) r.ordering
     → (xs : List ℕ) × Executes r xs
-execution_exists r g f n p =
+execution_exists r f n p =
     let h : IsAcyclic (hard_edges r) = none_acyclic (early_edges r r.count) r.ordering (early_acyclic r f n r.count (omega arith)) p in
     let k = keeps_exists (soft_edges r) (hard_edges r) in
-    let x = least_exists k.0 r.count (keeps_within r.count k.1 (hard_within r g) (where_within (is_soft r) r.count)) (keeps_acyclic k.1 h) in
+    let x = least_exists k.0 r.count (keeps_acyclic k.1 h) in
     (x.0, record { feeds = f; values = n; pairs = p; order = (k.0, k.1, x.1) })
 
 -- each design has an execution order, or is refused
@@ -81,10 +75,10 @@ abbrev pub ExecutionAnswer : Relating → Type 0
 ExecutionAnswer r = ((xs : List ℕ) × Executes r xs) ⊎ ((a : ℕ) × WireCycle r a) ⊎ ((v : ℕ) × ValueClash r v)
     ⊎ ((k : ℕ) × ExecutionCycle r k × (k < length r.ordering))
 
-module _ (r : Relating) (agrees : Agrees r) where
+module _ (r : Relating) where
   pairs_answer : IsAcyclic (feed_edges r) → NoValueClash r → ExecutionAnswer r
   pairs_answer f n = elim (closes_or_none (early_edges r r.count) r.ordering) [
-    | inl p ↦ inl (execution_exists r agrees f n p)
+    | inl p ↦ inl (execution_exists r f n p)
     | inr x ↦ inr (inr (inr (x.0, (f, n, x.1), x.2)))
   ]
 
@@ -137,7 +131,7 @@ module _ (r : Relating) (xs : List ℕ) where
 abbrev pub UrgencyAnswer : Relating → Type 0
 UrgencyAnswer r = ((xs : List ℕ) × Urges r xs) ⊎ ((k : ℕ) × UrgencyCycle r k × (k < length r.urging)) ⊎ ((m : ℕ) × (q : ℕ) × MethodBehindRule r m q)
 
-module _ (r : Relating) (agrees : Agrees r) (feeds : IsAcyclic (feed_edges r)) where
+module _ (r : Relating) (feeds : IsAcyclic (feed_edges r)) where
   methods_answer : NoneCloses (feed_edges r) r.urging → (xs : List ℕ) → UrgencyOrder r xs → UrgencyAnswer r
   methods_answer p xs u = elim (first_with (IsBehindRule r xs) (decide_behind r xs u.order.below) r.count) [
     | inl f ↦ inl (xs, record { pairs = p; order = u; methods = λ m h. f m (u.order.below m (before_in xs h.behind.0 m h.behind.2).1) h })
@@ -159,7 +153,7 @@ module _ (r : Relating) (agrees : Agrees r) (feeds : IsAcyclic (feed_edges r)) w
 
   pub urges_or_declined : UrgencyAnswer r
   urges_or_declined = elim (closes_or_none (feed_edges r) r.urging) [
-    | inl p ↦ let x = least_exists (urgency_edges r) r.count (urgency_within r agrees) (none_acyclic (feed_edges r) r.urging feeds p) in methods_answer p x.0 x.1
+    | inl p ↦ let x = least_exists (urgency_edges r) r.count (none_acyclic (feed_edges r) r.urging feeds p) in methods_answer p x.0 x.1
     | inr x ↦ inr (inl x)
   ]
 

@@ -1,5 +1,5 @@
-use Rattle.std.proofs.Common.{◌≡◌, ◌∙◌, ℕ, ◌<◌, ◌^◌, Bool, true, false, ◌&&◌, List, [], ◌∷◌, map, length, Some, None, refl, ap, suc, ltb-true, nat_lt}
-use Rattle.std.specs.Prelude.{slice_get, Option, IsTrue}
+use Rattle.std.proofs.Common.{◌≡◌, ◌∙◌, ℕ, ◌<◌, ◌^◌, true, ◌&&◌, List, [], ◌∷◌, map, length, Some, None, refl, ap, suc, ltb-true, nat_lt}
+use Rattle.std.specs.Prelude.{slice_get, IsTrue}
 use Rattle.std.specs.List.{list_all}
 use Rattle.std.proofs.Math.Logic.{∥∥₁_elim}
 use Rattle.std.proofs.Math.Bool.{Bool-set}
@@ -7,40 +7,13 @@ use Rattle.std.proofs.lemmas.Bool.{lt-ltb}
 use Rattle.std.proofs.lemmas.Option.{slice_get_within}
 use Rattle.bsv_design.specs.declared.design.Design.{Design}
 use Rattle.bsv_design.specs.declared.design.NamedPart.{NamedPart}
-use Rattle.bsv_design.specs.declared.element.Call.{Call}
 use Rattle.bsv_design.specs.declared.element.Element.{Element}
-use Rattle.bsv_design.specs.declared.kind.Kind.{Kind}
 use Rattle.bsv_design.specs.declared.tree.Pair.{Pair}
 use Rattle.bsv_design.specs.Bodies.{target}
 use Rattle.bsv_design.specs.Designs.{IsDesign}
-use Rattle.bsv_design.specs.Schemes.{design_scheme, kinds_of, calls_of}
+use Rattle.bsv_design.specs.Schemes.{design_scheme, calls_of}
 use Rattle.bsv_design.specs.Seen.{blueprint}
-use Rattle.bsv_design.specs.Widths.{call_fits, method_fits, has_width}
-use Rattle.bsv_graph.specs.Related.{has_method, call_named}
 use Rattle.bsv_graph.specs.Uses.{pair_below}
-
-both_left : (a b : Bool) → (a && b) ≡ true → a ≡ true
-both_left true b h = refl
-both_left false b h = h
-
-both_right : (a b : Bool) → (a && b) ≡ true → b ≡ true
-both_right true b h = h
-both_right false b h = absurd cc
-
-fits_names : (k : Option Kind) (ws : List ℕ) (c : Call) → method_fits k ws c ≡ true → has_method k c.method ≡ true
-fits_names None ws c h = h
-fits_names (Some k) ws c h = both_left _ _ h
-
-fit_named : (ks : List Kind) (ws : List ℕ) (cs : List Call) → list_all (call_fits ks ws) cs ≡ true → list_all (call_named ks) cs ≡ true
-fit_named ks ws [] h = refl
-fit_named ks ws (c ∷ cs) h =
-    let here : call_named ks c ≡ true = fits_names (slice_get ks c.part) ws c (both_right (has_width (slice_get ws c.taken) 1) _ (both_left _ _ h)) in
-    ap (λ b. b && list_all (call_named ks) cs) here ∙ fit_named ks ws cs (both_right (call_fits ks ws c) _ h)
-
--- the calls of an element name methods of parts
-pub calls_named : (d : Design) (n : ℕ) (e : Element) → slice_get d.elements n ≡ Some e → IsTrue (list_all (call_named (kinds_of (blueprint d))) e.calls)
-calls_named d n e at =
-    ∥∥₁_elim d.right (Bool-set _ _) (λ (right : IsDesign (blueprint d)). fit_named _ _ e.calls (right.elements n e at).fits.calls)
 
 pub few_elements : (d : Design) → length d.elements < 2 ^ 32
 few_elements d =

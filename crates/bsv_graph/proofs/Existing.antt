@@ -1,11 +1,11 @@
-use Rattle.std.proofs.Common.{◌≡◌, ℕ, ◌<◌, ◌≤◌, add-one, ◌⊎◌, inl, inr, Bool, true, false, List, [], ◌∷◌, ◌++◌, length, get_or, set, take, replicate, refl, zero, suc, subst, arith}
+use Rattle.std.proofs.Common.{◌≡◌, ℕ, ◌<◌, ◌≤◌, add-one, ◌⊎◌, inl, inr, Bool, true, false, List, [], ◌∷◌, ◌++◌, length, get_or, set, take, replicate, refl, zero, suc, sym, subst, arith}
 use Rattle.std.proofs.lemmas.Bool.{cases_lt}
 use Rattle.std.proofs.lemmas.List.{take_all}
 use Rattle.bsv_graph.specs.declared.edge.Edge.{Edge}
-use Rattle.bsv_graph.specs.Orders.{In, IsLeastOrder}
+use Rattle.bsv_graph.specs.Orders.{In, Respects, IsLeastOrder}
 use Rattle.bsv_graph.specs.Reaching.{AreWithin}
-use Rattle.bsv_graph.specs.Walks.{Walk, IsAcyclic, Closes, NoneCloses, ClosesFirst, Keeps, done, keep, drop}
-use Rattle.bsv_graph.proofs.WalkLemmas.{walk_then, none_first, none_more, closes_first}
+use Rattle.bsv_graph.specs.Walks.{HasEdge, Walk, IsAcyclic, Closes, NoneCloses, ClosesFirst, Keeps, done, keep, drop}
+use Rattle.bsv_graph.proofs.WalkLemmas.{walk_then, walk_map, none_first, none_more, closes_first}
 use Rattle.bsv_graph.proofs.LeastLemmas.{IsNext, IsGreedy, IsFilled, greedy_snoc, filled_none, filled_more, filled_fresh, filled_open, filled_some, filled_order, least_from_greedy}
 use Rattle.bsv_graph.proofs.Deciding.{Decided, decide_both, decide_not, decide_walk, decide_closes, decide_in, IsFirstWith, first_with}
 
@@ -121,10 +121,67 @@ module _ (es : List Edge) (n : ℕ) (within : AreWithin n es) (acyclic : IsAcycl
       let o = filled_open n t.0 t.1 i t.2 x.0 x.1.below x.1.fresh in
       (set t.0 x.0 true, t.1 ++ (x.0 ∷ []), rw add-one at (filled_more n t.0 t.1 i x.0 t.2 x.1.below o), greedy_snoc es n [] t.1 x.0 t.3 x.1)
 
-  pub least_exists : (xs : List ℕ) × IsLeastOrder n es xs
-  least_exists =
+  least_within : (xs : List ℕ) × IsLeastOrder n es xs
+  least_within =
       let t = least_taken n (omega arith) in
       (t.1, least_from_greedy es n t.1 within (filled_order n t.0 t.1 n t.2 (omega arith)) t.3)
+
+-- the edges of es between numbers below n are those of fs
+record AreInner (n : ℕ) (es fs : List Edge) : Type 0 where
+  has : (a b : ℕ) → HasEdge es a b → a < n → b < n → HasEdge fs a b
+  from : (a b : ℕ) → HasEdge fs a b → HasEdge es a b
+  within : AreWithin n fs
+
+inner_more : (n : ℕ) (e : Edge) (es fs : List Edge) → AreInner n es fs → e.from < n → e.to < n → AreInner n (e ∷ es) (e ∷ fs)
+inner_more n e es fs i l m = record {
+  has = λ a b h x y. elim h [ inl k ↦ inl k | inr k ↦ inr (i.has a b k x y) ];
+  from = λ a b h. elim h [ inl k ↦ inl k | inr k ↦ inr (i.from a b k) ];
+  within = λ a b h. elim h [
+    | inl k ↦ (subst (λ x. x < n) (sym k.0) l, subst (λ x. x < n) (sym k.1) m)
+    | inr k ↦ i.within a b k
+  ];
+}
+
+inner_less : (n : ℕ) (e : Edge) (es fs : List Edge) → AreInner n es fs → (e.from < n → e.to < n → ⊥) → AreInner n (e ∷ es) fs
+inner_less n e es fs i out = record {
+  has = λ a b h x y. elim h [
+    | inl k ↦ absurd (out (subst (λ z. z < n) k.0 x) (subst (λ z. z < n) k.1 y))
+    | inr k ↦ i.has a b k x y
+  ];
+  from = λ a b h. inr (i.from a b h);
+  within = i.within;
+}
+
+inner : (n : ℕ) (es : List Edge) → (fs : List Edge) × AreInner n es fs
+inner n [] = ([], record { has = λ a b h x y. h; from = λ a b h. h; within = λ a b h. absurd h })
+inner n (e ∷ es) =
+    let i = inner n es in
+    elim (cases_lt e.from n) [
+      | inl l ↦ elim (cases_lt e.to n) [
+        | inl m ↦ (e ∷ i.0, inner_more n e es i.0 i.1 l m)
+        | inr m ↦ (i.0, inner_less n e es i.0 i.1 (λ x y. omega (arith, y, m)))
+      ]
+      | inr l ↦ (i.0, inner_less n e es i.0 i.1 (λ x y. omega (arith, x, l)))
+    ]
+
+respects_less : (es fs : List Edge) (xs : List ℕ) → ((a b : ℕ) → In xs a → In xs b → HasEdge fs a b → HasEdge es a b) → Respects es xs
+    → Respects fs xs
+respects_less es fs [] f r = tt
+respects_less es fs (x ∷ xs) f r =
+    (λ y i h. r.0 y i (f y x i (inl refl) h), respects_less es fs xs (λ a b i j h. f a b (inr i) (inr j) h) r.1)
+
+-- edges without a cycle have a least order; those that lead elsewhere than between its numbers don't matter to it
+pub least_exists : (es : List Edge) (n : ℕ) → IsAcyclic es → (xs : List ℕ) × IsLeastOrder n es xs
+least_exists es n acyclic =
+    let i = inner n es in
+    let x = least_within i.0 n i.1.within (λ a w. acyclic a (walk_map i.1.from w)) in (
+      x.0,
+      record {
+        order = x.1.order;
+        respects = respects_less i.0 es x.0 (λ a b j k h. i.1.has a b h (x.1.order.below a j) (x.1.order.below b k)) x.1.respects;
+        least = λ ys o r. x.1.least ys o (respects_less es i.0 ys (λ a b j k h. i.1.from a b h) r);
+      },
+    )
 
 -- the edges that are kept
 pub keeps_exists : (ps es : List Edge) → (fs : List Edge) × Keeps es ps fs
@@ -133,12 +190,6 @@ keeps_exists (p ∷ ps) es = elim (decide_closes es p) [
   | inl c ↦ let k = keeps_exists ps es in (k.0, drop c k.1)
   | inr c ↦ let k = keeps_exists ps (p ∷ es) in (k.0, keep c k.1)
 ]
-
-pub keeps_within : {es ps fs : List Edge} (n : ℕ) → Keeps es ps fs → AreWithin n es → AreWithin n ps → AreWithin n fs
-keeps_within n done f g a b h = f a b h
-keeps_within n (keep {es} {ps} {fs} {p} m k) f g a b h =
-    keeps_within n k (λ x y i. elim i [ inl j ↦ g x y (inl j) | inr j ↦ f x y j ]) (λ x y i. g x y (inr i)) a b h
-keeps_within n (drop m k) f g a b h = keeps_within n k f (λ x y i. g x y (inr i)) a b h
 
 -- none of the edges closes a cycle, or there is a first
 module _ (es ps : List Edge) (d : Edge) where

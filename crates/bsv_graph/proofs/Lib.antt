@@ -1,6 +1,7 @@
 pub mod TableLemmas
 pub mod WalkLemmas
 pub mod EdgeLemmas
+pub mod GraphLemmas
 pub mod LeastLemmas
 pub mod OrderedLemmas
 pub mod Deciding

@@ -9,12 +9,13 @@ use Rattle.bsv_design.specs.declared.kind.Kind.{Kind}
 use Rattle.bsv_design.specs.Bodies.{Target, target}
 use Rattle.bsv_design.specs.Relations.{goes, feeds, for_all, for_some, may_precede, may_precede_of, is_seen, sees_of}
 use Rattle.bsv_design.specs.Schemes.{Scheme}
+use Rattle.bsv_design.specs.Widths.{call_named}
 use Rattle.bsv_graph.specs.declared.related.Relation.{Relation}
 use Rattle.bsv_graph.specs.declared.related.Relation.TheVariants as relation
 use Rattle.bsv_graph.specs.declared.usage.Usage.{Usage}
 use Rattle.bsv_graph.specs.declared.usage.Use.{Use}
 use Rattle.bsv_graph.specs.Grouping.{methods_on, methods_at, AreGrouped, added}
-use Rattle.bsv_graph.specs.Related.{names_method, related, on_one_part, call_named}
+use Rattle.bsv_graph.specs.Related.{names_method, related, on_one_part}
 use Rattle.bsv_graph.specs.Uses.{target_of, Among, UseSame, Meets, IsNoted, used, use_named, meet, calls_meet}
 
 pub and_both : (x y : Bool) → IsTrue (x && y) → IsTrue x × IsTrue y

@@ -1,18 +1,14 @@
 -- How two calls on one part may stand to each other.
-use Rattle.std.specs.Prelude.{ℕ, ◌==◌, nat_lt, Bool, false, not, ◌&&◌, List, slice_get, Option, Some, None}
+use Rattle.std.specs.Prelude.{ℕ, ◌==◌, Bool, false, not, ◌&&◌, List, slice_get, Option, Some, None}
 use Rattle.bsv_prim.specs.Table.{goes_before}
-use Rattle.bsv_design.specs.declared.element.Call.{Call}
 use Rattle.bsv_design.specs.declared.kind.Kind.{Kind}
 use Rattle.bsv_design.specs.Bodies.{Target}
 use Rattle.bsv_design.specs.Kinds.{kind_table}
+use Rattle.bsv_design.specs.Widths.{has_method}
 use Rattle.bsv_graph.specs.declared.related.Relation.{Relation}
 use Rattle.bsv_graph.specs.declared.related.Relation.TheVariants as relation
 
--- a part of this kind has the method
-abbrev pub has_method : Option Kind → ℕ → Bool
-has_method None m = false
-has_method (Some k) m = nat_lt m (kind_table k).methods
-
+-- the part has the method
 abbrev pub names_method : List Kind → ℕ → ℕ → Bool
 names_method ks part m = has_method (slice_get ks part) m
 
@@ -24,9 +20,6 @@ related_by relation.Feeds k m n = (kind_table k).sees m n
 abbrev pub related : Relation → Option Kind → ℕ → ℕ → Bool
 related w None m n = false
 related w (Some k) m n = related_by w k m n
-
-abbrev pub call_named : List Kind → Call → Bool
-call_named ks c = names_method ks c.part c.method
 
 -- a use of the first element and one of the second stand so, on one part
 abbrev pub on_one_part : Relation → List Kind → Target → Target → Bool

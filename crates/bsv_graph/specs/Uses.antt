@@ -7,12 +7,13 @@ use Rattle.bsv_design.specs.declared.kind.Kind.{Kind}
 use Rattle.bsv_design.specs.declared.tree.Attribute.{Attribute}
 use Rattle.bsv_design.specs.declared.tree.Pair.{Pair}
 use Rattle.bsv_design.specs.Bodies.{Target, target}
+use Rattle.bsv_design.specs.Widths.{call_named}
 use Rattle.bsv_graph.specs.declared.related.Relation.{Relation}
 use Rattle.bsv_graph.specs.declared.usage.Usage.{Usage}
 use Rattle.bsv_graph.specs.declared.usage.Use.{Use}
 use Rattle.bsv_graph.specs.Elements.{is_ordering, is_urging}
 use Rattle.bsv_graph.specs.Grouping.{methods_on}
-use Rattle.bsv_graph.specs.Related.{names_method, related, on_one_part, call_named}
+use Rattle.bsv_graph.specs.Related.{names_method, related, on_one_part}
 
 abbrev pub target_of : Use → Target
 target_of u = record { part = u.part; method = u.method }

@@ -1,9 +1,11 @@
-ghost use Rattle.std.specs.Prelude.{◌≡◌, ◌^◌, ◌<◌, ◌↔◌, ◌++◌, ◌∷◌, [], List, length, take, All, IsTrue, IfNone, IfSome, IfOk};
+ghost use Rattle.std.specs.Prelude.{◌≡◌, ◌^◌, ◌<◌, ◌↔◌, ◌++◌, ◌∷◌, []};
+ghost use Rattle.std.specs.Prelude.{List, length, take, All, IsTrue, IfNone, IfSome, IfOk};
 ghost use Rattle.bsv_graph.specs.declared.edge.Edge.{Edge};
 ghost use Rattle.bsv_graph.specs.Edges.{AllBelow};
 ghost use Rattle.bsv_graph.specs.Graphs.{size_of, IsGraphOf, ForEdges, HasNoCycle};
 ghost use Rattle.bsv_graph.specs.Orders.{IsLeastOrder};
-ghost use Rattle.bsv_graph.specs.Walks.{Closes, Keeps, NoneCloses, ClosesFirst, IsAcyclic, LeastOnCycle};
+ghost use Rattle.bsv_graph.specs.Walks.{Closes, Keeps, NoneCloses};
+ghost use Rattle.bsv_graph.specs.Walks.{ClosesFirst, IsAcyclic, LeastOnCycle};
 
 use crate::edge::Edge;
 use crate::least::least_ready;

@@ -34,12 +34,12 @@ pub fn one_order()
 /// However elements relate, they have an execution order or one of the faults, and where their feeds have no cycle, an
 /// urgency order or one of the faults; and each two lists say what stops what.
 pub fn answered()
-    ensures execution { (r : Relating) → Agrees r
+    ensures execution { (r : Relating)
         → ((xs : List ℕ) × Executes r xs)
         ⊎ ((a : ℕ) × WireCycle r a)
         ⊎ ((v : ℕ) × ValueClash r v)
         ⊎ ((k : ℕ) × ExecutionCycle r k × (k < length r.ordering)) }
-    ensures urgency { (r : Relating) → Agrees r → IsAcyclic (feed_edges r)
+    ensures urgency { (r : Relating) → IsAcyclic (feed_edges r)
         → ((xs : List ℕ) × Urges r xs)
         ⊎ ((k : ℕ) × UrgencyCycle r k × (k < length r.urging))
         ⊎ ((m : ℕ) × (q : ℕ) × MethodBehindRule r m q) }

@@ -1,6 +1,7 @@
 ghost use Rattle.std.specs.Prelude.{◌≡◌, ◌<◌, ◌≤◌, ◌↔◌, length, IsTrue};
 ghost use Rattle.bsv_graph.specs.Growing.{IsClosed};
-ghost use Rattle.bsv_graph.specs.Ready.{IsOpen, SomeOpen, IsStrict, IsReady, IsLeastReady, IsClear, AreClear};
+ghost use Rattle.bsv_graph.specs.Ready.{IsOpen, SomeOpen, IsStrict, IsReady};
+ghost use Rattle.bsv_graph.specs.Ready.{IsLeastReady, IsClear, AreClear};
 ghost use Rattle.bsv_graph.specs.Table.{side_of, at};
 
 use crate::table::Table;

@@ -2,11 +2,11 @@
 //! design relate.
 //!
 //! Modules in reading order: `edge` (an edge), `table` (a square of marks), `edges` (the marks as a list of edges),
-//! `graph` (a graph to which edges are added, its cycles, and its least order), `reach` (what an edge adds to where
-//! walks lead), `least` (the least number that is ready), `laws` (what holds of all orders of a schedule, and that
-//! there are such orders unless something is at fault), `related` (how two calls on one part stand), `usage` and `uses`
-//! (the methods that an element uses, each once), `meeting` (elements whose uses stand so), `relations` (how the
-//! elements of a design relate).
+//! `picking` (a list of what passes), `graph` (a graph to which edges are added, its cycles, and its least order),
+//! `reach` (what an edge adds to where walks lead), `least` (the least number that is ready), `laws` (what holds of all
+//! orders of a schedule, and that there are such orders unless something is at fault), `related` (how two calls on one
+//! part stand), `usage` and `uses` (the methods that an element uses, each once), `meeting` (elements whose uses stand
+//! so), `relations` (how the elements of a design relate).
 //!
 //! The two orders of a schedule are defined in `specs/Relating.antt`, `specs/ExecutionOrders.antt`,
 //! `specs/UrgencyOrders.antt` and `specs/Stops.antt`, over the words of `specs/Walks.antt`, `specs/Edges.antt` and
@@ -21,6 +21,7 @@ mod graph;
 mod laws;
 mod least;
 mod meeting;
+mod picking;
 mod reach;
 mod related;
 mod relations;
@@ -35,5 +36,6 @@ pub use edges::marked_edges;
 pub use graph::Graph;
 pub use laws::{answered, obeyed, one_order, ordered};
 pub use meeting::{feeds, goes};
+pub use picking::push_if;
 pub use relations::Relations;
 pub use table::Table;

@@ -4,6 +4,7 @@ ghost use Rattle.bsv_design.specs.Bodies.{target};
 ghost use Rattle.bsv_design.specs.Relations as relations;
 ghost use Rattle.bsv_design.specs.Schemes.{design_scheme};
 ghost use Rattle.bsv_design.specs.Seen.{blueprint};
+ghost use Rattle.bsv_design.specs.Widths.{call_named};
 ghost use Rattle.bsv_graph.specs.Related as spec;
 ghost use Rattle.bsv_graph.specs.Uses as uses;
 
@@ -50,9 +51,9 @@ pub(crate) fn meet(relation: Relation, parts: &[NamedPart], first: &Usage, secon
 
 // Whether the call and one of the others stand so.
 fn call_meets(relation: Relation, parts: &[NamedPart], call: &Call, others: &[Call]) -> bool
-    requires call { IsTrue (spec.call_named (map (λ p. p.kind) parts.now) call.now) }
+    requires call { IsTrue (call_named (map (λ p. p.kind) parts.now) call.now) }
     requires others { IsTrue (list_all
-        (spec.call_named (map (λ p. p.kind) parts.now)) others.now) }
+        (call_named (map (λ p. p.kind) parts.now)) others.now) }
     ensures { result ≡ list_any (λ other. spec.on_one_part relation
         (map (λ p. p.kind) parts.now) (target call.now) (target other)) others.now }
 {
@@ -69,9 +70,9 @@ fn call_meets(relation: Relation, parts: &[NamedPart], call: &Call, others: &[Ca
 // Whether one of the calls and one of the others stand so.
 fn calls_meet(relation: Relation, parts: &[NamedPart], calls: &[Call], others: &[Call]) -> bool
     requires calls { IsTrue (list_all
-        (spec.call_named (map (λ p. p.kind) parts.now)) calls.now) }
+        (call_named (map (λ p. p.kind) parts.now)) calls.now) }
     requires others { IsTrue (list_all
-        (spec.call_named (map (λ p. p.kind) parts.now)) others.now) }
+        (call_named (map (λ p. p.kind) parts.now)) others.now) }
     ensures { result ≡ uses.calls_meet relation
         (map (λ p. p.kind) parts.now) calls.now others.now }
 {
@@ -86,7 +87,7 @@ fn calls_meet(relation: Relation, parts: &[NamedPart], calls: &[Call], others: &
 // The calls of the element of this position.
 fn calls_of(design: &Design, element: u32) -> &[Call]
     ensures calls { map target result.now ≡ (design_scheme (blueprint design.now)).uses element }
-    ensures named { IsTrue (list_all (spec.call_named
+    ensures named { IsTrue (list_all (call_named
         (map (λ p. p.kind) design.now.parts)) result.now) }
 {
     match design.elements.get(element as usize) {

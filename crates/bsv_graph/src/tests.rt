@@ -6,6 +6,7 @@ use crate::related::Relation;
 use crate::uses::usage_of;
 use crate::{
     Edge, Graph, Relations, Table, answered, feeds, goes, marked_edges, obeyed, one_order, ordered,
+    push_if,
 };
 use bsv_bits::Name;
 use bsv_design::{Call, Design, Kind, NamedPart};
@@ -106,6 +107,16 @@ fn the_uses_that_meet(rt: HostRuntime) -> Result<(), Fail> {
     assert!(rt; !meet(Relation::Feeds, &parts, &reads, &writes));
     assert!(rt; meet(Relation::Clashes, &parts, &reads, &writes));
     assert!(rt; !meet(Relation::Clashes, &parts, &writes, &reads));
+    Ok(())
+}
+
+#[test]
+fn a_list_of_what_passes(rt: HostRuntime) -> Result<(), Fail> {
+    let mut list: Items<u32> = Items::new(rt.alloc());
+    push_if(true, 3, &mut list)?;
+    push_if(false, 5, &mut list)?;
+    push_if(true, 7, &mut list)?;
+    assert_eq!(rt; list.as_slice(), [3, 7].as_slice());
     Ok(())
 }
 

@@ -2,7 +2,7 @@ ghost use Rattle.std.specs.Prelude.{◌≡◌, ◌<◌, [], vec_len, map, IsTrue
 ghost use Rattle.std.specs.List.{list_all};
 ghost use Rattle.bsv_design.specs.Bodies.{target};
 ghost use Rattle.bsv_graph.specs.Grouping.{AreGrouped, added};
-ghost use Rattle.bsv_graph.specs.Related.{call_named};
+ghost use Rattle.bsv_design.specs.Widths.{call_named};
 ghost use Rattle.bsv_graph.specs.Uses.{is_named, used, UseSame, IsNoted};
 
 use crate::usage::{Usage, Use};

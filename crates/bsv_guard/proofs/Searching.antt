@@ -9,8 +9,9 @@ use Rattle.bsv_design.specs.declared.kind.Kind.{Kind}
 use Rattle.bsv_design.specs.Branches.{apart}
 use Rattle.bsv_design.specs.Kinds.{kind_table}
 use Rattle.bsv_design.specs.Relations.{may_stand}
+use Rattle.bsv_design.specs.Widths.{has_method, call_named}
 use Rattle.bsv_guard.specs.Groups.{AreGrouped, StandsIn, group_of}
-use Rattle.bsv_guard.specs.Pairs.{names_method, names_method_of, breaks, IsPair, AreFree, IsFound, NoneAmong, NoneBehind, IsFirstBehind}
+use Rattle.bsv_guard.specs.Pairs.{breaks, IsPair, AreFree, IsFound, NoneAmong, NoneBehind, IsFirstBehind}
 
 pub both_left : (a b : Bool) → (a && b) ≡ true → a ≡ true
 both_left true b h = refl
@@ -24,10 +25,10 @@ not_true : (b : Bool) → not b ≡ true → b ≡ false
 not_true true h = absurd cc
 not_true false h = refl
 
-pub named_at : (ks : List Kind) (cs : List Call) (j : ℕ) (c : Call) → IsTrue (list_all (names_method ks) cs) → slice_get cs j ≡ Some c → names_method ks c ≡ true
+pub named_at : (ks : List Kind) (cs : List Call) (j : ℕ) (c : Call) → IsTrue (list_all (call_named ks) cs) → slice_get cs j ≡ Some c → call_named ks c ≡ true
 named_at ks [] j c h e = absurd cc
-named_at ks (x ∷ cs) zero c h e = let same : x ≡ c = same_Some x c e in subst (λ d. names_method ks d ≡ true) same (both_left _ _ h)
-named_at ks (x ∷ cs) (suc j) c h e = named_at ks cs j c (both_right (names_method ks x) _ h) e
+named_at ks (x ∷ cs) zero c h e = let same : x ≡ c = same_Some x c e in subst (λ d. call_named ks d ≡ true) same (both_left _ _ h)
+named_at ks (x ∷ cs) (suc j) c h e = named_at ks cs j c (both_right (call_named ks x) _ h) e
 
 -- ---- two calls that break the rule
 
@@ -39,10 +40,10 @@ may_not_stand ks c d k at h =
     subst (λ o. may_stand o c.method d.method ≡ false) at
     (not_true _ (both_right ((eqb c.part d.part) && not (apart c.branches d.branches)) _ h))
 
-pub method_within : (ks : List Kind) (c d : Call) (k : Kind) → slice_get ks c.part ≡ Some k → breaks ks c d ≡ true → names_method ks d ≡ true → d.method < (kind_table k).methods
+pub method_within : (ks : List Kind) (c d : Call) (k : Kind) → slice_get ks c.part ≡ Some k → breaks ks c d ≡ true → call_named ks d ≡ true → d.method < (kind_table k).methods
 method_within ks c d k at h named =
     let same : slice_get ks d.part ≡ Some k = ap (slice_get ks) (sym (same_part ks c d h)) ∙ at in
-    let it : names_method_of (Some k) d.method ≡ true = subst (λ o. names_method_of o d.method ≡ true) same named in
+    let it : has_method (Some k) d.method ≡ true = subst (λ o. has_method o d.method ≡ true) same named in
     ltb-true _ _ it
 
 -- they call a method that may not stand beside the first one's

@@ -1,5 +1,5 @@
 -- From the calls of the elements of a design to its scheme.
-use Rattle.std.proofs.Common.{◌≡◌, ◌∙◌, ℕ, ◌<◌, ◌^◌, ◌≤◌, ◌+◌, ◌&&◌, true, false, List, [], ◌∷◌, ◌++◌, map, length, get_or, take, add-one, Some, None, refl, sym, ap, subst, ◌⊎◌, inl, inr, arith, IsTrue, zero, suc, ltb-true, nat_lt}
+use Rattle.std.proofs.Common.{◌≡◌, ◌∙◌, ℕ, ◌<◌, ◌^◌, ◌≤◌, ◌+◌, true, false, List, [], ◌∷◌, ◌++◌, map, length, get_or, take, add-one, Some, None, refl, sym, ap, subst, ◌⊎◌, inl, inr, arith, IsTrue, zero, suc, ltb-true, nat_lt}
 use Rattle.std.specs.Prelude.{slice_get, Option, option_map}
 use Rattle.std.specs.List.{list_all}
 use Rattle.std.proofs.Math.Logic.{∥∥₁_elim}
@@ -21,29 +21,15 @@ use Rattle.bsv_design.specs.Relations.{IsBreach, KeepsTheRule, break_the_rule, s
 use Rattle.bsv_design.specs.Schemes.{Look, Asking, design_scheme, kinds_of, trace_of, ports_of, filled, answers, given, seen, ready}
 use Rattle.bsv_design.specs.Seen.{blueprint}
 use Rattle.bsv_design.specs.Traces.{Site, site_at, body_trace}
-use Rattle.bsv_design.specs.Widths.{call_fits, method_fits, has_width}
+use Rattle.bsv_design.specs.Widths.{call_named}
+use Rattle.bsv_design.proofs.Named.{calls_named}
 use Rattle.bsv_guard.specs.declared.fault.GuardFault.{GuardFault}
 use Rattle.bsv_guard.specs.declared.fault.GuardFault.TheVariants.{InRule, OutOfMemory}
 use Rattle.bsv_guard.specs.Lifted.{AreLifted, NamesFirst, IsRefused, IsElementRefused, all_ready}
-use Rattle.bsv_guard.specs.Pairs.{names_method, names_method_of, IsPair, AreFree, IsFound}
+use Rattle.bsv_guard.specs.Pairs.{IsPair, AreFree, IsFound}
 use Rattle.bsv_guard.proofs.Ready.{body_says_all}
-use Rattle.bsv_guard.proofs.Searching.{both_left, both_right}
 
 -- ---- what holds of each design
-
-fits_names : (k : Option Kind) (ws : List ℕ) (c : Call) → method_fits k ws c ≡ true → names_method_of k c.method ≡ true
-fits_names None ws c h = h
-fits_names (Some k) ws c h = both_left _ _ h
-
-fit_named : (ks : List Kind) (ws : List ℕ) (cs : List Call) → list_all (call_fits ks ws) cs ≡ true → list_all (names_method ks) cs ≡ true
-fit_named ks ws [] h = refl
-fit_named ks ws (c ∷ cs) h =
-    let here : names_method ks c ≡ true = fits_names (slice_get ks c.part) ws c (both_right (has_width (slice_get ws c.taken) 1) _ (both_left _ _ h)) in
-    ap (λ b. b && list_all (names_method ks) cs) here ∙ fit_named ks ws cs (both_right (call_fits ks ws c) _ h)
-
-calls_named : (d : Design) (n : ℕ) (e : Element) → slice_get d.elements n ≡ Some e → IsTrue (list_all (names_method (kinds_of (blueprint d))) e.calls)
-calls_named d n e at =
-    ∥∥₁_elim d.right (Bool-set _ _) (λ (right : IsDesign (blueprint d)). fit_named _ _ e.calls (right.elements n e at).fits.calls)
 
 calls_few : (d : Design) (n : ℕ) (e : Element) → slice_get d.elements n ≡ Some e → length e.calls < 2 ^ 32
 calls_few d n e at =
@@ -54,9 +40,9 @@ pub element_in : (d : Design) (xs : List Element) (n : ℕ) (e : Element) → xs
 element_in d xs n e are within is = subst (λ ys. slice_get ys n ≡ Some e) are (slice_get_read xs _ n e refl within is)
 
 pub named_in : (d : Design) (n : ℕ) (e : Element) (ks : List Kind) (cs : List Call) → slice_get d.elements n ≡ Some e → ks ≡ kinds_of (blueprint d) → cs ≡ e.calls
-    → IsTrue (list_all (names_method ks) cs)
+    → IsTrue (list_all (call_named ks) cs)
 named_in d n e ks cs at kinds calls =
-    subst (λ k. IsTrue (list_all (names_method k) cs)) (sym kinds) (subst (λ c. IsTrue (list_all (names_method (kinds_of (blueprint d))) c)) (sym calls) (calls_named d n e at))
+    subst (λ k. IsTrue (list_all (call_named k) cs)) (sym kinds) (subst (λ c. IsTrue (list_all (call_named (kinds_of (blueprint d))) c)) (sym calls) (calls_named d n e at))
 
 pub few_in : (d : Design) (n : ℕ) (e : Element) (cs : List Call) → slice_get d.elements n ≡ Some e → cs ≡ e.calls → length cs < 2 ^ 32
 few_in d n e cs at calls = subst (λ c. length c < 2 ^ 32) (sym calls) (calls_few d n e at)

@@ -1,19 +1,10 @@
 -- Two calls of one element, as calls of a flat body: where a call stands and what it calls is the same in every run.
-use Rattle.std.specs.Prelude.{◌≡◌, ℕ, ◌==◌, ◌<◌, ◌≤◌, nat_lt, Bool, true, false, not, ◌&&◌, List, length, slice_get, slice_index_or, Option, Some, None, ◌⊎◌}
+use Rattle.std.specs.Prelude.{◌≡◌, ℕ, ◌==◌, ◌<◌, ◌≤◌, Bool, true, not, ◌&&◌, List, length, slice_get, slice_index_or, Option, Some, None, ◌⊎◌}
 use Rattle.bsv_design.specs.declared.element.Call.{Call}
 use Rattle.bsv_design.specs.declared.kind.Kind.{Kind}
 use Rattle.bsv_design.specs.Branches.{apart}
-use Rattle.bsv_design.specs.Kinds.{kind_table}
 use Rattle.bsv_design.specs.Relations.{may_stand}
 use Rattle.bsv_guard.specs.declared.search.Breach.{Breach}
-
-abbrev pub names_method_of : Option Kind → ℕ → Bool
-names_method_of None m = false
-names_method_of (Some k) m = nat_lt m (kind_table k).methods
-
--- the call names a method of a part
-abbrev pub names_method : List Kind → Call → Bool
-names_method ks c = names_method_of (slice_get ks c.part) c.method
 
 -- two calls on one part that stand in different arms of no choice, and may not stand in one element
 abbrev pub breaks : List Kind → Call → Call → Bool

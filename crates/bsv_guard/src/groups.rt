@@ -1,4 +1,5 @@
-ghost use Rattle.std.specs.Prelude.{◌≡◌, ◌<◌, ◌^◌, ◌+◌, ◌*◌, ◌%◌, [], ◌∷◌, ◌++◌, length, vec_len, IfOk, OnOk};
+ghost use Rattle.std.specs.Prelude.{◌≡◌, ◌<◌, ◌^◌, ◌+◌, ◌*◌, ◌%◌, [], ◌∷◌, ◌++◌};
+ghost use Rattle.std.specs.Prelude.{length, vec_len, IfOk, OnOk};
 ghost use Rattle.bsv_guard.specs.Groups as groups;
 
 use bsv_design::Call;

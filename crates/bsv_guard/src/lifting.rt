@@ -1,11 +1,12 @@
-ghost use Rattle.std.specs.Prelude.{◌≡◌, ◌<◌, ◌^◌, ℕ, IsTrue, IfOk, IfErr, OnOk, OnErr, Ok, length, map};
+ghost use Rattle.std.specs.Prelude.{◌≡◌, ◌<◌, ◌^◌};
+ghost use Rattle.std.specs.Prelude.{ℕ, IsTrue, IfOk, IfErr, OnOk, OnErr, Ok, length, map};
 ghost use Rattle.std.specs.List.{list_all};
 ghost use Rattle.bsv_design.specs.Guards as guards;
 ghost use Rattle.bsv_design.specs.Relations.{KeepsTheRule};
 ghost use Rattle.bsv_design.specs.Schemes.{design_scheme, kinds_of};
 ghost use Rattle.bsv_design.specs.Seen.{blueprint};
+ghost use Rattle.bsv_design.specs.Widths.{call_named};
 ghost use Rattle.bsv_guard.specs.Lifted.{AreLifted, IsRefused, IsElementLifted};
-ghost use Rattle.bsv_guard.specs.Pairs.{names_method};
 
 use crate::fault::GuardFault;
 use crate::needs::needs_of;
@@ -32,7 +33,7 @@ fn lift_element(
     number: u32,
     calls: &[Call],
 ) -> Result<Items<Need>, GuardFault>
-    requires named { IsTrue (list_all (names_method kinds.now) calls.now) }
+    requires named { IsTrue (list_all (call_named kinds.now) calls.now) }
     requires few { length calls.now < 2 ^ 32 }
     ensures { IsElementLifted kinds.now number calls.now result }
 {

@@ -1,7 +1,7 @@
 ghost use Rattle.std.specs.Prelude.{◌≡◌, ◌<◌, ◌^◌, IsTrue, IfOk, length, slice_get};
 ghost use Rattle.std.specs.List.{list_all};
 ghost use Rattle.bsv_design.specs.Guards as guards;
-ghost use Rattle.bsv_guard.specs.Pairs.{names_method};
+ghost use Rattle.bsv_design.specs.Widths.{call_named};
 
 use bsv_design::{Call, Kind, Need};
 use bsv_prim::Primitive;
@@ -10,7 +10,7 @@ use std::alloc::{AllocError, Global};
 
 /// Whether the method of the call has a guard.
 fn is_guarded(kinds: &[Kind], call: &Call) -> bool
-    requires { IsTrue (names_method kinds.now call.now) }
+    requires { IsTrue (call_named kinds.now call.now) }
     ensures { result ≡ guards.is_guarded (slice_get kinds.now call.now.part) call.now.method }
 {
     match kinds.get(call.part as usize) {
@@ -25,7 +25,7 @@ pub(crate) fn needs_of(
     kinds: &[Kind],
     calls: &[Call],
 ) -> Result<Items<Need>, AllocError>
-    requires named { IsTrue (list_all (names_method kinds.now) calls.now) }
+    requires named { IsTrue (list_all (call_named kinds.now) calls.now) }
     requires few { length calls.now < 2 ^ 32 }
     ensures { IfOk result (λ needs. needs ≡ guards.needs_from kinds.now 0 calls.now) }
 {

@@ -3,7 +3,8 @@ ghost use Rattle.bsv_prim.specs.Table as table;
 ghost use Rattle.bsv_design.specs.Branches as arms;
 ghost use Rattle.bsv_design.specs.Kinds.{kind_table};
 ghost use Rattle.bsv_design.specs.Relations as relations;
-ghost use Rattle.bsv_guard.specs.Pairs.{names_method, breaks};
+ghost use Rattle.bsv_design.specs.Widths.{call_named};
+ghost use Rattle.bsv_guard.specs.Pairs.{breaks};
 
 use bsv_design::{Branch, Call, Kind};
 use bsv_prim::{Primitive, Rel};
@@ -59,8 +60,8 @@ fn apart(branches: &[Branch], others: &[Branch]) -> bool
 
 /// Whether two calls of one element, the earlier one first, break the rule of one element.
 pub(crate) fn break_the_rule(kinds: &[Kind], one: &Call, other: &Call) -> bool
-    requires one { IsTrue (names_method kinds.now one.now) }
-    requires other { IsTrue (names_method kinds.now other.now) }
+    requires one { IsTrue (call_named kinds.now one.now) }
+    requires other { IsTrue (call_named kinds.now other.now) }
     ensures { result ≡ breaks kinds.now one.now other.now }
 {
     if one.part != other.part || apart(one.branches.as_slice(), other.branches.as_slice()) {

@@ -1,9 +1,12 @@
-ghost use Rattle.std.specs.Prelude.{◌≡◌, ◌<◌, ◌^◌, ◌==◌, ◌&&◌, ◌||◌, false, Some, map, IsTrue, IfOk, MatchOption, length, slice_get};
+ghost use Rattle.std.specs.Prelude.{◌≡◌, ◌<◌, ◌^◌, ◌==◌, ◌&&◌, ◌||◌};
+ghost use Rattle.std.specs.Prelude.{false, Some, map, IsTrue, IfOk, MatchOption, length, slice_get};
 ghost use Rattle.std.specs.List.{list_all};
 ghost use Rattle.bsv_design.specs.Kinds.{kind_table};
 ghost use Rattle.bsv_design.specs.Relations as relations;
+ghost use Rattle.bsv_design.specs.Widths.{call_named};
 ghost use Rattle.bsv_guard.specs.Groups.{AreGrouped};
-ghost use Rattle.bsv_guard.specs.Pairs.{names_method, NoneAmong, NoneBehind, IsFirstBehind, IsSearched, IsSearchedBehind};
+ghost use Rattle.bsv_guard.specs.Pairs.{NoneAmong, NoneBehind};
+ghost use Rattle.bsv_guard.specs.Pairs.{IsFirstBehind, IsSearched, IsSearchedBehind};
 ghost use Rattle.bsv_guard.specs.Spread as arms;
 
 use crate::groups::{group_of, grouped};
@@ -24,8 +27,8 @@ pub struct Breach {
 
 /// Whether a call of this group behind this one breaks the rule with it.
 fn breaks_among(kinds: &[Kind], calls: &[Call], earlier: usize, one: &Call, group: &[u32]) -> bool
-    requires named { IsTrue (list_all (names_method kinds.now) calls.now) }
-    requires one { IsTrue (names_method kinds.now one.now) }
+    requires named { IsTrue (list_all (call_named kinds.now) calls.now) }
+    requires one { IsTrue (call_named kinds.now one.now) }
     ensures { result ≡ false → NoneAmong kinds.now calls.now earlier one.now group.now }
 {
     for later in group {
@@ -61,8 +64,8 @@ fn breaks_behind(
     earlier: usize,
     one: &Call,
 ) -> bool
-    requires named { IsTrue (list_all (names_method kinds.now) calls.now) }
-    requires one { IsTrue (names_method kinds.now one.now) }
+    requires named { IsTrue (list_all (call_named kinds.now) calls.now) }
+    requires one { IsTrue (call_named kinds.now one.now) }
     requires some { 0 < length groups.now }
     requires grouped { AreGrouped calls.now groups.now }
     requires spread { spread.now ≡ map (arms.is_spread calls.now) groups.now }
@@ -90,8 +93,8 @@ fn breaks_behind(
 
 /// The method of the first call behind this one that breaks the rule with it.
 fn first_behind(kinds: &[Kind], calls: &[Call], earlier: usize, one: &Call) -> Option<u32>
-    requires named { IsTrue (list_all (names_method kinds.now) calls.now) }
-    requires one { IsTrue (names_method kinds.now one.now) }
+    requires named { IsTrue (list_all (call_named kinds.now) calls.now) }
+    requires one { IsTrue (call_named kinds.now one.now) }
     ensures { MatchOption result (NoneBehind kinds.now calls.now earlier one.now)
         (IsFirstBehind kinds.now calls.now earlier one.now) }
 {
@@ -112,8 +115,8 @@ fn breach_behind(
     earlier: usize,
     one: &Call,
 ) -> Option<Breach>
-    requires named { IsTrue (list_all (names_method kinds.now) calls.now) }
-    requires one { IsTrue (names_method kinds.now one.now) }
+    requires named { IsTrue (list_all (call_named kinds.now) calls.now) }
+    requires one { IsTrue (call_named kinds.now one.now) }
     requires some { 0 < length groups.now }
     requires grouped { AreGrouped calls.now groups.now }
     requires spread { spread.now ≡ map (arms.is_spread calls.now) groups.now }
@@ -137,7 +140,7 @@ pub(crate) fn first_breach(
     kinds: &[Kind],
     calls: &[Call],
 ) -> Result<Option<Breach>, AllocError>
-    requires named { IsTrue (list_all (names_method kinds.now) calls.now) }
+    requires named { IsTrue (list_all (call_named kinds.now) calls.now) }
     requires few { length calls.now < 2 ^ 32 }
     ensures { IfOk result (IsSearched kinds.now calls.now) }
 {

@@ -1,4 +1,4 @@
-use Rattle.std.proofs.Common.{◌≡◌, ℕ, ◌<◌, inl, inr, List, [], ◌∷◌, ◌++◌, length, refl, sym, ◌∙◌, ap, arith}
+use Rattle.std.proofs.Common.{◌≡◌, ℕ, inl, inr, List, refl, sym, ◌∙◌, ap}
 use Rattle.std.specs.Prelude.{Result, Ok, Err, IfOk, IfErr, slice_get}
 use Rattle.std.proofs.lemmas.Bool.{cases_order}
 use Rattle.std.proofs.lemmas.Option.{same_Some}
@@ -7,7 +7,8 @@ use Rattle.bsv_graph.specs.declared.edge.Edge.{Edge}
 use Rattle.bsv_graph.specs.Elements.{edge_of}
 use Rattle.bsv_graph.specs.ExecutionOrders.{Executes, IsFirstValueClash}
 use Rattle.bsv_graph.specs.Relating.{Relating, early_edges}
-use Rattle.bsv_graph.specs.Walks.{LeastOnCycle, ClosesFirst}
+use Rattle.bsv_graph.specs.Walks.{LeastOnCycle}
+use Rattle.bsv_graph.proofs.GraphLemmas.{closes_one}
 use Rattle.bsv_graph.proofs.OrderedLemmas.{execution_one}
 use Rattle.bsv_order.specs.declared.fault.OrderFault.{OrderFault}
 use Rattle.bsv_order.specs.declared.fault.OrderFault.TheVariants as fault
@@ -25,29 +26,6 @@ clash_one r a b p q = elim (cases_order a b) [
   | inl e ↦ e
   | inr (inl l) ↦ absurd (q.earlier a l p.clash)
   | inr (inr l) ↦ absurd (p.earlier b l q.clash)
-]
-
--- a list that is split twice
-cut : (xs ys us vs : List Edge) (x y : Edge) → xs ++ (x ∷ ys) ≡ us ++ (y ∷ vs) → length xs < length us → (rest : List Edge) × (us ≡ xs ++ (x ∷ rest))
-cut [] ys [] vs x y e l = absurd (omega arith)
-cut [] ys (u ∷ us) vs x y e l = let h : u ≡ x = cc in (us, ap (λ z. z ∷ us) h)
-cut (z ∷ xs) ys [] vs x y e l = absurd (omega arith)
-cut (z ∷ xs) ys (u ∷ us) vs x y e l =
-    let h : u ≡ z = cc in
-    let t : xs ++ (x ∷ ys) ≡ us ++ (y ∷ vs) = cc in
-    let k = cut xs ys us vs x y t (omega arith) in
-    (k.0, ap (λ w. w ∷ us) h ∙ ap (λ ws. z ∷ ws) k.1)
-
-closes_less : (es ps : List Edge) (k l : ℕ) → k < l → ClosesFirst es ps k → ClosesFirst es ps l → ⊥
-closes_less es ps k l less p q =
-    let t = cut p.before p.behind q.before q.behind p.edge q.edge (sym p.split ∙ q.split) (omega (arith, p.place, q.place)) in
-    q.earlier p.before t.0 p.edge t.1 p.closes
-
-closes_one : (es ps : List Edge) (k l : ℕ) → ClosesFirst es ps k → ClosesFirst es ps l → k ≡ l
-closes_one es ps k l p q = elim (cases_order k l) [
-  | inl e ↦ e
-  | inr (inl less) ↦ absurd (closes_less es ps k l less p q)
-  | inr (inr less) ↦ absurd (closes_less es ps l k less q p)
 ]
 
 pair_one : (r : Relating) (k l : ℕ) (p q : Pair) → k ≡ l → IsOrderingPair r k p → IsOrderingPair r l q → p ≡ q

@@ -1,9 +1,9 @@
-use Rattle.std.proofs.Common.{◌≡◌, ℕ, ◌+◌, ◌<◌, inl, inr, Bool, true, false, List, [], ◌∷◌, ◌++◌, append-nil, add-one, length, get_or, refl, zero, suc, subst, arith}
+use Rattle.std.proofs.Common.{◌≡◌, ℕ, ◌+◌, ◌<◌, inl, inr, Bool, true, false, List, [], ◌∷◌, ◌++◌, add-one, length, get_or, refl, zero, suc, subst, arith}
 use Rattle.std.proofs.lemmas.Bool.{cases_lt}
 use Rattle.std.specs.Prelude.{IsTrue, if◌then◌else◌, slice_get, Some}
 use Rattle.bsv_graph.specs.declared.edge.Edge.{Edge}
 use Rattle.bsv_graph.specs.declared.graph.Graph.{Graph}
-use Rattle.bsv_graph.specs.Graphs.{IsGraphOf, ForEdges}
+use Rattle.bsv_graph.specs.Graphs.{IsGraphOf}
 use Rattle.bsv_graph.specs.ExecutionOrders.{IsValueClash}
 use Rattle.bsv_graph.specs.Relating.{Relating, feed_edges, value_edges, early_edges, is_value_edge, goes_only}
 use Rattle.bsv_graph.specs.Walks.{HasEdge, Walk, IsAcyclic}
@@ -16,9 +16,6 @@ use Rattle.std.proofs.Common.{map, ap}
 use Rattle.std.proofs.lemmas.List.{map-append}
 use Rattle.bsv_order.specs.Between.{edge_between, edges_between}
 use Rattle.bsv_order.proofs.ValueLemmas.{value_there, value_back, value_up}
-
-pub graph_first : (g h : Graph) (xs fs : List Edge) → IsGraphOf [] g → xs ≡ fs → ForEdges g (λ es. IsGraphOf (xs ++ es) h) → IsGraphOf fs h
-graph_first g h xs fs e p f = rw (append-nil, p) at (f [] e)
 
 -- the edges of one value method more
 module _ (r : Relating) (v : ℕ) (is_value : r.value v ≡ true) (l : v < r.count) (fs : List Edge) where

@@ -1,10 +1,10 @@
-ghost use Rattle.std.specs.Prelude.{◌≡◌, ◌<◌, ◌++◌, ◌∷◌, [], if◌then◌else◌, IfOk, OnOk};
+ghost use Rattle.std.specs.Prelude.{◌≡◌, ◌<◌, ◌++◌, IfOk, OnOk};
 ghost use Rattle.bsv_graph.specs.Edges.{edges_from};
 ghost use Rattle.bsv_graph.specs.Relating.{goes_only, is_soft, soft_edges};
 ghost use Rattle.bsv_graph.specs.Relations.{relating_of, count_of};
 
 use bsv_bits::OutOfMemory;
-use bsv_graph::{Edge, Relations};
+use bsv_graph::{Edge, Relations, push_if};
 use sqlite_items::Items;
 use std::alloc::{AllocError, Global};
 
@@ -23,15 +23,6 @@ fn soft(relations: &Relations, a: usize, b: usize) -> bool
     ensures { result ≡ is_soft (relating_of relations.now) a b }
 {
     !relations.is_value(a) && !relations.is_value(b) && goes_before_only(relations, a, b)
-}
-
-fn push_if(passes: bool, edge: Edge, edges: &mut Items<Edge>) -> Result<(), AllocError>
-    ensures { OnOk result (edges.new ≡ edges.old ++ (if passes then edge ∷ [] else [])) }
-{
-    if passes {
-        edges.push(edge)?;
-    }
-    Ok(())
 }
 
 fn add_soft(relations: &Relations, a: usize, edges: &mut Items<Edge>) -> Result<(), AllocError>

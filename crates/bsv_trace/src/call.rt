@@ -1,4 +1,5 @@
-ghost use Rattle.std.specs.Prelude.{◌≡◌, ◌+◌, ◌<◌, ◌≤◌, length, not, ◌==◌, slice_get, option_map, OnSome, IfSome};
+ghost use Rattle.std.specs.Prelude.{◌≡◌, ◌+◌, ◌<◌, ◌≤◌, ◌==◌};
+ghost use Rattle.std.specs.Prelude.{length, not, slice_get, option_map, OnSome, IfSome};
 ghost use Rattle.std.specs.List.{prefix_len};
 ghost use Rattle.bsv_design.specs.Seen.{asking};
 ghost use Rattle.bsv_trace.specs.Reading as spec;

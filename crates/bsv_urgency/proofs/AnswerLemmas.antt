@@ -1,41 +1,17 @@
 -- The answers exclude each other.
-use Rattle.std.proofs.Common.{◌≡◌, ℕ, ◌<◌, inl, inr, List, [], ◌∷◌, ◌++◌, length, refl, sym, ◌∙◌, ap, subst, arith, Some}
+use Rattle.std.proofs.Common.{◌≡◌, ℕ, inl, inr, List, [], ◌∷◌, ◌++◌, refl, sym, ◌∙◌, ap, subst, Some}
 use Rattle.std.specs.Prelude.{IsTrue, IsFalse, Result, Ok, Err, IfOk, IfErr, slice_get}
 use Rattle.std.proofs.lemmas.Bool.{cases_order}
 use Rattle.std.proofs.lemmas.Option.{same_Some}
 use Rattle.bsv_design.specs.declared.tree.Pair.{Pair}
-use Rattle.bsv_graph.specs.declared.edge.Edge.{Edge}
 use Rattle.bsv_graph.specs.Orders.{In}
 use Rattle.bsv_graph.specs.Relating.{Relating, feed_edges}
 use Rattle.bsv_graph.specs.UrgencyOrders.{IsLeastBehindRule, IsFirstRule, UrgencyOrder, MethodBehindRule, Urges}
-use Rattle.bsv_graph.specs.Walks.{ClosesFirst}
+use Rattle.bsv_graph.proofs.GraphLemmas.{closes_one}
 use Rattle.bsv_graph.proofs.OrderedLemmas.{least_one}
 use Rattle.bsv_urgency.specs.declared.fault.UrgencyFault.{UrgencyFault}
 use Rattle.bsv_urgency.specs.declared.fault.UrgencyFault.TheVariants as fault
 use Rattle.bsv_urgency.specs.Answers.{Refuses, IsAnswer, IsGivenUnlessMemory, urging_pairs}
-
--- a list that is split twice
-cut : (xs ys us vs : List Edge) (x y : Edge) → xs ++ (x ∷ ys) ≡ us ++ (y ∷ vs) → length xs < length us → (rest : List Edge) × (us ≡ xs ++ (x ∷ rest))
-cut [] ys [] vs x y e l = absurd (omega arith)
-cut [] ys (u ∷ us) vs x y e l = let h : u ≡ x = cc in (us, ap (λ z. z ∷ us) h)
-cut (z ∷ xs) ys [] vs x y e l = absurd (omega arith)
-cut (z ∷ xs) ys (u ∷ us) vs x y e l =
-    let h : u ≡ z = cc in
-    let t : xs ++ (x ∷ ys) ≡ us ++ (y ∷ vs) = cc in
-    let k = cut xs ys us vs x y t (omega arith) in
-    (k.0, ap (λ w. w ∷ us) h ∙ ap (λ ws. z ∷ ws) k.1)
-
-closes_less : (es ps : List Edge) (k l : ℕ) → k < l → ClosesFirst es ps k → ClosesFirst es ps l → ⊥
-closes_less es ps k l less p q =
-    let t = cut p.before p.behind q.before q.behind p.edge q.edge (sym p.split ∙ q.split) (omega (arith, p.place, q.place)) in
-    q.earlier p.before t.0 p.edge t.1 p.closes
-
-closes_one : (es ps : List Edge) (k l : ℕ) → ClosesFirst es ps k → ClosesFirst es ps l → k ≡ l
-closes_one es ps k l p q = elim (cases_order k l) [
-  | inl e ↦ e
-  | inr (inl less) ↦ absurd (closes_less es ps k l less p q)
-  | inr (inr less) ↦ absurd (closes_less es ps l k less q p)
-]
 
 pair_one : (ps : List Pair) (k l : ℕ) (p q : Pair) → k ≡ l → slice_get ps k ≡ Some p → slice_get ps l ≡ Some q → p ≡ q
 pair_one ps k l p q e x y = same_Some p q (sym x ∙ (ap (slice_get ps) e ∙ y))

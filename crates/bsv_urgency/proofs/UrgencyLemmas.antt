@@ -1,17 +1,12 @@
--- The edges of the graph of urgency, and the pairs from which they come.
-use Rattle.std.proofs.Common.{◌≡◌, List, [], ◌++◌, append-nil, length, ap, refl, ◌∙◌}
+-- The pairs from which the edges of urgency come.
+use Rattle.std.proofs.Common.{◌≡◌, List, length, ap, refl, ◌∙◌}
 use Rattle.std.proofs.lemmas.List.{length-map}
 use Rattle.bsv_design.specs.declared.tree.Pair.{Pair}
 use Rattle.bsv_graph.specs.declared.edge.Edge.{Edge}
-use Rattle.bsv_graph.specs.declared.graph.Graph.{Graph}
 use Rattle.bsv_design.specs.declared.design.Design.{Design}
 use Rattle.bsv_design.specs.Schemes.{design_scheme}
 use Rattle.bsv_graph.specs.Elements.{relating, is_urging, edge_of, edges_of}
-use Rattle.bsv_graph.specs.Graphs.{IsGraphOf, ForEdges}
 use Rattle.bsv_urgency.specs.Answers.{design_relating, urging_pairs}
-
-pub graph_first : (g h : Graph) (xs fs : List Edge) → IsGraphOf [] g → xs ≡ fs → ForEdges g (λ es. IsGraphOf (xs ++ es) h) → IsGraphOf fs h
-graph_first g h xs fs e p f = rw (append-nil, p) at (f [] e)
 
 -- there are as many edges as pairs
 pub as_many : (ps : List Pair) (es : List Edge) → es ≡ edges_of is_urging ps → length es ≡ length (urging_pairs ps)

@@ -1,4 +1,5 @@
-ghost use Rattle.std.specs.Prelude.{◌≡◌, ◌<◌, ℕ, List, length, Some, slice_get, Result, IfOk, IfErr};
+ghost use Rattle.std.specs.Prelude.{◌≡◌, ◌<◌};
+ghost use Rattle.std.specs.Prelude.{ℕ, List, length, Some, slice_get, Result, IfOk, IfErr};
 ghost use Rattle.bsv_design.specs.declared.tree.Pair.{Pair};
 ghost use Rattle.bsv_graph.specs.Elements.{is_urging, edges_of};
 ghost use Rattle.bsv_graph.specs.Relating.{feed_edges};
@@ -7,7 +8,8 @@ ghost use Rattle.bsv_graph.specs.UrgencyOrders.{Urges};
 ghost use Rattle.bsv_graph.specs.Walks.{IsAcyclic};
 ghost use Rattle.bsv_urgency.specs.declared.fault.UrgencyFault.{UrgencyFault};
 ghost use Rattle.bsv_urgency.specs.declared.fault.UrgencyFault.TheVariants as told;
-ghost use Rattle.bsv_urgency.specs.Answers.{Refuses, IsAnswer, IsGivenUnlessMemory, design_relating, urging_pairs};
+ghost use Rattle.bsv_urgency.specs.Answers.{Refuses, IsAnswer, IsGivenUnlessMemory};
+ghost use Rattle.bsv_urgency.specs.Answers.{design_relating, urging_pairs};
 ghost use Rattle.bsv_urgency.specs.Stages.{HasUrging};
 
 use crate::behind::method_behind_rule;

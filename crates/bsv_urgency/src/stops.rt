@@ -1,4 +1,4 @@
-ghost use Rattle.std.specs.Prelude.{◌≡◌, ◌<◌, ◌↔◌, ◌++◌, ◌∷◌, [], All, IsTrue, if◌then◌else◌, IfOk, OnOk};
+ghost use Rattle.std.specs.Prelude.{◌≡◌, ◌<◌, ◌↔◌, All, IsTrue, IfOk};
 ghost use Rattle.bsv_graph.specs.Orders.{IsOrderOf};
 ghost use Rattle.bsv_graph.specs.Relations.{relating_of, count_of};
 ghost use Rattle.bsv_graph.specs.Stops.{Clash, Stops, Picks, AreStops};
@@ -6,7 +6,7 @@ ghost use Rattle.bsv_urgency.specs.Placing.{size_of, IsPlaced, ForOrders};
 
 use crate::places::places_of;
 use bsv_bits::OutOfMemory;
-use bsv_graph::Relations;
+use bsv_graph::{Relations, push_if};
 use sqlite_items::Items;
 use std::alloc::{AllocError, Global};
 
@@ -67,16 +67,6 @@ impl Placing<'_> {
         }
         Ok(list)
     }
-}
-
-// The number is added where it passes.
-fn push_if(passes: bool, number: u32, list: &mut Items<u32>) -> Result<(), AllocError>
-    ensures { OnOk result (list.new ≡ list.old ++ (if passes then number ∷ [] else [])) }
-{
-    if passes {
-        list.push(number)?;
-    }
-    Ok(())
 }
 
 /// Of each element those that it stops, by urgency.

@@ -3,8 +3,9 @@ use Rattle.std.specs.List.{list_all}
 use Rattle.bsv_design.specs.Bodies.{target}
 use Rattle.bsv_design.specs.Schemes.{kinds_of}
 use Rattle.bsv_design.specs.Seen.{blueprint}
-use Rattle.bsv_graph.specs.Related.{call_named}
-use Rattle.bsv_graph.proofs.DesignLemmas.{uses_some, uses_none, calls_named}
+use Rattle.bsv_design.specs.Widths.{call_named}
+use Rattle.bsv_design.proofs.Named.{calls_named}
+use Rattle.bsv_graph.proofs.DesignLemmas.{uses_some, uses_none}
 use Rattle.bsv_graph.proofs.meeting.calls_of.Goals as goal
 
 pub returns-in-Some-clause-calls : goal.returns-in-Some-clause-calls

@@ -1,7 +1,7 @@
 use Rattle.std.proofs.Common.{◌≡◌, rules}
 use Rattle.bsv_graph.specs.Relating.{feed_edges}
 use Rattle.bsv_graph.specs.Relations.{relating_of}
-use Rattle.bsv_order.proofs.StageLemmas.{graph_first}
+use Rattle.bsv_graph.proofs.GraphLemmas.{graph_first}
 use Rattle.bsv_order.proofs.order.graph_of_feeds.Goals as goal
 
 pub returns-in-Some-clause-err : goal.returns-in-Some-clause-err

@@ -1,8 +1,9 @@
 use Rattle.std.proofs.Common.{◌≡◌, ◌<◌, length, arith, ◌∙◌}
 use Rattle.bsv_graph.specs.Relating.{feed_edges}
 use Rattle.bsv_graph.specs.Relations.{relating_of}
+use Rattle.bsv_graph.proofs.GraphLemmas.{graph_first}
 use Rattle.bsv_graph.proofs.WalkLemmas.{none_acyclic}
-use Rattle.bsv_urgency.proofs.UrgencyLemmas.{graph_first, as_many}
+use Rattle.bsv_urgency.proofs.UrgencyLemmas.{as_many}
 use Rattle.bsv_urgency.proofs.order.graph_of_urgency.Goals as goal
 
 pub cycle_at-requires : goal.cycle_at-requires

@@ -7,7 +7,8 @@ use Rattle.bsv_graph.specs.Edges.{AllBelow}
 use Rattle.bsv_graph.specs.Elements.{edges_of, is_ordering, is_urging, preempts}
 use Rattle.bsv_graph.specs.Relating.{Agrees}
 use Rattle.bsv_graph.specs.Uses.{pair_below}
-use Rattle.bsv_graph.proofs.DesignLemmas.{calls_named, few_elements, pairs_below}
+use Rattle.bsv_design.proofs.Named.{calls_named}
+use Rattle.bsv_graph.proofs.DesignLemmas.{few_elements, pairs_below}
 use Rattle.bsv_graph.proofs.RelationsLemmas.{many, clashes_are, feeds_are, marked_preempts, relating_same, roles_are, pairs_are, agrees_design, edges_below}
 use Rattle.bsv_graph.proofs.relations.Relations.new.Goals as goal
 
