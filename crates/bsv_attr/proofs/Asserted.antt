@@ -15,13 +15,13 @@ use Rattle.bsv_attr.proofs.Truths.{first_one}
 abbrev pub Answer : Type 0
 Answer = Result (Unit {0}) AttrFault
 
-implicit_never : (S : Scheme) (r k : ℕ) → AreExplicit S → NamesImplicit S r k → ⊥
+pub implicit_never : (S : Scheme) (r k : ℕ) → AreExplicit S → NamesImplicit S r k → ⊥
 implicit_never S r k e h = e r h.marked k h.implicit.at
 
-stopped_never : (S : Scheme) (s : Schedule) (r f : ℕ) → AreUnstopped S s → NamesStopped S s r f → ⊥
+pub stopped_never : (S : Scheme) (s : Schedule) (r f : ℕ) → AreUnstopped S s → NamesStopped S s r f → ⊥
 stopped_never S s r f u h = u r h.marked f (stopper_in s.urgency s.stops r f h.stopper) h.stopper.stops
 
-implicit_one : (S : Scheme) (r k q j : ℕ) → NamesImplicit S r k → NamesImplicit S q j → NoImplicit r k ≡ NoImplicit q j
+pub implicit_one : (S : Scheme) (r k q j : ℕ) → NamesImplicit S r k → NamesImplicit S q j → NoImplicit r k ≡ NoImplicit q j
 implicit_one S r k q j h g = of (cases_order r q) where
   of : (r ≡ q) ⊎ ((r < q) ⊎ (q < r)) → NoImplicit r k ≡ NoImplicit q j
   of (inl e) =
@@ -30,7 +30,7 @@ implicit_one S r k q j h g = of (cases_order r q) where
   of (inr (inl less)) = absurd (g.earlier r less h.marked k h.implicit.at)
   of (inr (inr more)) = absurd (h.earlier q more g.marked j g.implicit.at)
 
-stopped_one : (S : Scheme) (s : Schedule) (r f q g : ℕ) → NamesStopped S s r f → NamesStopped S s q g → FireWhenEnabled r f ≡ FireWhenEnabled q g
+pub stopped_one : (S : Scheme) (s : Schedule) (r f q g : ℕ) → NamesStopped S s r f → NamesStopped S s q g → FireWhenEnabled r f ≡ FireWhenEnabled q g
 stopped_one S s r f q g h k = of (cases_order r q) where
   of : (r ≡ q) ⊎ ((r < q) ⊎ (q < r)) → FireWhenEnabled r f ≡ FireWhenEnabled q g
   of (inl e) =

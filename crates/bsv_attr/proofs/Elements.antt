@@ -1,15 +1,14 @@
 -- From the elements of a design to its scheme.
-use Rattle.std.proofs.Common.{◌≡◌, ◌∙◌, ℕ, ◌<◌, ◌^◌, ◌+◌, ◌&&◌, Bool, true, false, List, [], ◌∷◌, ◌++◌, map, length, get_or, Some, None, refl, ap, subst, IsTrue, zero, suc, ltb-true, nat_lt}
-use Rattle.std.specs.Prelude.{slice_get, Option, option_map}
+use Rattle.std.proofs.Common.{◌≡◌, ◌∙◌, ℕ, ◌<◌, ◌^◌, ◌+◌, ◌&&◌, Bool, true, false, List, [], ◌∷◌, ◌++◌, map, length, get_or, Some, refl, ap, subst, IsTrue, zero, suc, ltb-true, nat_lt}
+use Rattle.std.specs.Prelude.{slice_get}
 use Rattle.std.specs.List.{list_all}
 use Rattle.std.proofs.Math.Logic.{∥∥₁_elim}
 use Rattle.std.proofs.Math.Bool.{Bool-set}
 use Rattle.std.proofs.lemmas.Bool.{lt-ltb}
-use Rattle.std.proofs.lemmas.Option.{same_Some, slice_get-map, slice_get_read, slice_get_within}
+use Rattle.std.proofs.lemmas.Option.{same_Some, slice_get_read, slice_get_within}
 use Rattle.bsv_bits.specs.Words.{Bits}
 use Rattle.bsv_design.specs.declared.design.Design.{Design}
 use Rattle.bsv_design.specs.declared.design.NamedPart.{NamedPart}
-use Rattle.bsv_design.specs.declared.element.Call.{Call}
 use Rattle.bsv_design.specs.declared.element.Element.{Element}
 use Rattle.bsv_design.specs.Bodies.{words}
 use Rattle.bsv_design.specs.Designs.{Blueprint, IsDesign, IsRuleIn}
@@ -17,8 +16,7 @@ use Rattle.bsv_design.specs.Relations.{no_answers}
 use Rattle.bsv_design.specs.Schemes.{design_scheme, kinds_of, trace_of, ports_of, filled}
 use Rattle.bsv_design.specs.Seen.{blueprint}
 use Rattle.bsv_design.specs.Traces.{Trace, body_trace, site_at, demand_at}
-use Rattle.bsv_design.specs.Widths.{call_fits, method_fits, has_width}
-use Rattle.bsv_attr.specs.Calling.{is_countable, names_method, names_method_of, condition_named, implicit_places}
+use Rattle.bsv_attr.specs.Calling.{is_countable, condition_named, implicit_places}
 use Rattle.bsv_attr.specs.Implicit.{are_implicit, has_name, has_guard}
 use Rattle.bsv_attr.specs.Marks.{IsMarked}
 
@@ -31,23 +29,6 @@ both_right true b h = h
 both_right false b h = absurd cc
 
 -- ---- what holds of each design
-
-fits_names : (o : Option NamedPart) (ws : List ℕ) (c : Call) → method_fits (option_map (λ p. p.kind) o) ws c ≡ true → names_method_of o c.method ≡ true
-fits_names None ws c h = h
-fits_names (Some p) ws c h = both_left _ _ h
-
-fit_named : (ps : List NamedPart) (ws : List ℕ) (cs : List Call) → list_all (call_fits (map (λ p. p.kind) ps) ws) cs ≡ true → list_all (names_method ps) cs ≡ true
-fit_named ps ws [] h = refl
-fit_named ps ws (c ∷ cs) h =
-    let kinds = map (λ (p : NamedPart). p.kind) ps in
-    let here : method_fits (slice_get kinds c.part) ws c ≡ true = both_right (has_width (slice_get ws c.taken) 1) _ (both_left _ _ h) in
-    let named : names_method ps c ≡ true =
-    fits_names (slice_get ps c.part) ws c (subst (λ o. method_fits o ws c ≡ true) (slice_get-map (λ (p : NamedPart). p.kind) ps c.part) here) in
-    ap (λ b. b && list_all (names_method ps) cs) named ∙ fit_named ps ws cs (both_right (call_fits kinds ws c) _ h)
-
-pub calls_named : (d : Design) (n : ℕ) (e : Element) → slice_get d.elements n ≡ Some e → IsTrue (list_all (names_method d.parts) e.calls)
-calls_named d n e at =
-    ∥∥₁_elim d.right (Bool-set _ _) (λ (right : IsDesign (blueprint d)). fit_named _ _ e.calls (right.elements n e at).fits.calls)
 
 pub few_elements : (d : Design) → length d.elements < 2 ^ 32
 few_elements d =

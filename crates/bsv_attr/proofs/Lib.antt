@@ -3,6 +3,7 @@ pub mod Stoppers
 pub mod Elements
 pub mod Rules
 pub mod Asserted
+pub mod Answering
 pub mod Attributes
 pub mod Alike
 pub mod SampleDesign

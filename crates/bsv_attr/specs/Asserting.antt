@@ -1,5 +1,5 @@
 -- What the asserting attributes refuse (Bluespec reference guide, "no_implicit_conditions", "fire_when_enabled").
-use Rattle.std.specs.Prelude.{ℕ, ◌<◌, true, false}
+use Rattle.std.specs.Prelude.{ℕ, ◌<◌, true, false, Result, Ok, Err}
 use Rattle.bsv_design.specs.declared.schedule.Schedule.{Schedule}
 use Rattle.bsv_design.specs.Schemes.{Scheme}
 use Rattle.bsv_attr.specs.declared.fault.AttrFault.{AttrFault}
@@ -42,6 +42,12 @@ pub record NamesStopped (S : Scheme) (s : Schedule) (r f : ℕ) : Type 0 where
 -- it is told where no implicit condition is refused
 abbrev pub NamesStopper : Scheme → Schedule → ℕ → ℕ → Type 0
 NamesStopper S s r f = AreExplicit S × NamesStopped S s r f
+
+-- what is answered of the marks: nothing, or what they refuse first
+abbrev pub IsAnswer : Scheme → Schedule → Result (Unit {0}) AttrFault → Type 0
+IsAnswer S s (Ok x) = IsAccepted S s
+IsAnswer S s (Err (NoImplicit r place)) = NamesImplicit S r place
+IsAnswer S s (Err (FireWhenEnabled r f)) = NamesStopper S s r f
 
 -- ---- of one attribute alone
 

@@ -1,24 +1,20 @@
 -- What the code needs of the elements of a design: their calls name methods, and a number of 32 bits names each condition
 -- and each call.
-use Rattle.std.specs.Prelude.{ℕ, ◌+◌, ◌^◌, nat_lt, Bool, false, List, ◌++◌, length, map, slice_get, Option, Some, None, is_some}
+use Rattle.std.specs.Prelude.{◌+◌, ◌^◌, nat_lt, Bool, List, ◌++◌, length, map, slice_get, is_some}
 use Rattle.bsv_design.specs.declared.design.NamedPart.{NamedPart}
 use Rattle.bsv_design.specs.declared.element.Call.{Call}
 use Rattle.bsv_design.specs.declared.element.Condition.{Condition}
 use Rattle.bsv_design.specs.declared.element.Element.{Element}
 use Rattle.bsv_design.specs.Guards.{is_guarded}
-use Rattle.bsv_design.specs.Kinds.{kind_table}
+use Rattle.bsv_design.specs.Widths.{call_named}
 
 -- conditions and calls together are fewer than 2 ^ 32
 abbrev pub is_countable : Element → Bool
 is_countable e = nat_lt (length e.conditions + length e.calls) (2 ^ 32)
 
-abbrev pub names_method_of : Option NamedPart → ℕ → Bool
-names_method_of None m = false
-names_method_of (Some p) m = nat_lt m (kind_table p.kind).methods
-
 -- the call names a method of a part
 abbrev pub names_method : List NamedPart → Call → Bool
-names_method ps c = names_method_of (slice_get ps c.part) c.method
+names_method ps = call_named (map (λ p. p.kind) ps)
 
 abbrev pub condition_named : Condition → Bool
 condition_named c = is_some c.implicit

@@ -1,7 +1,8 @@
 ghost use Rattle.std.specs.Prelude.{◌≡◌, ◌↔◌, ℕ, IsTrue, IsOk, MatchResult, Err};
 ghost use Rattle.std.specs.List.{list_all};
 ghost use Rattle.bsv_attr.specs.declared.fault.AttrFault.TheVariants as told;
-ghost use Rattle.bsv_attr.specs.Asserting.{AreExplicit, AreUnstopped, IsAccepted, NamesImplicit, NamesStopper, TellsImplicit, TellsStopper};
+ghost use Rattle.bsv_attr.specs.Asserting.{AreExplicit, AreUnstopped, IsAccepted, NamesImplicit};
+ghost use Rattle.bsv_attr.specs.Asserting.{NamesStopper, TellsImplicit, TellsStopper};
 ghost use Rattle.bsv_attr.specs.Calling as calling;
 ghost use Rattle.bsv_design.specs.Schemes.{design_scheme};
 ghost use Rattle.bsv_design.specs.Seen.{blueprint};

@@ -1,6 +1,7 @@
 ghost use Rattle.std.specs.Prelude.{◌≡◌, ◌+◌, ◌<◌, ◌^◌, IsTrue, IfSome, MatchOption, length, map};
 ghost use Rattle.std.specs.List.{list_all};
-ghost use Rattle.bsv_attr.specs.Calling.{names_method, condition_named, call_guarded, implicit_places};
+ghost use Rattle.bsv_attr.specs.Calling.{names_method, condition_named};
+ghost use Rattle.bsv_attr.specs.Calling.{call_guarded, implicit_places};
 ghost use Rattle.bsv_attr.specs.Implicit.{IsFirstTrue, NoneTrue};
 
 use bsv_design::{Call, Condition, Element, NamedPart};

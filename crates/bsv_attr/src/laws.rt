@@ -1,5 +1,6 @@
-ghost use Rattle.std.specs.Prelude.{◌↔◌, ℕ};
-ghost use Rattle.bsv_attr.specs.Asserting.{IsAccepted, NamesImplicit, NamesStopper};
+ghost use Rattle.std.specs.Prelude.{◌≡◌, ◌↔◌, ℕ, Result};
+ghost use Rattle.bsv_attr.specs.declared.fault.AttrFault.{AttrFault};
+ghost use Rattle.bsv_attr.specs.Asserting.{IsAccepted, IsAnswer, NamesImplicit, NamesStopper};
 ghost use Rattle.bsv_attr.specs.Obeying.{Obeys};
 ghost use Rattle.bsv_graph.specs.Elements.{relating};
 ghost use Rattle.bsv_attr.specs.Stopping.{ListStops};
@@ -13,6 +14,14 @@ ghost use Rattle.bsv_graph.specs.Stops.{Stops, AreStops};
 ghost use Rattle.bsv_graph.specs.UrgencyOrders.{UrgencyOrder};
 
 use bsv_graph::obeyed as pairs_obeyed;
+
+/// Whatever a schedule is, the marks of a scheme have one answer.
+pub fn answered()
+    ensures some { (S : Scheme) (s : Schedule)
+        → (answer : Result (Unit {0}) AttrFault) × IsAnswer S s answer }
+    ensures one { (S : Scheme) (s : Schedule) (x y : Result (Unit {0}) AttrFault)
+        → IsAnswer S s x → IsAnswer S s y → x ≡ y }
+{}
 
 /// Where the lists of a schedule have what each element stops, an element is in the list of another exactly where that
 /// one stops it.

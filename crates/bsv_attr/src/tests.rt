@@ -4,7 +4,8 @@ ghost use Rattle.bsv_design.specs.Kinds.{kind_table};
 
 use crate::implicit::first_implicit;
 use crate::{
-    AttrFault, asserts, is_countable, listed as listed_stops, obeyed, same_asserted, same_obeyed,
+    AttrFault, answered, asserts, is_countable, listed as listed_stops, obeyed, same_asserted,
+    same_obeyed,
 };
 use bsv_bits::Name;
 use bsv_design::{Assert, Call, Condition, Design, Element, Kind, NamedPart, Role, Schedule};
@@ -139,6 +140,7 @@ fn design(alloc: Global) -> Result<Design, Fail> {
 
 #[test]
 fn a_rule_that_is_stopped(rt: HostRuntime) -> Result<(), Fail> {
+    answered();
     listed_stops();
     obeyed();
     same_asserted();
