@@ -1,6 +1,5 @@
 mod Powers
 mod Depths
-mod Fronts
 mod Nodes
 mod Sorts
 mod Turns

@@ -2,13 +2,9 @@ ghost use Rattle.bsv_fail.specs.Given.{Gives};
 ghost use Rattle.bsv_carry.specs.AtHand as spec;
 
 use crate::carrier::Carrier;
-use crate::fault::Got;
-use crate::frame::no_variables;
-use crate::leaves::{arguments, is_integer, seen, with_need};
-use crate::value::is_true;
-use crate::work::{Valued, at_count, no_steps};
 use bsv_design::{Built, Fault, MethodPlace, Value, Work};
 use bsv_fail::Fail;
+use bsv_steps::{Got, Valued, arguments, is_integer, needed, no_steps, no_variables, seen};
 use bsv_types::{Body, Expr, Method, Stmt};
 
 impl<'a> Carrier<'a> {
@@ -24,10 +20,7 @@ impl<'a> Carrier<'a> {
                 let locals = no_variables(self.alloc, false)?;
                 let asked = no_steps(self.alloc, work.count);
                 let (value, asked) = self.expr(condition, locals.as_slice(), asked)?;
-                if is_true(&value) {
-                    return Ok(at_count(work, asked.count));
-                }
-                Ok(with_need(name, work, value, asked)?)
+                Ok(needed(name, work, value, asked)?)
             }
         }
     }

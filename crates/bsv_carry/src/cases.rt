@@ -1,17 +1,14 @@
 ghost use Rattle.bsv_fail.specs.Given.{Gives};
 ghost use Rattle.bsv_carry.specs.AtHand as spec;
 
-use crate::arms::close;
 use crate::carrier::Carrier;
-use crate::choices::with_pending;
-use crate::fault::{Counted, Got};
-use crate::frame::{Locals, untouched};
-use crate::leaves::{behind_arm, either, or_false};
 use crate::statements::Acted;
-use crate::value::{is_static, is_true};
-use crate::work::{Valued, at_count, no_steps};
 use bsv_design::{Count, Local, Pending, Value, Work};
 use bsv_fail::Fail;
+use bsv_steps::{
+    Counted, Got, Locals, Valued, at_count, behind_arm, close, either, is_static, is_true,
+    no_steps, or_false, untouched, with_pending,
+};
 use bsv_types::{CaseArm, Expr, Stmt};
 use sqlite_items::{Boxed, Items};
 

@@ -1,44 +1,18 @@
-ghost use Rattle.std.specs.Prelude.{◌≡◌, [], ◌∷◌, ◌++◌, IfOk};
 ghost use Rattle.bsv_fail.specs.Given.{Gives};
-ghost use Rattle.bsv_design.specs.Carrying as carrying;
 ghost use Rattle.bsv_carry.specs.AtHand as spec;
 
-use crate::arms::close;
 use crate::carrier::Carrier;
-use crate::fault::{Counted, Got};
-use crate::frame::{Locals, front, untouched, with_variable};
-use crate::leaves::behind_arm;
 use crate::statements::Acted;
-use crate::value::{atom_of, is_static, is_true};
-use crate::work::{at_count, no_steps, slice};
 use bsv_design::{Count, Local, Pending, Value, Work};
+use bsv_steps::{
+    Counted, Got, Locals, at_count, behind_arm, close, front, is_static, is_true, no_steps, slice,
+    untouched, with_pending, with_variable,
+};
 use bsv_types::{Branch, Condition, Stmt};
 use sqlite_items::{Boxed, Items};
-use std::alloc::AllocError;
 
 /// A Maybe whose payload an arm binds, with the bits of that.
 pub(crate) type Bound = Option<(Value, u32)>;
-
-/// One arm more that was carried out.
-pub(crate) fn with_pending(
-    arms: Items<Pending>,
-    test: Value,
-    asked: Work,
-    locals: Locals,
-    body: Work,
-) -> Result<Items<Pending>, AllocError>
-    ensures { IfOk result (λ found. found
-        ≡ arms ++ carrying.pending test asked (locals, body) ∷ []) }
-{
-    let mut arms = arms;
-    arms.push(Pending {
-        condition: asked.steps,
-        test: atom_of(test),
-        body: body.steps,
-        locals,
-    })?;
-    Ok(arms)
-}
 
 impl Carrier<'_> {
     /// What a condition asks, and the Maybe whose payload it binds.

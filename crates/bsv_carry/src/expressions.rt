@@ -1,68 +1,16 @@
-ghost use Rattle.std.specs.Prelude.{◌≡◌, [], ◌∷◌, ◌++◌, IfOk};
 ghost use Rattle.bsv_fail.specs.Given.{Gives};
 ghost use Rattle.bsv_types.specs.Kinds.{kind};
-ghost use Rattle.bsv_design.specs.Carrying as carrying;
-ghost use Rattle.bsv_design.specs.Values as values;
 ghost use Rattle.bsv_carry.specs.AtHand as spec;
 
 use crate::carrier::Carrier;
-use crate::count::{counted, tick};
-use crate::fault::{Counted, Got};
-use crate::leaves::{behind_arm, loosened};
-use crate::value::{atom_of, is_static, is_true};
-use crate::work::{Valued, at_count, give, no_steps};
-use bsv_design::{Arm, Atom, Choice, Count, Local, Step, Value, Work};
+use bsv_design::{Arm, Choice, Count, Local, Value, Work};
 use bsv_fail::Fail;
+use bsv_steps::{
+    Counted, Got, Valued, at_count, behind_arm, counted, is_static, is_true, loosened, no_steps,
+    tick, value_choice, with_value_arm,
+};
 use bsv_types::{Expr, Op, Place, Ty};
 use sqlite_items::Items;
-use std::alloc::{AllocError, Global};
-
-/// The words that an arm gives.
-fn one_word(alloc: Global, value: Value) -> Result<Items<Atom>, AllocError>
-    ensures { IfOk result (λ atoms. atoms ≡ values.atom_of value ∷ []) }
-{
-    let mut atoms = Items::new(alloc);
-    atoms.push(atom_of(value))?;
-    Ok(atoms)
-}
-
-/// An arm of `?:`, one more behind those before it.
-fn with_value_arm(
-    alloc: Global,
-    arms: Items<Arm>,
-    test: Value,
-    asked: Work,
-    value: Value,
-    body: Work,
-) -> Result<Items<Arm>, AllocError>
-    ensures { IfOk result (λ found. found
-        ≡ arms ++ carrying.value_arm (test, asked) (value, body) ∷ []) }
-{
-    let gives = one_word(alloc, value)?;
-    let mut arms = arms;
-    arms.push(Arm {
-        condition: asked.steps,
-        test: atom_of(test),
-        body: body.steps,
-        gives,
-    })?;
-    Ok(arms)
-}
-
-/// The choice of the arms of `?:` with the last one.
-fn value_choice(alloc: Global, work: Work, arms: Items<Arm>, last: Value, behind: Work) -> Valued
-    ensures { Gives result (carrying.value_choice work arms (last, behind)) }
-{
-    let gives = one_word(alloc, last)?;
-    let count = behind_arm(work.count, behind.count);
-    let choice = Choice {
-        nested: true,
-        arms,
-        last: behind.steps,
-        gives,
-    };
-    give(at_count(work, count), Step::Choose(choice))
-}
 
 impl Carrier<'_> {
     /// An expression. An Integer is static.

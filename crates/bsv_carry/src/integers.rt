@@ -3,9 +3,9 @@ ghost use Rattle.bsv_design.specs.declared.values.Constant.TheVariants as consta
 ghost use Rattle.bsv_types.specs.Kinds.{kind};
 ghost use Rattle.bsv_design.specs.Integers as spec;
 
-use crate::words::word;
 use bsv_bits::Word;
 use bsv_design::Constant;
+use bsv_steps::word;
 use bsv_types::{Op, Ty};
 
 fn says(truth: bool) -> Option<Constant>

@@ -1,143 +1,20 @@
-ghost use Rattle.std.specs.Prelude.{◌≡◌, [], IfOk, slice_get, take};
+ghost use Rattle.std.specs.Prelude.{◌≡◌, slice_get};
 ghost use Rattle.bsv_fail.specs.Given.{Gives};
 ghost use Rattle.bsv_types.specs.Kinds.{kind};
 ghost use Rattle.bsv_design.specs.Calls as calls;
-ghost use Rattle.bsv_design.specs.Carrying as carrying;
 ghost use Rattle.bsv_carry.specs.AtHand as spec;
 
 use crate::carrier::Carrier;
-use crate::count::fresh;
-use crate::fault::{Counted, Got};
-use crate::frame::{Locals, variable};
 use crate::integers::number_between;
 use crate::operators::constant_of;
-use crate::value::{all_static, atom_of, held, is_static, opened, truth};
-use crate::work::{Valued, between, with_step};
 use bsv_bits::Operator;
-use bsv_design::{Atom, Binding, Constant, Count, Local, MethodPlace, Static, Step, Value, Work};
+use bsv_design::{Constant, Local, Static, Value, Work};
 use bsv_fail::Fail;
-use bsv_types::{Expr, Op, Param, Ty};
-use sqlite_items::Items;
-use std::alloc::{AllocError, Global};
+use bsv_steps::{Got, Valued, between, held, is_static};
+use bsv_types::{Expr, Op, Ty};
 
 /// An Integer that is written is less than this.
 const MOST_WRITTEN: u128 = 9_223_372_036_854_775_808;
-
-pub(crate) fn is_integer(ty: &Ty) -> bool
-    ensures { result ≡ calls.is_integer (kind ty.now) }
-{
-    matches!(ty, Ty::Integer)
-}
-
-/// What a call of a function gives, which is static where the arguments are.
-pub(crate) fn loosened(arguments: &[Value], value: Value) -> Value
-    ensures { result ≡ carrying.loosened arguments.now value }
-{
-    if all_static(arguments) {
-        value
-    } else {
-        opened(value)
-    }
-}
-
-/// The count behind an arm, whose values are gone.
-pub(crate) fn behind_arm(asked: Count, arm: Count) -> Count
-    ensures { result ≡ carrying.behind_arm asked arm }
-{
-    Count {
-        weight: arm.weight,
-        slots: asked.slots,
-    }
-}
-
-/// Whether the subject has a label, where one label more is the same or is not.
-pub(crate) fn either(found: Option<Value>, same: Value, work: Work) -> Valued
-    ensures { Gives result (carrying.either found same work) }
-{
-    match found {
-        None => Ok((same, work)),
-        Some(before) => between(work, Operator::Or, before, same),
-    }
-}
-
-pub(crate) fn or_false(found: Option<Value>) -> Value
-    ensures { result ≡ carrying.or_false found }
-{
-    match found {
-        None => truth(false),
-        Some(value) => value,
-    }
-}
-
-/// A condition that has to hold, with its steps.
-pub(crate) fn with_need(
-    name: Option<MethodPlace>,
-    work: Work,
-    value: Value,
-    asked: Work,
-) -> Result<Work, AllocError>
-    ensures { IfOk result (λ found. found ≡ carrying.with_need name work (value, asked)) }
-{
-    let count = asked.count;
-    with_step(work, Step::Need(name, atom_of(value), asked.steps), count)
-}
-
-fn argument(value: Value) -> Local
-    ensures { result ≡ carrying.argument value }
-{
-    match value {
-        Value::Static(Constant::Number(_)) => variable(value, true),
-        _ => variable(value, false),
-    }
-}
-
-/// The variables of a body as it begins: what it returns, and the arguments.
-pub(crate) fn arguments(
-    alloc: Global,
-    integer: bool,
-    values: &[Value],
-) -> Result<Locals, AllocError>
-    ensures { IfOk result (λ found. found ≡ carrying.arguments integer values.now) }
-{
-    let mut found = Items::new(alloc);
-    found.push(variable(truth(false), integer))?;
-    let mut rest = values;
-    while let Some((value, after)) = rest.split_first() {
-        found.push(argument(*value))?;
-        rest = after;
-    }
-    Ok(found)
-}
-
-/// The first values, which are those of parameters.
-#[tactic(auto, unfolding(bsv_design::specs::Carrying::parameters_from))]
-pub(crate) fn parameters(alloc: Global, params: &[Param], count: Count) -> Counted<Items<Value>>
-    ensures { Gives result (carrying.parameters_from [] params.now count) }
-{
-    // Where a local has the type of what a value may hold, the checker finds its drop.
-    let _none = Constant::Number(0);
-    let mut found = Items::new(alloc);
-    let mut count = count;
-    let mut rest = params;
-    while let Some((_param, after)) = rest.split_first() {
-        let slot = count.slots;
-        count = fresh(count, 1)?;
-        found.push(Value::Open(Atom::Slot(slot)))?;
-        rest = after;
-    }
-    Ok((found, count))
-}
-
-/// The first so many variables of a module.
-pub(crate) fn seen(bindings: &[Binding], count: usize) -> &[Binding]
-    ensures { result.now ≡ take count bindings.now }
-{
-    if count < bindings.len() {
-        &bindings[..count]
-    } else {
-        bindings
-    }
-}
 
 impl Carrier<'_> {
     #[tactic(auto, unfolding(bsv_design::specs::Carrying::literal))]

@@ -2,13 +2,10 @@ ghost use Rattle.bsv_fail.specs.Given.{Gives};
 ghost use Rattle.bsv_carry.specs.AtHand as spec;
 
 use crate::carrier::Carrier;
-use crate::fault::Counted;
-use crate::frame::{Locals, assign, front, with_variable};
 use crate::statements::Acted;
-use crate::value::decided;
-use crate::work::{at_count, no_steps};
 use bsv_design::{Count, Fault, Local, Work};
 use bsv_fail::Fail;
+use bsv_steps::{Counted, Locals, assign, at_count, decided, front, no_steps, with_variable};
 use bsv_types::{Expr, Head, Stmt};
 
 impl Carrier<'_> {

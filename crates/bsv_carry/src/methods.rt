@@ -2,14 +2,11 @@ ghost use Rattle.bsv_fail.specs.Given.{Gives};
 ghost use Rattle.bsv_carry.specs.AtHand as spec;
 
 use crate::carrier::Carrier;
-use crate::count::counted;
-use crate::fault::Got;
-use crate::value::{atoms, opened, truth};
-use crate::work::{Valued, at_count, give, no_steps, with_step};
 use bsv_design::{
     Atom, Built, Count, Kind, Local, Made, MethodPlace, Step, Work, part_method_number,
 };
 use bsv_fail::Fail;
+use bsv_steps::{Got, Valued, at_count, atoms, counted, give, no_steps, opened, truth, with_step};
 use bsv_types::{Expr, PartTy, Place};
 use sqlite_items::Items;
 

@@ -5,14 +5,11 @@ ghost use Rattle.bsv_design.specs.Applied as applied;
 ghost use Rattle.bsv_carry.specs.AtHand as spec;
 
 use crate::carrier::Carrier;
-use crate::fault::Got;
 use crate::integers::{fitted, number_between};
-use crate::value::truth;
-use crate::words::word;
-use crate::work::{Valued, between, extend, inverted, join, pick, sign_extend, slice};
 use bsv_bits::Operator;
 use bsv_design::{Constant, Value, Work};
 use bsv_fail::Fail;
+use bsv_steps::{Got, Valued, between, extend, inverted, join, pick, sign_extend, slice, word};
 use bsv_types::{Field, Op, Ty, counted_widths};
 use std::alloc::Global;
 

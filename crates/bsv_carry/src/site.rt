@@ -4,10 +4,8 @@ ghost use Rattle.bsv_design.specs.Carrying as carrying;
 ghost use Rattle.bsv_carry.specs.AtHand as spec;
 
 use crate::carrier::Carrier;
-use crate::fault::{Counted, Got};
-use crate::leaves::parameters;
-use crate::work::{Valued, no_steps};
 use bsv_design::{Binding, Count, Instance, Local, Work};
+use bsv_steps::{Counted, Got, Valued, no_steps, parameters};
 use bsv_types::{Expr, Method, Place, Stmt, Typed};
 use std::alloc::Global;
 

@@ -1,14 +1,12 @@
 ghost use Rattle.bsv_fail.specs.Given.{Gives};
 ghost use Rattle.bsv_carry.specs.AtHand as spec;
 
-use crate::arms::close;
 use crate::carrier::Carrier;
-use crate::count::counted;
-use crate::fault::Got;
-use crate::frame::{Locals, assign, front, untouched, with_variable};
-use crate::leaves::is_integer;
-use crate::work::{at_count, no_steps};
 use bsv_design::{Count, Pending, Work};
+use bsv_steps::{
+    Got, Locals, assign, at_count, close, counted, front, is_integer, no_steps, untouched,
+    with_variable,
+};
 use bsv_types::Stmt;
 use sqlite_items::{Boxed, Items};
 

@@ -5,12 +5,10 @@ ghost use Rattle.bsv_design.specs.Operated as operated;
 ghost use Rattle.bsv_carry.specs.AtHand as spec;
 
 use crate::carrier::Carrier;
-use crate::fault::Got;
 use crate::operators::{constant_of, together};
-use crate::value::truth;
-use crate::work::{Valued, slice};
 use bsv_design::{Value, Work};
 use bsv_fail::Fail;
+use bsv_steps::{Got, Valued, slice, truth};
 use bsv_types::{Field, Op, Ty, counted_widths};
 use sqlite_items::Items;
 use std::alloc::{AllocError, Global};

@@ -25,13 +25,14 @@ use Rattle.bsv_design.specs.declared.tree.Built.{Built}
 use Rattle.bsv_design.specs.declared.tree.Instance.{Instance}
 use Rattle.bsv_design.specs.declared.tree.Made.TheVariants as made
 use Rattle.bsv_design.specs.Calls.{made_of}
+use Rattle.bsv_design.specs.Traces.{with_dot}
 use Rattle.bsv_design.specs.Trees.{shapes, world, interface_of, Provides, Stands, AllFit, Agrees}
 use Rattle.bsv_elab.specs.declared.refused.Refused.{Refused}
 use Rattle.bsv_elab.specs.declared.state.Done.{Done}
 use Rattle.bsv_elab.specs.declared.state.Grown.{Grown}
 use Rattle.bsv_elab.specs.declared.state.Marks.{Marks}
 use Rattle.bsv_elab.specs.declared.state.State.{State}
-use Rattle.bsv_elab.specs.Names.{Named, path_of, new_name}
+use Rattle.bsv_elab.specs.Names.{Named, new_name}
 use Rattle.bsv_elab.specs.Statics.{Here, static_fault, put_at}
 use Rattle.bsv_elab.specs.MadeKinds.{kind_of}
 use Rattle.bsv_elab.specs.Making.{Bodies, instance, next_number, with_instance, with_primitive, named_instance, depth_of, at_least_one, start_of, most_depth, within_limits, primitive, is_around, unbuilt, parameters, params_of, inner, behind, child, made_by, arguments, make}
@@ -99,7 +100,7 @@ named_same : (here : Here) (name : List ℕ) (s : State) (n : List ℕ × State)
 unfolding named_instance
 named_same here name s n e =
     let h = went (new_name here.path name s.scope.instances) _ n e in
-    (h.0.1, sym (ap (λ (q : List ℕ × State). q.1) (ok_is (path_of here.path h.0.0, with_names h.0.1 s) n h.2)))
+    (h.0.1, sym (ap (λ (q : List ℕ × State). q.1) (ok_is (with_dot here.path h.0.0, with_names h.0.1 s) n h.2)))
 
 -- ---- modules that are made
 

@@ -58,4 +58,3 @@ pub mod Nodes
 pub mod Repeats
 pub mod Sizes
 pub mod Turns
-pub mod Sampled

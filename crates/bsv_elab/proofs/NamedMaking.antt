@@ -20,12 +20,13 @@ use Rattle.bsv_design.specs.declared.tree.Instance.{Instance}
 use Rattle.bsv_design.specs.declared.tree.Made.{Made}
 use Rattle.bsv_design.specs.declared.tree.Made.TheVariants as made
 use Rattle.bsv_design.specs.declared.values.Fault.TheVariants as fault
+use Rattle.bsv_design.specs.Traces.{with_dot}
 use Rattle.bsv_design.specs.Trees.{joined, rule_count}
 use Rattle.bsv_elab.specs.declared.refused.Refused.TheVariants as refused
 use Rattle.bsv_elab.specs.declared.state.Done.{Done}
 use Rattle.bsv_elab.specs.declared.state.Grown.{Grown}
 use Rattle.bsv_elab.specs.declared.state.State.{State}
-use Rattle.bsv_elab.specs.Names.{Named, path_of, new_name}
+use Rattle.bsv_elab.specs.Names.{Named, new_name}
 use Rattle.bsv_elab.specs.Statics.{Here, static_fault, countable, put_at}
 use Rattle.bsv_elab.specs.MadeKinds.{kind_of}
 use Rattle.bsv_elab.specs.Attributes.{no_marks}
@@ -85,13 +86,13 @@ abbrev with_names : Named → State → State
 with_names names s = record { grown = s.grown; scope = record s.scope { instances = names } }
 
 abbrev NameFound : Here → List ℕ → State → List ℕ × State → Type 0
-NameFound here name s r = (q : List ℕ × Named) × NewName name s.scope.instances q × ((path_of here.path q.0, with_names q.1 s) ≡ r)
+NameFound here name s r = (q : List ℕ × Named) × NewName name s.scope.instances q × ((with_dot here.path q.0, with_names q.1 s) ≡ r)
 
 named_instance_is : (here : Here) (name : List ℕ) (s : State) (r : List ℕ × State) → named_instance here name s ≡ Ok r → NameFound here name s r
 unfolding named_instance
 named_instance_is here name s r e =
     let q = through (new_name here.path name s.scope.instances) _ r e in
-    (q.0, new_name_is here.path name s.scope.instances q.0 q.1, ok_is (path_of here.path q.0.0, with_names q.0.1 s) r q.2)
+    (q.0, new_name_is here.path name s.scope.instances q.0 q.1, ok_is (with_dot here.path q.0.0, with_names q.0.1 s) r q.2)
 
 -- ---- one instance more
 
@@ -106,12 +107,12 @@ module _ (ms : List Module) (here : Here) (base : List (List ℕ)) where
 
   primitive_one : (s : State) (name : List ℕ) (q : List ℕ × Named) (number : ℕ) (m : Made)
       → here.path ≡ joined base → AreLower base → is_lower name ≡ true
-      → ((b : Built) → m ≡ made.Module b → ⊥) → rule_count (instance (path_of here.path q.0) m ∷ []) ≡ 0
-      → ((p : ℕ) → occurs_in p (instance (path_of here.path q.0) m ∷ []) ≡ 0)
-      → NewName name s.scope.instances q → One s (primitive_result number m (path_of here.path q.0, with_names q.1 s))
+      → ((b : Built) → m ≡ made.Module b → ⊥) → rule_count (instance (with_dot here.path q.0) m ∷ []) ≡ 0
+      → ((p : ℕ) → occurs_in p (instance (with_dot here.path q.0) m ∷ []) ≡ 0)
+      → NewName name s.scope.instances q → One s (primitive_result number m (with_dot here.path q.0, with_names q.1 s))
   primitive_one s name q number m path lower low part none no_rule h =
       let own : AreLower (base ++ q.0 ∷ []) = lower_both base (q.0 ∷ []) lower (and_from (is_lower q.0) true (h.lower low) refl) in
-      let i = instance (path_of here.path q.0) m in
+      let i = instance (with_dot here.path q.0) m in
       record {
         makes = record {
           more = i ∷ [];
@@ -120,7 +121,7 @@ module _ (ms : List Module) (here : Here) (base : List (List ℕ)) where
           group = group_one ms base here.around s.scope.instances.taken q.1.taken i part (record {
             name = q.0;
             rest = [];
-            path = ap (λ z. path_of z q.0) path ∙ path_is base q.0 lower;
+            path = ap (λ z. with_dot z q.0) path ∙ path_is base q.0 lower;
             lower = own;
             fresh = h.takes.fresh;
             taken = takes_taken q.0 s.scope.instances q.1 h.takes;
@@ -174,12 +175,12 @@ module _ (ms : List Module) (here : Here) (base : List (List ℕ)) where
   child_one : (s : State) (name : List ℕ) (k : ℕ) (q : List ℕ × Named) (number : ℕ) (d : Done)
       → here.path ≡ joined base → AreLower base → is_lower name ≡ true
       → is_around k here.around ≡ false → number ≡ length s.grown.instances → NewName name s.scope.instances q
-      → BodyMade ms (inner here k (path_of here.path q.0)) (base ++ q.0 ∷ []) (begun k (path_of here.path q.0, with_names q.1 s)) d
-      → One ms here base s (child_result number d (path_of here.path q.0, with_names q.1 s))
+      → BodyMade ms (inner here k (with_dot here.path q.0)) (base ++ q.0 ∷ []) (begun k (with_dot here.path q.0, with_names q.1 s)) d
+      → One ms here base s (child_result number d (with_dot here.path q.0, with_names q.1 s))
   child_one s name k q number d path lower low outside at h b =
       let own : AreLower (base ++ q.0 ∷ []) = lower_both base (q.0 ∷ []) lower (and_from (is_lower q.0) true (h.lower low) refl) in
       let w = b.makes in
-      let i = instance (path_of here.path q.0) (made.Module d.built) in
+      let i = instance (with_dot here.path q.0) (made.Module d.built) in
       let rules_are : d.built.rules ≡ w.rules = b.rules ∙ w.rules_are in
       let group = subst (λ (z : ℕ). Group ms (base ++ q.0 ∷ []) (here.around ++ z ∷ []) [] b.last.names w.more) (sym b.number) w.group in
       let many : s.grown.rules + (length d.built.rules + rule_count w.more) ≡ d.grown.rules = omega (arith, w.many, b.count, ap length rules_are) in
@@ -187,13 +188,13 @@ module _ (ms : List Module) (here : Here) (base : List (List ℕ)) where
         makes = record {
           more = i ∷ w.more;
           instances_are = ap (λ z. put_at number i z) (b.instances ∙ w.instances_are) ∙ put_there s.grown.instances w.more
-              (instance (path_of here.path q.0) (unbuilt k)) i number at;
+              (instance (with_dot here.path q.0) (unbuilt k)) i number at;
           names = takes_longer q.0 s.scope.instances q.1 h.takes;
           group = group_nest ms base here.around s.scope.instances.taken q.1.taken b.last.names q.0 i d.built w.more (record {
             lower = own;
             fresh = h.takes.fresh;
             taken_is = takes_taken q.0 s.scope.instances q.1 h.takes;
-            path = ap (λ z. path_of z q.0) path ∙ path_is base q.0 lower;
+            path = ap (λ z. with_dot z q.0) path ∙ path_is base q.0 lower;
             is_built = refl;
             outside = subst (λ z. is_around z here.around ≡ false) (sym b.number) outside;
             named = b.named;
@@ -228,13 +229,13 @@ module _ (ms : List Module) (here : Here) (base : List (List ℕ)) where
       let found = named_instance_is here name s n.0 n.1 in
       let q = found.0 in
       let own : AreLower (base ++ q.0 ∷ []) = lower_both base (q.0 ∷ []) lower (and_from (is_lower q.0) true (found.1.lower low) refl) in
-      let path_there : path_of here.path q.0 ≡ joined (base ++ q.0 ∷ []) = ap (λ z. path_of z q.0) path ∙ path_is base q.0 lower in
+      let path_there : with_dot here.path q.0 ≡ joined (base ++ q.0 ∷ []) = ap (λ z. with_dot z q.0) path ∙ path_is base q.0 lower in
       let lows = subst (λ z. Lows (parameters (params_of (slice_get z k)) xs)) (sym same) (parameters_of_low ms k xs params) in
       let back = sym found.2 in
       let ran = subst (λ (z : List ℕ × State). bodies (inner here k z.0) (parameters (params_of (slice_get here.modules k)) xs)
       (begun k z) ≡ Ok d.0) {x = n.0} back d.1 in
-      let made_there = good (inner here k (path_of here.path q.0)) (base ++ q.0 ∷ []) (parameters (params_of (slice_get here.modules k)) xs)
-      (begun k (path_of here.path q.0, with_names q.1 s)) d.0 same path_there own lows ran in
+      let made_there = good (inner here k (with_dot here.path q.0)) (base ++ q.0 ∷ []) (parameters (params_of (slice_get here.modules k)) xs)
+      (begun k (with_dot here.path q.0, with_names q.1 s)) d.0 same path_there own lows ran in
       let number = countable_is (length n.0.1.grown.instances) c.0 c.1 ∙ ap (λ (z : List ℕ × State). length z.1.grown.instances) back in
       let one = child_one s name k q c.0 d.0 path lower low a.0 number found.1 made_there in
       subst (One ms here base s) {x = child_result c.0 d.0 n.0} (ok_is (child_result c.0 d.0 n.0) r d.2)

@@ -5,8 +5,8 @@ use Rattle.std.proofs.lemmas.Bool.{and_parts, and_from}
 use Rattle.std.proofs.lemmas.List.{append-nil, append_assoc, append_cancel_left}
 use Rattle.std.proofs.lemmas.List.Folds.{list_all-append}
 use Rattle.bsv_ast.specs.Names.{is_lower}
+use Rattle.bsv_design.specs.Traces.{with_dot}
 use Rattle.bsv_design.specs.Trees.{joined}
-use Rattle.bsv_elab.specs.Names.{path_of}
 use Rattle.bsv_elab.proofs.NamedTexts.{Plain, lower_plain, lower_some}
 
 abbrev pub AreLower : List (List ℕ) → Type 0
@@ -74,11 +74,11 @@ joined_more : (x : List ℕ) (xs : List (List ℕ)) (name : List ℕ) → joined
 joined_more x [] name = refl
 joined_more x (y ∷ ys) name = ap (λ (z : List ℕ). x ++ 46 ∷ z) (joined_more y ys name) ∙ sym (append_assoc x (46 ∷ joined (y ∷ ys)) (46 ∷ name))
 
-path_behind : (path name : List ℕ) → (path ≡ [] → ⊥) → path_of path name ≡ path ++ 46 ∷ name
+path_behind : (path name : List ℕ) → (path ≡ [] → ⊥) → with_dot path name ≡ path ++ 46 ∷ name
 path_behind [] name some = absurd (some refl)
 path_behind (b ∷ path) name some = refl
 
-pub path_is : (names : List (List ℕ)) (name : List ℕ) → AreLower names → path_of (joined names) name ≡ joined (names ++ name ∷ [])
+pub path_is : (names : List (List ℕ)) (name : List ℕ) → AreLower names → with_dot (joined names) name ≡ joined (names ++ name ∷ [])
 path_is [] name h = refl
 path_is (x ∷ xs) name h = path_behind (joined (x ∷ xs)) name (joined_some x xs h) ∙ sym (joined_more x xs name)
 

@@ -5,8 +5,9 @@ use Rattle.std.proofs.lemmas.Bool.{ltb-true}
 use Rattle.bsv_ast.specs.Names.{is_lower}
 use Rattle.bsv_fail.specs.Given.{◌>>=◌}
 use Rattle.bsv_design.specs.declared.values.Fault.TheVariants as fault
+use Rattle.bsv_design.specs.Traces.{with_dot}
 use Rattle.bsv_elab.specs.declared.refused.Refused.TheVariants as refused
-use Rattle.bsv_elab.specs.Names.{Named, times, with_number, given_times, is_taken, path_of, numbered, take_name, new_name}
+use Rattle.bsv_elab.specs.Names.{Named, times, with_number, given_times, is_taken, numbered, take_name, new_name}
 use Rattle.bsv_elab.proofs.NamedTexts.{numbered_lower}
 use Rattle.bsv_elab.proofs.NamedLists.{ok_is, through, passed, free, is_in, Longer, taken_one}
 
@@ -18,7 +19,7 @@ pub record Takes (name : List ℕ) (before after : Named) : Type 0 where
 pub take_name_is : (path name : List ℕ) (n m : Named) → take_name path name n ≡ Ok m → Takes name n m
 unfolding take_name
 take_name_is path name n m e =
-    let h = free (is_taken name n) (Ok (record { given = n.given; taken = n.taken ++ name ∷ [] })) (refused.NameTaken (path_of path name)) m e in
+    let h = free (is_taken name n) (Ok (record { given = n.given; taken = n.taken ++ name ∷ [] })) (refused.NameTaken (with_dot path name)) m e in
     let is = ok_is (record { given = n.given; taken = n.taken ++ name ∷ [] }) m h.1 in
     record { fresh = h.0; is = sym (ap (λ (z : Named). z.taken) is) }
 

@@ -10,4 +10,3 @@ pub mod Building
 pub mod Rightness
 pub mod Told
 pub mod AtHand
-pub mod Samples

@@ -27,6 +27,7 @@ use Rattle.bsv_design.specs.declared.values.Count.{Count}
 use Rattle.bsv_design.specs.Applied.{width}
 use Rattle.bsv_design.specs.Frames.{no_variables}
 use Rattle.bsv_design.specs.Carrying.{module_place}
+use Rattle.bsv_design.specs.Traces.{with_dot}
 use Rattle.bsv_elab.specs.declared.refused.LimitKind.TheVariants as limit
 use Rattle.bsv_elab.specs.declared.refused.Refused.{Refused}
 use Rattle.bsv_elab.specs.declared.refused.Refused.TheVariants as refused
@@ -35,7 +36,7 @@ use Rattle.bsv_elab.specs.declared.state.Marks.{Marks}
 use Rattle.bsv_elab.specs.declared.state.Scope.{Scope}
 use Rattle.bsv_elab.specs.declared.state.State.{State}
 use Rattle.bsv_elab.specs.declared.state.Done.{Done}
-use Rattle.bsv_elab.specs.Names.{path_of, new_name}
+use Rattle.bsv_elab.specs.Names.{new_name}
 use Rattle.bsv_elab.specs.MadeKinds.{kind_of}
 use Rattle.bsv_elab.specs.Statics.{Here, static_fault, site, count, carried, countable, put_at, at_weight, constant_in, held_as, binding}
 use Rattle.bsv_elab.specs.Attributes.{both}
@@ -76,7 +77,7 @@ with_primitive i g = record g { instances = g.instances ++ i ∷ []; primitives 
 unfoldable pub named_instance : Here → List ℕ → State → Result (List ℕ × State) Refused
 named_instance here name s =
     new_name here.path name s.scope.instances >>= λ n.
-    Ok (path_of here.path n.0, record { grown = s.grown; scope = record s.scope { instances = n.1 } })
+    Ok (with_dot here.path n.0, record { grown = s.grown; scope = record s.scope { instances = n.1 } })
 
 -- ---- primitives
 

@@ -6,6 +6,7 @@ use Rattle.std.specs.Str.{bytes_eq}
 use Rattle.indexmap.specs.IndexMap.{insert_entry}
 use Rattle.bsv_fail.specs.Given.{◌>>=◌}
 use Rattle.bsv_design.specs.declared.values.Fault.TheVariants as fault
+use Rattle.bsv_design.specs.Traces.{with_dot}
 use Rattle.bsv_elab.specs.declared.refused.Refused.{Refused}
 use Rattle.bsv_elab.specs.declared.refused.Refused.TheVariants as refused
 
@@ -41,18 +42,13 @@ numbered name n =
     if nat_lt (times n name) 4294967295 then Ok (with_number name (times n name), given_times name (times n name + 1) n)
     else Err (refused.Carried fault.Weight)
 
--- the path of what has the name in the instance of a path
-abbrev pub path_of : List ℕ → List ℕ → List ℕ
-path_of [] name = name
-path_of (b ∷ bs) name = (b ∷ bs) ++ (codes "." ++ name)
-
 abbrev pub is_taken : List ℕ → Named → Bool
 is_taken name n = list_any (bytes_eq name) n.taken
 
 -- no two share a name
 unfoldable pub take_name : List ℕ → List ℕ → Named → Result Named Refused
 take_name path name n =
-    if is_taken name n then Err (refused.NameTaken (path_of path name))
+    if is_taken name n then Err (refused.NameTaken (with_dot path name))
     else Ok (record { given = n.given; taken = n.taken ++ name ∷ [] })
 
 -- the next name, which is free

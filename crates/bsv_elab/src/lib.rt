@@ -20,8 +20,6 @@ mod names;
 mod places;
 mod refused;
 mod state;
-#[cfg(test)]
-mod tests;
 mod values;
 mod variables;
 mod whole;

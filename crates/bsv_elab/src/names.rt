@@ -4,7 +4,7 @@ ghost use Rattle.bsv_elab.specs.Names as spec;
 
 use crate::refused::{Building, Refused};
 use bsv_bits::{Name, OutOfMemory};
-use bsv_design::Fault;
+use bsv_design::{Fault, path_of};
 use bsv_fail::Fail;
 use indexmap::{IndexMap, IndexSet};
 use itoa::Buffer;
@@ -42,19 +42,6 @@ fn with_number(alloc: Global, name: &[u8], number: u32) -> Result<Name, OutOfMem
     text.extend_from_slice(b"_")?;
     let mut digits = Buffer::new();
     text.extend_from_slice(digits.format(number).as_bytes())?;
-    Name::new(alloc, text.as_slice())
-}
-
-/// The path of what has the name in the instance of a path.
-pub(crate) fn path_of(alloc: Global, path: &[u8], name: &[u8]) -> Result<Name, OutOfMemory>
-    ensures { IfOk result (λ whole. whole ≡ spec.path_of path.now name.now) }
-{
-    if path.is_empty() {
-        return Name::new(alloc, name);
-    }
-    let mut text = Vec::from_slice(alloc, path)?;
-    text.extend_from_slice(b".")?;
-    text.extend_from_slice(name)?;
     Name::new(alloc, text.as_slice())
 }
 

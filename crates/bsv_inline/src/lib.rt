@@ -22,8 +22,6 @@ mod primitives;
 mod rules;
 mod sources;
 mod state;
-#[cfg(test)]
-mod tests;
 mod walk;
 
 pub use designs::flatten;

@@ -1,25 +1,12 @@
 ghost use Rattle.std.specs.Prelude.{◌≡◌, IfOk, slice_get};
-ghost use Rattle.bsv_design.specs.Traces.{with_dot, method_text, place_name};
+ghost use Rattle.bsv_design.specs.Traces.{method_text, place_name};
 ghost use Rattle.bsv_inline.specs.AtHand.{method_of};
 
 use crate::state::Laid;
 use bsv_bits::Name;
-use bsv_design::{Instance, Made, MethodPlace};
+use bsv_design::{Instance, Made, MethodPlace, path_of};
 use bsv_types::Module;
 use std::alloc::Global;
-
-/// The path of what has the name in the instance of a path.
-pub(crate) fn path_of(alloc: Global, path: &[u8], name: &[u8]) -> Laid<Name>
-    ensures { IfOk result (λ whole. whole ≡ with_dot path.now name.now) }
-{
-    if path.is_empty() {
-        return Name::new(alloc, name);
-    }
-    let mut text = Vec::from_slice(alloc, path)?;
-    text.extend_from_slice(b".")?;
-    text.extend_from_slice(name)?;
-    Name::new(alloc, text.as_slice())
-}
 
 /// The name of a method of a module.
 fn method_name(modules: &[Module], place: u32, method: u32) -> &[u8]

@@ -7,11 +7,11 @@ ghost use Rattle.bsv_design.specs.Trees as trees;
 ghost use Rattle.bsv_carry.specs.AtHand as carrier;
 ghost use Rattle.bsv_inline.specs.SourcesAtHand as at_hand;
 
-use crate::naming::path_of;
 use crate::rules::{Placed, rule_at};
 use bsv_bits::{Name, OutOfMemory};
-use bsv_carry::{Site, Valued, atom_of, no_steps};
-use bsv_design::{Atom, Binding, Built, Count, Made, Port, Role, Source, Tree, Value};
+use bsv_carry::Site;
+use bsv_design::{Atom, Binding, Built, Count, Made, Port, Role, Source, Tree, Value, path_of};
+use bsv_steps::{Valued, atom_of, no_steps};
 use bsv_types::{Method, MethodResult, Module, Param, Rule, Ty, counted_width};
 use sqlite_items::Items;
 use std::alloc::Global;
@@ -115,7 +115,8 @@ impl<'a> Sources<'a> {
 
     /// A method of the top that was carried out.
     fn method_done(self, method: &Method, done: Valued) -> Result<Source, OutOfMemory>
-        ensures { IfOk result (λ source. at_hand.method_done self.entry method.now done ≡ Some source) }
+        ensures { IfOk result (λ source.
+            at_hand.method_done self.entry method.now done ≡ Some source) }
     {
         let Ok((value, work)) = done else {
             return Err(OutOfMemory);
@@ -161,7 +162,8 @@ impl<'a> Sources<'a> {
     /// A rule.
     fn rule_source(self, placed: Placed<'a>) -> Result<Source, OutOfMemory>
         ensures { IfOk result (λ source.
-            spec.rule_source (at_hand.tree self.entry) (Some (at_hand.standing placed.entry)) ≡ Some source) }
+            spec.rule_source (at_hand.tree self.entry) (Some (at_hand.standing placed.entry))
+            ≡ Some source) }
     {
         let Some(rule) = self.rule_text(placed) else {
             return Err(OutOfMemory);

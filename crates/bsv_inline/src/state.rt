@@ -4,8 +4,8 @@ ghost use Rattle.bsv_inline.specs.Flat as spec;
 
 use crate::calls::{Call, Condition};
 use bsv_bits::OutOfMemory;
-use bsv_carry::front;
 use bsv_design::Node;
+use bsv_steps::front;
 use sqlite_items::Items;
 use std::alloc::{AllocError, Global};
 use std::mem::replace;
