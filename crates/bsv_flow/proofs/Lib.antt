@@ -13,4 +13,6 @@ pub mod Trees
 pub mod Yielded
 pub mod Flattened
 pub mod FirstBreaches
+pub mod OneSchedule
 pub mod ScheduledTrees
+pub mod Planned

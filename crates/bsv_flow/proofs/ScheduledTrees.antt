@@ -40,7 +40,11 @@ use Rattle.bsv_urgency.specs.declared.fault.UrgencyFault.{UrgencyFault}
 use Rattle.bsv_urgency.specs.declared.fault.UrgencyFault.TheVariants as urgency
 use Rattle.bsv_attr.specs.Asserting.{IsAccepted, NamesImplicit, NamesStopper}
 use Rattle.bsv_attr.specs.Implicit.{demands_of}
+use Rattle.bsv_attr.specs.Obeying.{Obeys}
 use Rattle.bsv_attr.proofs.Alike as marks
+use Rattle.bsv_attr.proofs.Attributes.{obeys}
+use Rattle.bsv_graph.proofs.OrderedLemmas.{ordering_before, urging_stands}
+use Rattle.bsv_graph.proofs.RelationsLemmas.{agrees_design}
 use Rattle.bsv_flow.specs.declared.refusal.CompileFault.{CompileFault}
 use Rattle.bsv_flow.specs.declared.refusal.CompileFault.TheVariants as fault
 use Rattle.bsv_flow.specs.declared.refusal.Refusal.{Refusal}
@@ -302,6 +306,18 @@ module _ (h : Hierarchy) (d : Design) (alike : AreAlike (tree_scheme h) (design_
     ordered = ordered_of made execution urgency e u executes urges stops;
     accepted = (marks.accepted_alike S T made alike).1 accepted;
   }
+
+  pub obeyed_of : (made : Schedule) (execution urgency : List ℕ) → made.execution ≡ execution → made.urgency ≡ urgency
+      → Executes (related (design_subject d)) execution → Urges (related (design_subject d)) urgency
+      → AreStops (related (design_subject d)) execution urgency made.stops → IsAccepted T made → Obeys S made
+  obeyed_of made execution urgency e u executes urges stops accepted =
+      let R = related (design_subject d) in
+      let least = subst (λ (xs : List ℕ). Executes R xs) (sym e) executes in
+      let urged = subst (λ (xs : List ℕ). Urges R xs) (sym u) urges in
+      let listed = subst (λ (xs : List ℕ). AreStops R xs made.urgency made.stops) (sym e)
+      (subst (λ (xs : List ℕ). AreStops R execution xs made.stops) (sym u) stops) in
+      marks.obeys_alike S T made alike
+      (obeys ordering_before urging_stands (blueprint d) made (agrees_design d) least.order urged.order listed accepted)
 
 pub compiled_of : (h : Hierarchy) (d : Design) (g : Guards) (s : Schedule) → AreAlike (tree_scheme h) (design_scheme (blueprint d)) → top_name h ≡ Some d.name
     → d.parts ≡ parts_among h.instances → g.needs ≡ needs_of (kinds_of (blueprint d)) d.elements → AreLifted (blueprint d) g.needs

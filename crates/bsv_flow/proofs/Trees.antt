@@ -6,10 +6,7 @@ use Rattle.bsv_types.specs.declared.typed.Typed.{Typed}
 use Rattle.bsv_check.specs.Checked.{Made}
 use Rattle.bsv_check.specs.Rightness.{is_in_order}
 use Rattle.bsv_check.specs.Seen.{typed_seen}
-use Rattle.bsv_design.specs.Relations.{KeepsTheRule}
-use Rattle.bsv_design.specs.Schemes.{tree_scheme}
-use Rattle.bsv_design.specs.Sources.{parts_among}
-use Rattle.bsv_design.specs.Traces.{Site}
+use Rattle.bsv_design.specs.declared.schedule.Schedule.{Schedule}
 use Rattle.bsv_design.specs.Trees.{Hierarchy}
 use Rattle.bsv_design.specs.declared.values.Fault.TheVariants as carry
 use Rattle.bsv_elab.specs.declared.refused.Refused.{Refused}
@@ -18,17 +15,15 @@ use Rattle.bsv_elab.specs.Building as elaboration
 use Rattle.bsv_elab.specs.Told.{told_as, Builds}
 use Rattle.bsv_flow.specs.declared.loading.Loaded.{Loaded}
 use Rattle.bsv_flow.specs.declared.refusal.Refusal.{Refusal}
-use Rattle.bsv_flow.specs.declared.refusal.Refusal.TheVariants as refusal
-use Rattle.bsv_flow.specs.Breaches.{element_name, part_path, method_name, TellsBreach}
 use Rattle.bsv_flow.specs.Buildings.{refusal_of, tree_of, HasDesign, IsProgram, IsBuilt, Rejects}
 use Rattle.bsv_flow.specs.Loads.{IsLoaded}
 use Rattle.bsv_flow.specs.OneAnswer.{IsSameRefusal}
+use Rattle.bsv_flow.specs.Schedulings.{subject, IsScheduled, Unscheduled}
 use Rattle.bsv_flow.specs.Typings.{typing_of, IsTyped}
 use Rattle.bsv_flow.proofs.Decided as loading
 use Rattle.bsv_flow.proofs.Outcomes as typing
-use Rattle.bsv_flow.proofs.FirstBreaches as first
-use Rattle.bsv_flow.proofs.FirstBreaches.{FirstBreachOf, tree_decides}
 use Rattle.bsv_flow.proofs.OneRefusal.{of_typing}
+use Rattle.bsv_flow.proofs.OneSchedule.{decided, not_both as scheduled_or_not, one_unscheduled}
 use Rattle.bsv_flow.proofs.Programs.{made_is, one_program, program_at}
 
 -- ---- what building answers, as a refusal
@@ -55,18 +50,6 @@ told_whole : (top : List ℕ) (ms : List Module) (given : Result Hierarchy Refus
 told_whole top ms (Ok t) e = cc
 told_whole top ms (Err r) e = is_told top ms r (same_told (refusal_of (told_as top ms r)) None e)
 
--- a tree has one first breach, which is told in one way
-one_breach : (h : Hierarchy) (r s : Refusal) → TellsBreach h r → TellsBreach h s → r ≡ s
-one_breach h r s one other =
-    let S = tree_scheme h in
-    let ps = parts_among h.instances in
-    let e = first.same_breach S one.element other.element one.earlier one.later other.earlier other.later one.one one.other other.one other.other one.breach other.breach in
-    one.told
-    ∙ ap (λ n. refusal.InRule (element_name S n) (part_path ps one.one.target.part) (method_name ps one.one.target.part one.one.target.method) (method_name ps one.one.target.part one.other.target.method)) e.0
-    ∙ ap (λ (x : Site). refusal.InRule (element_name S other.element) (part_path ps x.target.part) (method_name ps x.target.part x.target.method) (method_name ps x.target.part one.other.target.method)) e.1
-    ∙ ap (λ (x : Site). refusal.InRule (element_name S other.element) (part_path ps other.one.target.part) (method_name ps other.one.target.part other.one.target.method) (method_name ps other.one.target.part x.target.method)) e.2
-    ∙ sym other.told
-
 -- ---- what is built or refused
 
 module _ (first : List ℕ) (contents : List ℕ → List ℕ) (top : List ℕ) where
@@ -79,8 +62,8 @@ module _ (first : List ℕ) (contents : List ℕ → List ℕ) (top : List ℕ) 
   same_tree : {s t : Hierarchy} → ◌≡◌ {A = Result Hierarchy (Option Refusal)} (Ok s) (Ok t) → s ≡ t
   same_tree e = cc
 
-  same_breach : (s t : Hierarchy) (r : Refusal) → s ≡ t → TellsBreach s r → TellsBreach t r
-  same_breach s t r e tells = subst (λ (h : Hierarchy). TellsBreach h r) e tells
+  same_refused : (s t : Hierarchy) (r : Refusal) → s ≡ t → Unscheduled s r → Unscheduled t r
+  same_refused s t r e u = subst (λ (h : Hierarchy). Unscheduled h r) e u
 
   pub apart : (l : Loaded) (r : Refusal) → IsBuilt first contents top l → Rejects first contents top r → ⊥
   apart l r built (Rejects.untyped refused) = typing.apart first contents l r built.typed refused
@@ -88,11 +71,11 @@ module _ (first : List ℕ) (contents : List ℕ → List ℕ) (top : List ℕ) 
       let same_loaded : m ≡ l = loading.same first contents m l loaded built.typed.loaded in
       let has = built.built program (subst (λ (x : Loaded). IsProgram x program) same_loaded is) in
       not_both (tree_of program top) has.tree r has.built refused
-  apart l r built (Rejects.in_rule m program tree loaded is made tells) =
+  apart l r built (Rejects.scheduling m program tree loaded is made refused) =
       let same_loaded : m ≡ l = loading.same first contents m l loaded built.typed.loaded in
       let has = built.built program (subst (λ (x : Loaded). IsProgram x program) same_loaded is) in
-      let found = same_breach tree has.tree r (same_tree (sym made ∙ has.built)) tells in
-      has.kept found.element found.earlier found.later found.one found.other found.breach.breach
+      let one = same_tree (sym made ∙ has.built) in
+      scheduled_or_not has.tree has.made r has.scheduled (same_refused tree has.tree r one refused)
 
   -- what is typed as a program is typed
   typed_as : (l : Loaded) (program : Typed) → IsLoaded first contents l → IsProgram l program → IsTyped first contents l
@@ -103,35 +86,28 @@ module _ (first : List ℕ) (contents : List ℕ → List ℕ) (top : List ℕ) 
 
   -- what has a design as one program is built
   pub built_as : (l : Loaded) (program : Typed) (t : Hierarchy) → IsLoaded first contents l → IsProgram l program → tree_of program top ≡ Ok t
-      → ((n : ℕ) → KeepsTheRule (tree_scheme t) n) → IsBuilt first contents top l
-  built_as l program t loaded is built kept =
+      → (made : Schedule) → IsScheduled (subject t) made → IsBuilt first contents top l
+  built_as l program t loaded is built made scheduled =
       record {
         typed = typed_as l program loaded is;
-        built = λ other also. subst (λ (p : Typed). HasDesign p top) (one_program l program other is also) (record { tree = t; built = built; kept = kept });
+        built = λ other also. subst (λ (p : Typed). HasDesign p top) (one_program l program other is also)
+            (record { tree = t; built = built; made = made; scheduled = scheduled });
       }
 
-  -- the refusal of a first breach
-  told_of : (t : Hierarchy) → FirstBreachOf (tree_scheme t) → (r : Refusal) × TellsBreach t r
-  told_of t found = (
-    refusal.InRule (element_name (tree_scheme t) found.element) (part_path (parts_among t.instances) found.one.target.part)
-        (method_name (parts_among t.instances) found.one.target.part found.one.target.method) (method_name (parts_among t.instances) found.one.target.part found.other.target.method),
-    record { element = found.element; earlier = found.earlier; later = found.later; one = found.one; other = found.other; breach = found.breach; told = refl },
-  )
-
-  by_rule : (l : Loaded) → IsLoaded first contents l → (program : Typed) → IsProgram l program → (t : Hierarchy) → tree_of program top ≡ Ok t → Outcome
-  by_rule l loaded program is t built =
-      elim (tree_decides t) [
-        | inl kept ↦ inl (l, built_as l program t loaded is built kept)
-        | inr found ↦ (let r = told_of t found in inr (r.0, Rejects.in_rule l program t loaded is built r.1))
+  by_schedule : (l : Loaded) → IsLoaded first contents l → (program : Typed) → IsProgram l program → (t : Hierarchy) → tree_of program top ≡ Ok t → Outcome
+  by_schedule l loaded program is t built =
+      elim (decided t) [
+        | inl found ↦ inl (l, built_as l program t loaded is built found.0 found.1)
+        | inr refused ↦ inr (refused.0, Rejects.scheduling l program t loaded is built refused.1)
       ]
 
   by_tree : (l : Loaded) → IsLoaded first contents l → (program : Typed) → IsProgram l program → (given : Result Hierarchy (Option Refusal)) → tree_of program top ≡ given → Outcome
-  by_tree l loaded program is (Ok t) built = by_rule l loaded program is t built
+  by_tree l loaded program is (Ok t) built = by_schedule l loaded program is t built
   by_tree l loaded program is (Err (Some r)) built = inr (r, Rejects.building l program loaded is built)
   by_tree l loaded program is (Err None) built = absurd (told_whole top program.modules (elaboration.building program top) built)
 
   -- a program is in order
-  in_order : (l : Loaded) (made : Made) (program : Typed) → typing_of l ≡ Ok made → IsProgram l program → IsTrue (is_in_order made)
+  pub in_order : (l : Loaded) (made : Made) (program : Typed) → typing_of l ≡ Ok made → IsProgram l program → IsTrue (is_in_order made)
   in_order l made program is also =
       subst (λ (m : Made). IsTrue (is_in_order m)) (made_is (typed_seen program) made (sym also ∙ is)) program.right
 
@@ -176,18 +152,18 @@ module _ (first : List ℕ) (contents : List ℕ → List ℕ) (top : List ℕ) 
       let same_loaded : m ≡ l = loading.same first contents m l also loaded in
       let one : program ≡ other = one_program l program other is (subst (λ (x : Loaded). IsProgram x other) same_loaded too) in
       same_refusal r s (same_told (Some r) (Some s) (sym refused ∙ ap (λ (p : Typed). tree_of p top) one ∙ more))
-  of_building r s (Rejects.in_rule m program tree loaded is made tells) (Rejects.untyped other) =
+  of_building r s (Rejects.scheduling m program tree loaded is made tells) (Rejects.untyped other) =
       absurd (typing.apart first contents m s (typed_as m program loaded is) other)
-  of_building r s (Rejects.untyped one) (Rejects.in_rule m program tree loaded is made tells) =
+  of_building r s (Rejects.untyped one) (Rejects.scheduling m program tree loaded is made tells) =
       absurd (typing.apart first contents m r (typed_as m program loaded is) one)
-  of_building r s (Rejects.in_rule l program tree loaded is made tells) (Rejects.building m other also too refused) =
+  of_building r s (Rejects.scheduling l program tree loaded is made tells) (Rejects.building m other also too refused) =
       let e = program_same l m program other loaded also is too in
       absurd (not_both (tree_of other top) tree s (sym (ap (λ (p : Typed). tree_of p top) e) ∙ made) refused)
-  of_building r s (Rejects.building l program loaded is refused) (Rejects.in_rule m other tree also too made tells) =
+  of_building r s (Rejects.building l program loaded is refused) (Rejects.scheduling m other tree also too made tells) =
       let e = program_same l m program other loaded also is too in
       absurd (not_both (tree_of other top) tree r made (sym (ap (λ (p : Typed). tree_of p top) e) ∙ refused))
-  of_building r s (Rejects.in_rule l program tree loaded is made tells) (Rejects.in_rule m other wood also too more told) =
+  of_building r s (Rejects.scheduling l program tree loaded is made tells) (Rejects.scheduling m other wood also too more told) =
       let e = program_same l m program other loaded also is too in
       let one : tree ≡ wood = same_tree (sym made ∙ ap (λ (p : Typed). tree_of p top) e ∙ more) in
-      let same : r ≡ s = one_breach wood r s (same_breach tree wood r one tells) told in
+      let same : r ≡ s = one_unscheduled wood r s (same_refused tree wood r one tells) told in
       subst (λ (t : Refusal). IsSameRefusal r t) same IsSameRefusal.equal

@@ -1,11 +1,10 @@
--- The tree of what was typed, or its refusal; and the first refusal of a design, in loading, typing or building, or of two
--- calls that may not stand in one element.
+-- The tree of what was typed, or its refusal; and the first refusal of a design, in loading, typing, building or
+-- scheduling.
 use Rattle.std.specs.Prelude.{◌≡◌, ℕ, List, Option, Some, None, Result, Ok, Err, codes}
 use Rattle.bsv_fail.specs.Given.{over}
 use Rattle.bsv_types.specs.declared.typed.Typed.{Typed}
 use Rattle.bsv_check.specs.Seen.{typed_seen}
-use Rattle.bsv_design.specs.Relations.{KeepsTheRule}
-use Rattle.bsv_design.specs.Schemes.{tree_scheme}
+use Rattle.bsv_design.specs.declared.schedule.Schedule.{Schedule}
 use Rattle.bsv_design.specs.Trees.{Hierarchy}
 use Rattle.bsv_elab.specs.declared.fault.ElabFault.{ElabFault}
 use Rattle.bsv_elab.specs.declared.fault.ElabFault.TheVariants as fault
@@ -16,8 +15,8 @@ use Rattle.bsv_flow.specs.declared.loading.Loaded.{Loaded}
 use Rattle.bsv_flow.specs.declared.refusal.Refusal.{Refusal}
 use Rattle.bsv_flow.specs.declared.refusal.Refusal.TheVariants as refusal
 use Rattle.bsv_flow.specs.Attributes.{attribute_word}
-use Rattle.bsv_flow.specs.Breaches.{TellsBreach}
 use Rattle.bsv_flow.specs.Loads.{IsLoaded}
+use Rattle.bsv_flow.specs.Schedulings.{subject, IsScheduled, Unscheduled}
 use Rattle.bsv_flow.specs.Typings.{typing_of, IsTyped, IsUntyped}
 
 -- the word of what is counted
@@ -48,19 +47,20 @@ tree_of program top = over refusal_of (Builds program top)
 abbrev pub IsProgram : Loaded → Typed → Type 0
 IsProgram l program = typing_of l ≡ Ok (typed_seen program)
 
--- a program has a tree, and no two calls of one element of it break the rule of one element
+-- a program has a tree, and the tree has a schedule
 pub record HasDesign (program : Typed) (top : List ℕ) : Type 0 where
   pub tree : Hierarchy
   pub built : tree_of program top ≡ Ok tree
-  pub kept : (n : ℕ) → KeepsTheRule (tree_scheme tree) n
+  pub made : Schedule
+  pub scheduled : IsScheduled (subject tree) made
 
 -- what is loaded, has a typing, and the program that it is typed as has a design
 pub record IsBuilt (first : List ℕ) (contents : List ℕ → List ℕ) (top : List ℕ) (l : Loaded) : Type 0 where
   pub typed : IsTyped first contents l
   pub built : (program : Typed) → IsProgram l program → HasDesign program top
 
--- the first refusal of a design: in loading or typing, behind them in building, or behind that of two calls of one element
+-- the first refusal of a design: in loading or typing, behind them in building, or behind that in scheduling
 pub data Rejects (first : List ℕ) (contents : List ℕ → List ℕ) (top : List ℕ) (r : Refusal) : Type 0 where
   untyped : IsUntyped first contents r → Rejects first contents top r
   building : (l : Loaded) (program : Typed) → IsLoaded first contents l → IsProgram l program → tree_of program top ≡ Err (Some r) → Rejects first contents top r
-  in_rule : (l : Loaded) (program : Typed) (tree : Hierarchy) → IsLoaded first contents l → IsProgram l program → tree_of program top ≡ Ok tree → TellsBreach tree r → Rejects first contents top r
+  scheduling : (l : Loaded) (program : Typed) (tree : Hierarchy) → IsLoaded first contents l → IsProgram l program → tree_of program top ≡ Ok tree → Unscheduled tree r → Rejects first contents top r

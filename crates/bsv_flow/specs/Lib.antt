@@ -10,3 +10,4 @@ pub mod Sources
 pub mod Typings
 pub mod Yields
 pub mod Schedulings
+pub mod Compilings

@@ -69,8 +69,9 @@ pub fn tree(alloc: Global, typed: Typed, top: &str) -> Result<Tree, CompileFault
     }
 }
 
-/// What the files hold decides what is built or refused: there is one tree, or a first refusal, and
-/// not both. Both are one, but that the place of a `Syntax` is free. What was loaded is typed as one
+/// What the files hold decides what is built and scheduled, or refused: either what is loaded has a typing,
+/// and the program that it is typed as has a tree with a schedule, or there is a first refusal, and not
+/// both. The refusal is one, but that the place of a `Syntax` is free. What was loaded is typed as one
 /// program at most, and as one where its typing has a number for each place of its lists.
 pub fn one_building()
     ensures same { (first : List ℕ) (contents : List ℕ → List ℕ) (top : List ℕ) (l m : TheLoaded)

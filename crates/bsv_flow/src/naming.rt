@@ -1,14 +1,11 @@
-ghost use Rattle.std.specs.Prelude.{◌≡◌, IfOk};
+ghost use Rattle.std.specs.Prelude.{◌≡◌};
 ghost use Rattle.bsv_design.specs.Schemes.{design_scheme};
 ghost use Rattle.bsv_design.specs.Seen.{blueprint};
-ghost use Rattle.bsv_design.specs.Traces.{with_dot};
 ghost use Rattle.bsv_flow.specs.Attributes.{attribute_word};
 ghost use Rattle.bsv_flow.specs.Breaches as breaches;
 
-use bsv_bits::{Name, OutOfMemory};
 use bsv_design::{Attribute, Design, NamedPart};
 use bsv_prim::Primitive;
-use std::alloc::Global;
 
 /// An attribute as it is written.
 pub(crate) fn attribute_word(attribute: Attribute) -> &'static str
@@ -57,17 +54,4 @@ pub(crate) fn method_name(parts: &[NamedPart], part: u32, method: u32) -> &[u8]
         }
         None => b"",
     }
-}
-
-/// The path of what has the name in the instance of a path.
-pub(crate) fn dotted(alloc: Global, path: &[u8], name: &[u8]) -> Result<Name, OutOfMemory>
-    ensures { IfOk result (λ whole. whole ≡ with_dot path.now name.now) }
-{
-    if path.is_empty() {
-        return Name::new(alloc, name);
-    }
-    let mut text = Vec::from_slice(alloc, path)?;
-    text.extend_from_slice(b".")?;
-    text.extend_from_slice(name)?;
-    Name::new(alloc, text.as_slice())
 }

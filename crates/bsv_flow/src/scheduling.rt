@@ -1,7 +1,10 @@
-ghost use Rattle.std.specs.Prelude.{◌≡◌, ℕ, List, Some, Err, IfOk, OnOk, slice_get};
+ghost use Rattle.std.specs.Prelude.{◌≡◌, ◌⊎◌, ℕ, List, Some, Err, IfOk, OnOk, slice_get};
 ghost use Rattle.bsv_attr.specs.Asserting.{IsAccepted};
-ghost use Rattle.bsv_design.specs.Schemes.{design_scheme};
+ghost use Rattle.bsv_attr.specs.Obeying.{Obeys};
+ghost use Rattle.bsv_design.specs.Schemes.{design_scheme, tree_scheme};
 ghost use Rattle.bsv_design.specs.Seen.{blueprint, hierarchy};
+ghost use Rattle.bsv_design.specs.Trees.{Hierarchy};
+ghost use Rattle.bsv_design.specs.declared.schedule.Schedule.{Schedule as TheSchedule};
 ghost use Rattle.bsv_graph.specs.ExecutionOrders.{Executes};
 ghost use Rattle.bsv_graph.specs.Relating.{feed_edges};
 ghost use Rattle.bsv_graph.specs.UrgencyOrders.{Urges};
@@ -22,11 +25,11 @@ ghost use Rattle.bsv_flow.specs.declared.refusal.CompileFault.TheVariants.{Refus
 ghost use Rattle.bsv_flow.specs.declared.refusal.Refusal.{Refusal as TheRefusal};
 
 use crate::flattening::flat;
-use crate::naming::{attribute_word, dotted, element_name, method_name, part_path};
+use crate::naming::{attribute_word, element_name, method_name, part_path};
 use crate::refusal::{CompileFault, Refusal};
 use bsv_attr::{AttrFault, asserts, is_countable};
 use bsv_bits::{Name, OutOfMemory};
-use bsv_design::{Design, Element, Guards, NamedPart, Pair, Schedule, Tree};
+use bsv_design::{Design, Element, Guards, NamedPart, Pair, Schedule, Tree, path_of};
 use bsv_order::{OrderFault, execution};
 use bsv_urgency::{UrgencyFault, schedule, urgency};
 use sqlite_items::Items;
@@ -145,7 +148,7 @@ fn call_text(
     ensures { IfOk result (λ name. name ≡ spec.call_at parts.now element.now place) }
 {
     match element.calls.get(place) {
-        Some(call) => dotted(
+        Some(call) => path_of(
             alloc,
             part_path(parts, call.part),
             method_name(parts, call.part, call.method),
@@ -244,9 +247,9 @@ fn asserted(alloc: Global, design: &Design, schedule: &Schedule) -> Result<(), C
     }
 }
 
-/// The design of a tree with its guards and its schedule, or the first refusal of two calls of one element,
-/// of the two orders, or of the marks of rules.
-#[tactic(auto, using(crate::proofs::ScheduledTrees::compiled_of, crate::proofs::ScheduledTrees::scheduled_of, crate::proofs::ScheduledTrees::unexecuted, crate::proofs::ScheduledTrees::unurged, crate::proofs::ScheduledTrees::unasserted, crate::proofs::ScheduledTrees::executed_order, crate::proofs::ScheduledTrees::urged_order))]
+/// The design of a tree with its guards and its schedule, which obeys the attributes; or the first refusal
+/// of two calls of one element, of the two orders, or of the marks of rules.
+#[tactic(auto, using(crate::proofs::ScheduledTrees::compiled_of, crate::proofs::ScheduledTrees::executed_order, crate::proofs::ScheduledTrees::urged_order))]
 pub fn scheduled<R: Threads + Sync>(
     rt: &R,
     alloc: Global,
@@ -255,6 +258,7 @@ pub fn scheduled<R: Threads + Sync>(
     ensures compiled { IfOk result (λ c. spec.IsCompiledOf (hierarchy tree.now) c) }
     ensures scheduled { IfOk result (λ c.
         IsScheduled (subject (hierarchy tree.now)) c.schedule) }
+    ensures obeys { IfOk result (λ c. Obeys (tree_scheme (hierarchy tree.now)) c.schedule) }
     ensures refused { (r : TheRefusal) → result ≡ Err (Refused r)
         → Unscheduled (hierarchy tree.now) r }
     ensures own { (name : List ℕ) → result ≡ Err (ReadFault name) → ⊥ }
@@ -270,3 +274,15 @@ pub fn scheduled<R: Threads + Sync>(
         schedule,
     })
 }
+
+/// A tree has one schedule or one first refusal of scheduling, and not both.
+pub fn one_schedule()
+    ensures one { (h : Hierarchy) (made other : TheSchedule)
+        → IsScheduled (subject h) made → IsScheduled (subject h) other → made ≡ other }
+    ensures one_refusal { (h : Hierarchy) (r other : TheRefusal)
+        → Unscheduled h r → Unscheduled h other → r ≡ other }
+    ensures apart { (h : Hierarchy) (made : TheSchedule) (r : TheRefusal)
+        → IsScheduled (subject h) made → Unscheduled h r → ⊥ }
+    ensures some { (h : Hierarchy) → ((made : TheSchedule) × IsScheduled (subject h) made)
+        ⊎ ((r : TheRefusal) × Unscheduled h r) }
+{}

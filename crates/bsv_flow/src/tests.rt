@@ -1,4 +1,6 @@
-use crate::{CompileFault, Loaded, load, tree, typed};
+use crate::{
+    CompileFault, Loaded, compile, load, one_building, one_plan, one_schedule, tree, typed,
+};
 use bsv_bits::{Name, OutOfMemory};
 use bsv_design::Tree;
 use bsv_io::{MemFiles, MemSink};
@@ -7,6 +9,7 @@ use std::alloc::{AllocError, Global};
 use std::ops::Range;
 use std::process::Abort;
 use std::test::Fail;
+use std::thread::Threads;
 
 /// Files with bytes that a text of lines does not hold, and the line of the refusal.
 const REFUSED: [(&[u8], &str); 13] = [
@@ -307,6 +310,26 @@ fn programs_are_built(rt: HostRuntime) -> Result<(), Fail> {
         };
         assert_eq!(rt; count, instances, "{top}");
         assert_eq!(rt; found.as_slice(), told, "{top}");
+    }
+    Ok(())
+}
+
+/// How many elements the greatest common divisor has when it is compiled.
+fn elements_compiled<R: Threads + Sync>(rt: &R, alloc: Global) -> Result<usize, CompileFault> {
+    let mut source = files_of(alloc, &[(b"Gcd.bsv", GCD.as_bytes())], &[])?;
+    let compiled = compile(rt, alloc, &mut source, "Gcd.bsv", "mkGcd")?;
+    Ok(compiled.schedule.execution.len())
+}
+
+/// A design of two methods and two rules is compiled.
+#[test]
+fn a_design_is_compiled(rt: HostRuntime) -> Result<(), Fail> {
+    one_building();
+    one_plan();
+    one_schedule();
+    match elements_compiled(&rt, rt.alloc()) {
+        Ok(count) => assert_eq!(rt; count, 4),
+        Err(_fault) => assert!(rt; false),
     }
     Ok(())
 }

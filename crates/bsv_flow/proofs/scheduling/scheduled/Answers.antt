@@ -1,6 +1,6 @@
 use Rattle.std.proofs.Common.{◌≡◌, ℕ, Err, sym, ap, ◌∙◌}
 use Rattle.std.proofs.lemmas.Result.{err_from_is_err_and}
-use Rattle.bsv_flow.proofs.ScheduledTrees.{fault_same, unexecuted, unurged, unasserted, scheduled_of}
+use Rattle.bsv_flow.proofs.ScheduledTrees.{fault_same, unexecuted, unurged, unasserted, scheduled_of, obeyed_of}
 use Rattle.bsv_flow.proofs.scheduling.scheduled.Goals as goal
 
 pub returns-in_err-execution-clause-refused : goal.returns-in_err-execution-clause-refused
@@ -32,5 +32,13 @@ returns-clause-scheduled g c =
     let made = c.in_ok-design.ensures in
     let orders = c.in_ok-schedule.ensures in
     scheduled_of _ c.in_ok-design.design made.alike made.parts made.kept c.in_ok-schedule.schedule
+    c.in_ok-execution.execution c.in_ok-urgency.urgency orders.execution orders.urgency
+    c.in_ok-execution.ensures.executes c.in_ok-urgency.ensures.urges orders.stops c.in_ok-asserted.ensures.accepted
+
+pub returns-clause-obeys : goal.returns-clause-obeys
+returns-clause-obeys g c =
+    let made = c.in_ok-design.ensures in
+    let orders = c.in_ok-schedule.ensures in
+    obeyed_of _ c.in_ok-design.design made.alike made.parts c.in_ok-schedule.schedule
     c.in_ok-execution.execution c.in_ok-urgency.urgency orders.execution orders.urgency
     c.in_ok-execution.ensures.executes c.in_ok-urgency.ensures.urges orders.stops c.in_ok-asserted.ensures.accepted
