@@ -11,7 +11,7 @@ use Rattle.bsv_top.specs.declared.machine.Machine.{Machine}
 use Rattle.bsv_top.specs.declared.status.Status.{Status}
 use Rattle.bsv_top.specs.declared.status.Status.TheVariants as status
 use Rattle.bsv_top.specs.Answers as a
-use Rattle.bsv_top.specs.Answers.{Answer, HasNoForm, sim_words, usage_line, not_yet_line, trace_fault_line}
+use Rattle.bsv_top.specs.Answers.{Answer, Asks, HasNoForm, schedule_words, sim_words, usage_line, not_yet_line, trace_fault_line}
 use Rattle.bsv_top.specs.Outcomes.{OutputBegun}
 use Rattle.bsv_top.specs.PlainPackages.{PlainLoaded, IsPlain}
 use Rattle.bsv_top.specs.Rules.{opening}
@@ -76,17 +76,19 @@ pub begun : (words : List (List ℕ)) (contents : List ℕ → List ℕ) (file t
 begun words contents file top trace spelled out out' prefix none =
     elim (decide file top contents) [
       | Decides.is m is_plain ↦ begun_plain words contents file top trace spelled m is_plain out out' (prefix m is_plain)
-      | Decides.refused r h ↦ begun_nothing words contents out out' status.Refused [] (refusal_line r) (a.Answer.refused r spelled h) (none (not_refused file top contents r h))
+      | Decides.refused r h ↦ begun_nothing words contents out out' status.Refused [] (refusal_line r) (a.Answer.refused r (Asks.sim trace spelled) h) (none (not_refused file top contents r h))
       | Decides.not_yet l loaded other ↦ begun_nothing words contents out out' status.Refused [] not_yet_line (a.Answer.not_yet l spelled loaded other) (none (not_other file top contents l loaded other))
     ]
 
 -- an answer to words without a form is how the program is called
 pub status_of_usage : (words : List (List ℕ)) (contents : List ℕ → List ℕ) (s : Status) (output text : List ℕ) → HasNoForm words → Answer words contents s output text → s ≡ status.Usage
 status_of_usage words contents s output text none (a.Answer.usage h) = refl
-status_of_usage words contents s output text none (a.Answer.refused r spelled h) = absurd (none _ _ _ spelled)
-status_of_usage words contents s output text none (a.Answer.not_yet l spelled loaded other) = absurd (none _ _ _ spelled)
-status_of_usage words contents s output text none (a.Answer.done m rows spelled is_plain h runs count) = absurd (none _ _ _ spelled)
-status_of_usage words contents s output text none (a.Answer.trace_fault m rows spelled is_plain h runs count) = absurd (none _ _ _ spelled)
+status_of_usage words contents s output text none (a.Answer.refused r asks h) = absurd (none _ _ asks)
+status_of_usage words contents s output text none (a.Answer.scheduled tree made spelled h) = absurd (none _ _ (Asks.schedule spelled))
+status_of_usage words contents s output text none (a.Answer.no_program l spelled loaded other) = absurd (none _ _ (Asks.schedule spelled))
+status_of_usage words contents s output text none (a.Answer.not_yet l spelled loaded other) = absurd (none _ _ (Asks.sim _ spelled))
+status_of_usage words contents s output text none (a.Answer.done m rows spelled is_plain h runs count) = absurd (none _ _ (Asks.sim _ spelled))
+status_of_usage words contents s output text none (a.Answer.trace_fault m rows spelled is_plain h runs count) = absurd (none _ _ (Asks.sim _ spelled))
 
 -- the words of a form tell its parts
 second_of : List (List ℕ) → List ℕ
@@ -112,6 +114,10 @@ pub same_parts : (file top trace file' top' trace' : List ℕ) → sim_words fil
 unfolding second_of third_of fourth_of
 same_parts file top trace file' top' trace' h = record { file_is = ap second_of h; top_is = ap third_of h; trace_is = ap fourth_of h }
 
+-- the words of a simulation ask for no schedule
+pub forms_apart : (file top trace name asked : List ℕ) → sim_words file top trace ≡ schedule_words name asked → ⊥
+forms_apart file top trace name asked e = cc
+
 -- words of a simulation name one trace
 pub same_trace : (words : List (List ℕ)) (file top trace file' top' trace' : List ℕ) → words ≡ sim_words file top trace → words ≡ sim_words file' top' trace' → trace ≡ trace'
 same_trace words file top trace file' top' trace' first second = (same_parts file' top' trace' file top trace (sym first ∙ second)).trace_is
@@ -129,11 +135,21 @@ decided_same words contents file top trace file' top' trace' s same h =
     (subst (λ (t : List ℕ). Decided words contents file t trace' s) same.top_is
     (subst (λ (f : List ℕ). Decided words contents f top' trace' s) same.file_is h))
 
+refused_asked : (words : List (List ℕ)) (contents : List ℕ → List ℕ) (file top trace f t : List ℕ) → words ≡ sim_words file top trace → Asks words f t → (r : Refusal)
+    → Rejects f contents t r → Decided words contents file top trace status.Refused
+refused_asked words contents file top trace f t spelled (Asks.sim q other) r h =
+    decided_same words contents file top trace f t q status.Refused (same_parts file top trace f t q (sym other ∙ spelled)) (refused r h)
+refused_asked words contents file top trace f t spelled (Asks.schedule other) r h = absurd (forms_apart file top trace f t (sym spelled ∙ other))
+
 -- an answer to them is decided so
 decided_of : (words : List (List ℕ)) (contents : List ℕ → List ℕ) (file top trace : List ℕ) (s : Status) (output text : List ℕ) → words ≡ sim_words file top trace → Answer words contents s output text → Decided words contents file top trace s
-decided_of words contents file top trace s output text spelled (a.Answer.usage none) = absurd (none file top trace spelled)
-decided_of words contents file top trace s output text spelled (a.Answer.refused {file = f} {top = t} {trace = r} refusal other h) =
-    decided_same words contents file top trace f t r status.Refused (same_parts file top trace f t r (sym other ∙ spelled)) (refused refusal h)
+decided_of words contents file top trace s output text spelled (a.Answer.usage none) = absurd (none file top (Asks.sim trace spelled))
+decided_of words contents file top trace s output text spelled (a.Answer.refused {file = f} {top = t} refusal asks h) =
+    refused_asked words contents file top trace f t spelled asks refusal h
+decided_of words contents file top trace s output text spelled (a.Answer.scheduled {file = f} {top = t} tree made other h) =
+    absurd (forms_apart file top trace f t (sym spelled ∙ other))
+decided_of words contents file top trace s output text spelled (a.Answer.no_program {file = f} {top = t} l other loaded none) =
+    absurd (forms_apart file top trace f t (sym spelled ∙ other))
 decided_of words contents file top trace s output text spelled (a.Answer.not_yet {file = f} {top = t} {trace = r} l other loaded none) =
     decided_same words contents file top trace f t r status.Refused (same_parts file top trace f t r (sym other ∙ spelled)) (not_yet l loaded none)
 decided_of words contents file top trace s output text spelled (a.Answer.done {file = f} {top = t} {trace = r} m rows other is_plain h runs count) =

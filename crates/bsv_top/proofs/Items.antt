@@ -3,6 +3,14 @@ use Rattle.std.proofs.Common.{◌≡◌, ℕ, Bool, true, false, not, List, [], 
 use Rattle.std.specs.Str.{bytes_eq}
 use Rattle.std.proofs.lemmas.Slice.Eq.{bytes_eq-Decides}
 
+-- a list of three has its items
+pub three_items : {A : Type 0} (xs : List A) (a b c : A) → length xs ≡ 3 → a ≡ get_or xs 0 a → b ≡ get_or xs 1 b → c ≡ get_or xs 2 c → xs ≡ a ∷ b ∷ c ∷ []
+three_items [] a b c len first second third = absurd (omega (arith, len))
+three_items (p ∷ []) a b c len first second third = absurd (omega (arith, len))
+three_items (p ∷ q ∷ []) a b c len first second third = absurd (omega (arith, len))
+three_items (p ∷ q ∷ r ∷ []) a b c len first second third = cc
+three_items (p ∷ q ∷ r ∷ s ∷ rest) a b c len first second third = absurd (omega (arith, len))
+
 -- a list of four has its items
 pub four_items : {A : Type 0} (xs : List A) (a b c d : A) → length xs ≡ 4 → a ≡ get_or xs 0 a → b ≡ get_or xs 1 b → c ≡ get_or xs 2 c → d ≡ get_or xs 3 d → xs ≡ a ∷ b ∷ c ∷ d ∷ []
 four_items [] a b c d len first second third fourth = absurd (omega (arith, len))

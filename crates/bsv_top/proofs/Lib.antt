@@ -1,6 +1,7 @@
 pub mod Answering
 pub mod Clocked
 pub mod Decided
+pub mod Scheduled
 pub mod Fired
 pub mod Fitting
 pub mod Following
@@ -10,6 +11,7 @@ pub mod OneAnswer
 pub mod OneRun
 pub mod PlainMachines
 pub mod Plains
+pub mod Printed
 pub mod Reading
 pub mod Reported
 pub mod Scanned

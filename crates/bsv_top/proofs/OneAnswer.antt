@@ -9,13 +9,14 @@ use Rattle.bsv_flow.proofs.Trees as trees
 use Rattle.bsv_top.specs.declared.machine.Machine.{Machine}
 use Rattle.bsv_top.specs.declared.status.Status.{Status}
 use Rattle.bsv_top.specs.Answers as a
-use Rattle.bsv_top.specs.Answers.{Answer, HasNoForm, sim_words, usage_line, not_yet_line, trace_fault_line}
+use Rattle.bsv_top.specs.Answers.{Answer, Asks, HasNoForm, schedule_words, sim_words, usage_line, not_yet_line, trace_fault_line}
 use Rattle.bsv_top.specs.Clocks.{Row, Runs}
 use Rattle.bsv_top.specs.OneAnswer.{IsSameText}
 use Rattle.bsv_top.specs.PlainPackages.{PlainLoaded, IsPlain}
 use Rattle.bsv_top.specs.Reports.{report}
 use Rattle.bsv_top.specs.Traces.{clocks_of, IsClean, HasBadLine}
 use Rattle.bsv_top.proofs.Decided.{SameParts, same_parts}
+use Rattle.bsv_top.proofs.Scheduled.{plan_output, plan_text}
 use Rattle.bsv_top.proofs.OneRun.{same_report}
 use Rattle.bsv_top.proofs.Plains.{plain_once, not_refused, not_other}
 
@@ -78,11 +79,18 @@ module _ (words : List (List ℕ)) (contents : List ℕ → List ℕ) where
   -- what an answer tells
   data Told (output text : List ℕ) : Type 0 where
     usage : HasNoForm words → output ≡ [] → text ≡ usage_line → Told output text
+    plan : (file top : List ℕ) → words ≡ schedule_words file top → Told output text
     form : (file top trace : List ℕ) → words ≡ sim_words file top trace → Tells contents file top trace output text → Told output text
+
+  refused_told : (file top : List ℕ) (r : Refusal) → Asks words file top → Rejects file contents top r → Told [] (refusal_line r)
+  refused_told file top r (Asks.schedule spelled) h = plan file top spelled
+  refused_told file top r (Asks.sim trace spelled) h = form file top trace spelled (Tells.refused r h refl refl)
 
   told : (s : Status) (output text : List ℕ) → Answer words contents s output text → Told output text
   told s output text (a.Answer.usage none) = usage none refl refl
-  told s output text (a.Answer.refused {file = file} {top = top} {trace = trace} r spelled h) = form file top trace spelled (Tells.refused r h refl refl)
+  told s output text (a.Answer.refused {file = file} {top = top} r asks h) = refused_told file top r asks h
+  told s output text (a.Answer.scheduled {file = file} {top = top} tree made spelled h) = plan file top spelled
+  told s output text (a.Answer.no_program {file = file} {top = top} l spelled loaded none) = plan file top spelled
   told s output text (a.Answer.not_yet {file = file} {top = top} {trace = trace} l spelled loaded other) = form file top trace spelled (Tells.not_yet l loaded other refl refl)
   told s output text (a.Answer.done {file = file} {top = top} {trace = trace} m rows spelled is_plain whole run count) =
       form file top trace spelled (Tells.runs m rows is_plain run count refl (EndText.clean whole refl))
@@ -94,22 +102,27 @@ module _ (words : List (List ℕ)) (contents : List ℕ → List ℕ) where
   told_at file top trace file' top' trace' output text spelled other h =
       tells_at contents file top trace file' top' trace' output text (same_parts file top trace file' top' trace' (sym other ∙ spelled)) h
 
-  told_output : (output more text said : List ℕ) → Told output text → Told more said → output ≡ more
-  told_output output more text said (usage none e f) (usage also d b) = e ∙ sym d
-  told_output output more text said (usage none e f) (form file top trace spelled h) = absurd (none file top trace spelled)
-  told_output output more text said (form file top trace spelled h) (usage none d b) = absurd (none file top trace spelled)
-  told_output output more text said (form file top trace spelled h) (form file' top' trace' other g) =
-      form_output contents file top trace output more text said h (told_at file top trace file' top' trace' more said spelled other g)
+  module _ (s s' : Status) (output text more said : List ℕ) (answer : Answer words contents s output text) (other : Answer words contents s' more said) where
+    told_output : Told output text → Told more said → output ≡ more
+    told_output (plan file top spelled) _ = plan_output words contents file top spelled s s' output more text said answer other
+    told_output _ (plan file top spelled) = plan_output words contents file top spelled s s' output more text said answer other
+    told_output (usage none e f) (usage also d b) = e ∙ sym d
+    told_output (usage none e f) (form file top trace spelled h) = absurd (none file top (Asks.sim trace spelled))
+    told_output (form file top trace spelled h) (usage none d b) = absurd (none file top (Asks.sim trace spelled))
+    told_output (form file top trace spelled h) (form file' top' trace' again g) =
+        form_output contents file top trace output more text said h (told_at file top trace file' top' trace' more said spelled again g)
 
-  told_text : (output more text said : List ℕ) → Told output text → Told more said → IsSameText text said
-  told_text output more text said (usage none e f) (usage also d b) = same_text text said (f ∙ sym b)
-  told_text output more text said (usage none e f) (form file top trace spelled h) = absurd (none file top trace spelled)
-  told_text output more text said (form file top trace spelled h) (usage none d b) = absurd (none file top trace spelled)
-  told_text output more text said (form file top trace spelled h) (form file' top' trace' other g) =
-      form_text contents file top trace output more text said h (told_at file top trace file' top' trace' more said spelled other g)
+    told_text : Told output text → Told more said → IsSameText text said
+    told_text (plan file top spelled) _ = plan_text words contents file top spelled s s' output more text said answer other
+    told_text _ (plan file top spelled) = plan_text words contents file top spelled s s' output more text said answer other
+    told_text (usage none e f) (usage also d b) = same_text text said (f ∙ sym b)
+    told_text (usage none e f) (form file top trace spelled h) = absurd (none file top (Asks.sim trace spelled))
+    told_text (form file top trace spelled h) (usage none d b) = absurd (none file top (Asks.sim trace spelled))
+    told_text (form file top trace spelled h) (form file' top' trace' again g) =
+        form_text contents file top trace output more text said h (told_at file top trace file' top' trace' more said spelled again g)
 
   pub one_output : (s s' : Status) (output text more said : List ℕ) → Answer words contents s output text → Answer words contents s' more said → output ≡ more
-  one_output s s' output text more said answer other = told_output output more text said (told s output text answer) (told s' more said other)
+  one_output s s' output text more said answer other = told_output s s' output text more said answer other (told s output text answer) (told s' more said other)
 
   pub one_text : (s s' : Status) (output text more said : List ℕ) → Answer words contents s output text → Answer words contents s' more said → IsSameText text said
-  one_text s s' output text more said answer other = told_text output more text said (told s output text answer) (told s' more said other)
+  one_text s s' output text more said answer other = told_text s s' output text more said answer other (told s output text answer) (told s' more said other)

@@ -15,7 +15,7 @@ use Rattle.bsv_top.specs.declared.machine.Machine.{Machine}
 use Rattle.bsv_top.specs.declared.status.Status.{Status}
 use Rattle.bsv_top.specs.declared.status.Status.TheVariants as status
 use Rattle.bsv_top.specs.Answers as a
-use Rattle.bsv_top.specs.Answers.{Answer, sim_words, not_yet_line, cannot_read_line, no_memory_line, trace_fault_line}
+use Rattle.bsv_top.specs.Answers.{Answer, Asks, sim_words, not_yet_line, cannot_read_line, no_memory_line, trace_fault_line}
 use Rattle.bsv_top.specs.Outcomes as o
 use Rattle.bsv_top.specs.Outcomes.{IsDecided, IsFault, Answered, FaultText, TextBegun, Unreadable}
 use Rattle.bsv_top.specs.PlainPackages.{PlainLoaded, IsPlain}
@@ -81,7 +81,7 @@ module _ (words : List (List ℕ)) (contents : List ℕ → List ℕ) (file top 
     pub stop_answered : (err err' : Writing) (s : Stop) → Known s → IsDecided (status_of s) → (IsQuiet (Err s) → out' ≡ out) → err' ≡ appended (text_of trace s) err → Answered words contents (status_of s) out out' err err'
     unfolding Known
     stop_answered err err' (stop.Refused r) known_here is quiet told =
-        record { output = []; text = refusal_line r; answer = a.Answer.refused r spelled known_here; put = quiet tt ∙ sym (appended-nil out); told = told }
+        record { output = []; text = refusal_line r; answer = a.Answer.refused r (Asks.sim trace spelled) known_here; put = quiet tt ∙ sym (appended-nil out); told = told }
     stop_answered err err' stop.NotYet (l, loaded, none) is quiet told =
         record { output = []; text = not_yet_line; answer = a.Answer.not_yet l spelled loaded none; put = quiet tt ∙ sym (appended-nil out); told = told }
     stop_answered err err' (stop.SourceUnread name) known_here is quiet told = absurd is
@@ -122,11 +122,11 @@ module _ (words : List (List ℕ)) (contents : List ℕ → List ℕ) (file top 
     pub stop_text : (err err' : Writing) (s : Stop) → Known s → AppendsPrefix (text_of trace s) err err' → TextBegun words contents err err'
     unfolding Known
     stop_text err err' (stop.Refused r) known_here prefix =
-        record { text = refusal_line r; fault_text = o.FaultText.of_answer [] (a.Answer.refused r spelled known_here); prefix = prefix }
+        record { text = refusal_line r; fault_text = o.FaultText.of_answer [] (a.Answer.refused r (Asks.sim trace spelled) known_here); prefix = prefix }
     stop_text err err' stop.NotYet (l, loaded, none) prefix =
         record { text = not_yet_line; fault_text = o.FaultText.of_answer [] (a.Answer.not_yet l spelled loaded none); prefix = prefix }
     stop_text err err' (stop.SourceUnread name) known_here prefix =
-        record { text = cannot_read_line name; fault_text = o.FaultText.of_source top trace spelled known_here; prefix = prefix }
+        record { text = cannot_read_line name; fault_text = o.FaultText.of_source top (Asks.sim trace spelled) known_here; prefix = prefix }
     stop_text err err' stop.TraceUnread known_here prefix =
         record { text = cannot_read_line trace; fault_text = o.FaultText.of_trace file top known_here.0 spelled known_here.1; prefix = prefix }
     stop_text err err' stop.Unwritable known_here prefix =
@@ -150,7 +150,7 @@ module _ (words : List (List ℕ)) (file top trace : List ℕ) (files files' : R
   stop_unreadable stop.NotYet e source unread quiet told = absurd (let no_value : ⊥ = cc in no_value)
   stop_unreadable (stop.SourceUnread name) e source unread quiet told =
       let h = source name refl in
-      o.Unreadable.source file top trace name spelled h.0 h.1 h.2 (quiet tt) told
+      o.Unreadable.source file top name (Asks.sim trace spelled) h.0 h.1 h.2 (quiet tt) told
   stop_unreadable stop.TraceUnread e source unread quiet told =
       let h = unread refl in
       o.Unreadable.trace file top trace spelled h.0 h.1 h.2 told

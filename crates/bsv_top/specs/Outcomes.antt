@@ -7,7 +7,7 @@ use Rattle.bsv_flow.specs.Loads.{Reaches}
 use Rattle.bsv_top.specs.declared.machine.Machine.{Machine}
 use Rattle.bsv_top.specs.declared.status.Status.{Status}
 use Rattle.bsv_top.specs.declared.status.Status.TheVariants as status
-use Rattle.bsv_top.specs.Answers.{Answer, sim_words, cannot_read_line, no_memory_line}
+use Rattle.bsv_top.specs.Answers.{Answer, Asks, sim_words, cannot_read_line, no_memory_line}
 use Rattle.bsv_top.specs.PlainPackages.{IsPlain}
 
 -- the statuses that the words and the contents decide
@@ -49,7 +49,7 @@ pub record OutputBegun (words : List (List ℕ)) (contents : List ℕ → List �
 -- the fault texts that a run may put: that of an answer, a name that the run may blame, or want of memory
 pub data FaultText (words : List (List ℕ)) (contents : List ℕ → List ℕ) : List ℕ → Type 0 where
   of_answer : {s : Status} (output : List ℕ) {text : List ℕ} → Answer words contents s output text → FaultText words contents text
-  of_source : {file name : List ℕ} (top trace : List ℕ) → words ≡ sim_words file top trace → Reaches file contents name → FaultText words contents (cannot_read_line name)
+  of_source : {file name : List ℕ} (top : List ℕ) → Asks words file top → Reaches file contents name → FaultText words contents (cannot_read_line name)
   of_trace : (file top : List ℕ) {trace : List ℕ} (m : Machine) → words ≡ sim_words file top trace → IsPlain file top contents m → FaultText words contents (cannot_read_line trace)
   of_memory : FaultText words contents no_memory_line
 
@@ -62,5 +62,5 @@ pub record TextBegun (words : List (List ℕ)) (contents : List ℕ → List ℕ
 -- a file could not be read: its name is the one that the last failed call was about, and it is told whole.
 -- It is a file that loading reaches, and then nothing is put to the output; or it is the trace of what is plain.
 pub data Unreadable (words : List (List ℕ)) (files files' : Reading) (out out' err err' : Writing) : Type 0 where
-  source : (file top trace name : List ℕ) → words ≡ sim_words file top trace → MayFault files.faults files'.faults → files'.blamed ≡ Some name → ((contents : List ℕ → List ℕ) → files.contents ≡ Some contents → Reaches file contents name) → out' ≡ out → err' ≡ appended (cannot_read_line name) err → Unreadable words files files' out out' err err'
+  source : (file top name : List ℕ) → Asks words file top → MayFault files.faults files'.faults → files'.blamed ≡ Some name → ((contents : List ℕ → List ℕ) → files.contents ≡ Some contents → Reaches file contents name) → out' ≡ out → err' ≡ appended (cannot_read_line name) err → Unreadable words files files' out out' err err'
   trace : (file top trace : List ℕ) → words ≡ sim_words file top trace → MayFault files.faults files'.faults → files'.blamed ≡ Some trace → ((contents : List ℕ → List ℕ) → files.contents ≡ Some contents → (m : Machine) × IsPlain file top contents m) → err' ≡ appended (cannot_read_line trace) err → Unreadable words files files' out out' err err'

@@ -15,6 +15,6 @@ machine_in top _ _ = None
 abbrev pub PlainLoaded : List ℕ → Loaded → Machine → Type 0
 PlainLoaded top l m = machine_in top l.sources l.packages ≡ Some m
 
--- the file is loaded as one package, which has a typing and a tree, and it is this machine
+-- the file is loaded as one package, which has a typing, a tree and a schedule, and it is this machine
 abbrev pub IsPlain : List ℕ → List ℕ → (List ℕ → List ℕ) → Machine → Type 0
 IsPlain file top contents m = (l : Loaded) × IsBuilt file contents top l × PlainLoaded top l m

@@ -9,7 +9,7 @@ use Rattle.bsv_top.specs.declared.status.Status.{Status}
 use Rattle.bsv_top.specs.declared.status.Status.TheVariants as status
 use Rattle.bsv_top.specs.Answers.{not_yet_line, cannot_read_line, no_memory_line, trace_fault_line}
 
--- why nothing was loaded
+-- why nothing was compiled
 abbrev pub stop_of : CompileFault → Stop
 stop_of (fault.Refused refusal) = stop.Refused refusal
 stop_of (fault.ReadFault name) = stop.SourceUnread name
@@ -36,6 +36,17 @@ IsOwn (Err stop.TraceUnread) = Unit {0}
 IsOwn (Err stop.Unwritable) = Unit {0}
 IsOwn (Err stop.OutOfMemory) = Unit {0}
 IsOwn (Err (stop.BadLine number)) = Unit {0}
+
+-- a schedule is printed, or why it is not; nothing of a run is among that
+abbrev pub IsOfSchedule : Result (Unit {0}) Stop → Type 0
+IsOfSchedule (Ok done) = Unit {0}
+IsOfSchedule (Err (stop.Refused refusal)) = Unit {0}
+IsOfSchedule (Err stop.NotYet) = ⊥
+IsOfSchedule (Err (stop.SourceUnread name)) = Unit {0}
+IsOfSchedule (Err stop.TraceUnread) = ⊥
+IsOfSchedule (Err stop.Unwritable) = Unit {0}
+IsOfSchedule (Err stop.OutOfMemory) = Unit {0}
+IsOfSchedule (Err (stop.BadLine number)) = ⊥
 
 -- the status of a stop
 abbrev pub status_of : Stop → Status

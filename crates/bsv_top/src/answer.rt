@@ -19,16 +19,17 @@ ghost use Rattle.bsv_top.specs.declared.answer.Stop.TheVariants as stop;
 ghost use Rattle.bsv_top.specs.declared.machine.Machine.{Machine as TheMachine};
 
 use crate::follow::run_trace;
-use crate::form::Form;
+use crate::form::Simulation;
 use crate::machine::Machine;
 use crate::plain::machine_of;
 use crate::report::write_opening;
 use crate::simulate::Halt;
 use crate::trace::Lines;
 use bsv_bits::{Name, OutOfMemory, Word};
-use bsv_flow::{CompileFault, Loaded, Refusal, flat, load, tree, typed};
+use bsv_flow::{CompileFault, Loaded, Refusal, compiled, load};
 use bsv_io::{Failed, Files, Sink};
 use std::alloc::{AllocError, Global};
+use std::thread::Threads;
 
 /// Why a run with words that have a form is not done.
 #[derive(Drop)]
@@ -194,8 +195,9 @@ fn simulate<F: Files, O: Sink>(
     report_clocks(files, machine, &mut state, &mut next, &mut buffer, out)
 }
 
-/// Loads the file and what it imports, where it has a typing, a tree and a design.
-fn load_built<F: Files>(
+/// Loads the file and what it imports, where it is compiled.
+fn load_built<R: Threads + Sync, F: Files>(
+    rt: &R,
     alloc: Global,
     files: &mut F,
     name: &str,
@@ -220,16 +222,15 @@ fn load_built<F: Files>(
         → (F.reading files.new).faults ≡ (F.reading files.old).faults }
 {
     let loaded = load(alloc, files, name)?;
-    let program = typed(alloc, &loaded)?;
-    let built = tree(alloc, program, top)?;
-    let _design = flat(alloc, &built)?;
+    let _compiled = compiled(rt, alloc, &loaded, top)?;
     Ok(loaded)
 }
 
-/// Loads the file and what it imports, types and builds it, and runs its machine over the trace.
-pub(crate) fn answer<F: Files, O: Sink>(
+/// Loads and compiles the file and what it imports, and runs its machine over the trace.
+pub(crate) fn answer<R: Threads + Sync, F: Files, O: Sink>(
+    rt: &R,
     alloc: Global,
-    form: Form<'_>,
+    form: Simulation<'_>,
     files: &mut F,
     out: &mut O,
 ) -> Result<(), Stop>
@@ -291,7 +292,7 @@ pub(crate) fn answer<F: Files, O: Sink>(
     ensures out_kept { (result ≡ Err Stop.Unwritable → ⊥)
         → (O.writing out.new).faults ≡ (O.writing out.old).faults }
 {
-    let loaded = load_built(alloc, files, form.file, form.top)?;
+    let loaded = load_built(rt, alloc, files, form.file, form.top)?;
     match machine_of(alloc, &loaded, form.top.as_bytes())? {
         None => Err(Stop::NotYet),
         Some(machine) => simulate(alloc, files, &machine, form.trace, out),

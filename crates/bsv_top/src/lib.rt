@@ -1,11 +1,11 @@
 //! The top call: all that the program does, over any source of files and any sinks.
 //!
-//! Modules in reading order: `status` (how a run ends), `form` (a command line), `machine` (what
-//! is run), `node` (what a node of a syntax tree says), `plain` (what was loaded to a machine),
-//! `trace` (which lines of a trace are clocks), `clock` (one clock of a machine), `report` (how a
-//! clock prints), `simulate` (a piece of a trace to clocks and their lines), `follow` (a file to the
-//! pieces of a trace), `answer` (a command line to the report, or why the run stops), `faults` (the
-//! fault texts), `program` (the call itself), `law` (that a run of a machine is one).
+//! Modules in reading order: `status` (how a run ends), `form` (a command line), `machine` (what is run),
+//! `node` (what a node of a syntax tree says), `plain` (what was loaded to a machine), `trace` (which lines of
+//! a trace are clocks), `clock` (one clock of a machine), `report` (how a clock prints), `simulate` (a piece of
+//! a trace to clocks and their lines), `follow` (a file to the pieces of a trace), `answer` (a command line to
+//! the report, or why the run stops), `planning` (a command line to the schedule), `faults` (the fault texts),
+//! `program` (the call itself), `law` (that a run of a machine is one).
 #![tactic(auto)]
 
 mod answer;
@@ -17,6 +17,7 @@ mod law;
 mod machine;
 mod node;
 mod plain;
+mod planning;
 mod program;
 mod report;
 mod simulate;

@@ -1,9 +1,15 @@
 ghost use Rattle.std.specs.Prelude.{◌≡◌, ℕ, ◌<◌, ◌≤◌, ◌⊎◌, List, [], Some, map, string_bytes};
 ghost use Rattle.bsv_io.specs.Faults.{MayFault};
 ghost use Rattle.bsv_io.specs.InMemory.{contents_of};
+ghost use Rattle.bsv_io.specs.Reading.{bytes_given};
 ghost use Rattle.bsv_io.specs.Sure.{NoFault};
 ghost use Rattle.bsv_io.specs.Writing.{appended, count_behind};
-ghost use Rattle.bsv_top.specs.Answers.{Answer, HasAnswer, HasNoForm, sim_words, no_memory_line};
+ghost use Rattle.bsv_top.specs.Answers.{Answer, HasAnswer, HasNoForm, schedule_words, sim_words};
+ghost use Rattle.bsv_top.specs.Answers.{no_memory_line, printed};
+ghost use Rattle.bsv_design.specs.Trees.{Hierarchy};
+ghost use Rattle.bsv_design.specs.declared.schedule.Schedule.{Schedule as TheSchedule};
+ghost use Rattle.bsv_flow.specs.Compilings.{IsPlanned};
+ghost use Rattle.bsv_flow.specs.Sources.{read_limit};
 ghost use Rattle.bsv_top.specs.OneAnswer.{IsSameText};
 ghost use Rattle.bsv_top.specs.Counts.{CountsAnswer};
 ghost use Rattle.bsv_top.specs.Outcomes.{Answered, IsDecided, IsFault, OutputBegun, TextBegun, Unreadable};
@@ -15,7 +21,8 @@ ghost use Rattle.bsv_top.specs.declared.status.Status.{Status as TheStatus};
 
 use crate::answer::answer;
 use crate::faults::{tell_stop, tell_usage};
-use crate::form::form_of;
+use crate::form::{planning_of, simulation_of};
+use crate::planning::plan;
 use crate::status::Status;
 use bsv_io::{Files, Sink, SureFiles, SureSink};
 use std::alloc::Global;
@@ -27,7 +34,7 @@ use std::thread::Threads;
 /// The clauses that begin with `contents` speak of a source of files that tells its contents.
 /// Want of memory may come at any point before the first byte is put to `out`.
 pub fn run<R: Threads + Sync, F: Files, O: Sink, E: Sink>(
-    _rt: &R,
+    rt: &R,
     alloc: Global,
     words: &[String],
     files: &mut F,
@@ -59,6 +66,10 @@ pub fn run<R: Threads + Sync, F: Files, O: Sink, E: Sink>(
 
     // No source is read on behind one byte more than it may have; where the trace was run, it was read
     // at most one piece behind its first bad line.
+    ensures sources_within { (file top : List ℕ)
+        → map string_bytes words.now ≡ schedule_words file top
+        → read_limit < bytes_given (F.reading files.new)
+        → (F.reading files.new).current ≡ (F.reading files.old).current }
     ensures within { (contents : List ℕ → List ℕ) → (F.reading files.old).contents ≡ Some contents
         → (file top trace : List ℕ) → map string_bytes words.now ≡ sim_words file top trace
         → ReadsWithin trace contents (F.reading files.old) (F.reading files.new) }
@@ -97,12 +108,18 @@ pub fn run<R: Threads + Sync, F: Files, O: Sink, E: Sink>(
         → Answer (map string_bytes words.now) contents status output text
         → result ≡ status ⊎ result ≡ Status.OutOfMemory }
 {
-    let Some(form) = form_of(words) else {
+    if let Some(form) = planning_of(words) {
+        return match plan(rt, alloc, form, files, out) {
+            Ok(()) => Status::Done,
+            Err(stop) => tell_stop(err, "", stop),
+        };
+    }
+    let Some(form) = simulation_of(words) else {
         return tell_usage(err);
     };
-    match answer(alloc, form, files, out) {
+    match answer(rt, alloc, form, files, out) {
         Ok(()) => Status::Done,
-        Err(stop) => tell_stop(err, form, stop),
+        Err(stop) => tell_stop(err, form.trace, stop),
     }
 }
 
@@ -128,8 +145,8 @@ pub fn run_surely<R: Threads + Sync>(
 }
 
 /// All words and contents have an answer, and it is one: one status, one output, and one fault text
-/// but for the place of a `Syntax`. Words with a form, a plain file and a trace without a bad line
-/// have an answer of status 0.
+/// but for the place of a `Syntax`. Words that ask for a schedule, and files that have one, have it as
+/// their answer; and words that ask for a run, a plain file and a trace without a bad line have a report.
 pub fn one_answer()
     ensures some { (words : List (List ℕ)) (contents : List ℕ → List ℕ) → HasAnswer words contents }
     ensures one_status { (words : List (List ℕ)) (contents : List ℕ → List ℕ)
@@ -144,6 +161,9 @@ pub fn one_answer()
         (status other : TheStatus) (output text more said : List ℕ)
         → Answer words contents status output text → Answer words contents other more said
         → IsSameText text said }
+    ensures planned { (contents : List ℕ → List ℕ) (file top : List ℕ)
+        (tree : Hierarchy) (made : TheSchedule) → IsPlanned file contents top tree made
+        → Answer (schedule_words file top) contents Status.Done (printed tree made) [] }
     ensures done { (contents : List ℕ → List ℕ) (file top trace : List ℕ) (m : TheMachine)
         → IsPlain file top contents m → IsClean (contents trace)
         → (output : List ℕ) × Answer (sim_words file top trace) contents Status.Done output [] }

@@ -1,4 +1,5 @@
 use Rattle.std.proofs.Common.{refl}
+use Rattle.bsv_top.specs.Answers as a
 use Rattle.bsv_top.specs.Answers.{sim_words}
 use Rattle.bsv_top.specs.Running.{report_so_far}
 use Rattle.bsv_top.specs.Traces.{clocks_of}
@@ -22,3 +23,6 @@ returns-clause-one_text c = one_text
 pub returns-clause-done : goal.returns-clause-done
 returns-clause-done c = λ contents file top trace m is_plain whole.
     (report_so_far m (clocks_of (contents trace)), done_answer (sim_words file top trace) contents file top trace refl m is_plain whole)
+
+pub returns-clause-planned : goal.returns-clause-planned
+returns-clause-planned c = λ contents file top tree made p. a.Answer.scheduled tree made refl p

@@ -1,8 +1,7 @@
 use Rattle.std.proofs.Common.{◌≡◌, map, string_bytes, codes, ap, ◌∙◌, arith}
 use Rattle.bsv_top.proofs.Items.{four_items, text_is}
-use Rattle.bsv_top.proofs.form.form_of.Goals as goal
+use Rattle.bsv_top.proofs.form.simulation_of.Goals as goal
 
--- src/form.rt:13:1
 pub returns-clause-form : goal.returns-clause-form
 returns-clause-form c =
     let same = four_items c.args.words.now c.command-item.result c.file-item.result c.top-item.result c.trace-item.result (omega (arith, c.in-len4.len_at_least, c.in-len4.len_below)) c.command-item.is c.file-item.is c.top-item.is c.trace-item.is in
