@@ -31,6 +31,13 @@ fn has_line(answer: &Answer, line: &str) -> bool {
         && answer.err.bytes() == line.as_bytes()
 }
 
+/// Whether an answer is this schedule.
+fn is_plan(answer: &Answer, plan: &str) -> bool {
+    answer.status == Status::Done
+        && answer.out.bytes() == plan.as_bytes()
+        && answer.err.bytes().is_empty()
+}
+
 /// Whether an answer is just this.
 fn is_whole<R: Files + AllocGlobal>(rt: &R, answer: &Answer, whole: &Whole) -> Result<bool> {
     let out = bytes_of(rt, &whole.out)?;
@@ -51,6 +58,7 @@ pub(crate) fn agrees<R: Files + AllocGlobal>(rt: &R, answer: &Answer, want: &Wan
             Ok(answer.status == Status::Refused && refused_kind(answer) == Some(*kind))
         }
         Want::Line(line) => Ok(has_line(answer, line.as_str())),
+        Want::Plan(plan) => Ok(is_plan(answer, plan.as_str())),
         Want::Whole(whole) => is_whole(rt, answer, whole),
     }
 }

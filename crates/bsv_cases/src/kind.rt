@@ -20,10 +20,17 @@ pub(crate) enum Kind {
     NameTaken,
     NoSuchRule,
     InRule,
+    WireCycle,
+    ValueClash,
+    ExecutionCycle,
+    UrgencyCycle,
+    MethodBehindRule,
+    NoImplicit,
+    FireWhenEnabled,
     NotYet,
 }
 
-const KINDS: [Kind; 20] = [
+const KINDS: [Kind; 27] = [
     Kind::Limit,
     Kind::BadByte,
     Kind::OpenComment,
@@ -43,6 +50,13 @@ const KINDS: [Kind; 20] = [
     Kind::NameTaken,
     Kind::NoSuchRule,
     Kind::InRule,
+    Kind::WireCycle,
+    Kind::ValueClash,
+    Kind::ExecutionCycle,
+    Kind::UrgencyCycle,
+    Kind::MethodBehindRule,
+    Kind::NoImplicit,
+    Kind::FireWhenEnabled,
     Kind::NotYet,
 ];
 
@@ -69,6 +83,13 @@ impl Kind {
             Kind::NameTaken => "NameTaken",
             Kind::NoSuchRule => "NoSuchRule",
             Kind::InRule => "InRule",
+            Kind::WireCycle => "WireCycle",
+            Kind::ValueClash => "ValueClash",
+            Kind::ExecutionCycle => "ExecutionCycle",
+            Kind::UrgencyCycle => "UrgencyCycle",
+            Kind::MethodBehindRule => "MethodBehindRule",
+            Kind::NoImplicit => "NoImplicit",
+            Kind::FireWhenEnabled => "FireWhenEnabled",
             Kind::NotYet => "NotYet",
         }
     }
@@ -95,6 +116,13 @@ impl Kind {
             Kind::NameTaken => 16,
             Kind::NoSuchRule => 26,
             Kind::InRule => 18,
+            Kind::WireCycle => 21,
+            Kind::ValueClash => 22,
+            Kind::ExecutionCycle => 23,
+            Kind::UrgencyCycle => 24,
+            Kind::MethodBehindRule => 25,
+            Kind::NoImplicit => 20,
+            Kind::FireWhenEnabled => 19,
             Kind::NotYet => 0,
         }
     }

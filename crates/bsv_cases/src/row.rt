@@ -99,7 +99,7 @@ impl Row {
     }
 
     /// The case that the row is: its text in the inner frame, and that in the outer one, is
-    /// `T.bsv`, and the trace has no line.
+    /// `T.bsv`, and the trace, where there is one, has no line.
     pub(crate) fn finished(
         self,
         alloc: Global,
@@ -122,7 +122,7 @@ impl Row {
         source.push_str(outer.back.as_str())?;
         Ok(Case {
             line,
-            words: words_of(alloc, "sim T.bsv mkT t")?,
+            words: words_of(alloc, want.words())?,
             files: row_files(alloc, source)?,
             want,
         })

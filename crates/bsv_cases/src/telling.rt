@@ -71,6 +71,7 @@ pub(crate) fn tell<R: Files + AllocGlobal + Print>(
             let line = line.as_str().trim_end();
             println!(rt; "  wanted {line:?}")?
         }
+        Want::Plan(plan) => tell_text(rt, "out", answer.out.bytes(), plan.as_bytes())?,
         Want::Whole(whole) => tell_whole(rt, answer, whole)?,
     }
     Ok(())

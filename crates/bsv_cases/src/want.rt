@@ -30,6 +30,8 @@ pub(crate) enum Want {
     Refused(Kind),
     /// This line, of a refusal.
     Line(String),
+    /// This schedule.
+    Plan(String),
     /// Just this.
     Whole(Whole),
 }
@@ -49,6 +51,34 @@ fn line_of(alloc: Global, kind: Kind, place: &str) -> Result<String, AllocError>
     }
 }
 
+/// The text of a schedule: the names of both orders, and of what stops what, with a stroke between each two.
+fn plan_of(alloc: Global, text: &str) -> Result<String, AllocError> {
+    let mut made = String::new(alloc);
+    for (at, names) in text.split('/').enumerate() {
+        made.push_str(match at {
+            0 => "execution",
+            1 => "urgency",
+            _ => "stops",
+        })?;
+        for name in names.split_whitespace() {
+            made.push(' ')?;
+            made.push_str(name)?;
+        }
+        made.push('\n')?;
+    }
+    Ok(made)
+}
+
+impl Want {
+    /// The words of a row that wants this.
+    pub(crate) fn words(&self) -> &'static str {
+        match self {
+            Want::Plan(_) => "schedule T.bsv mkT",
+            _ => "sim T.bsv mkT t",
+        }
+    }
+}
+
 /// What is wanted by these words, or none where they say nothing.
 pub(crate) fn want_of(alloc: Global, text: &str) -> Result<Option<Want>, AllocError> {
     if text == "typed" {
@@ -62,6 +92,9 @@ pub(crate) fn want_of(alloc: Global, text: &str) -> Result<Option<Want>, AllocEr
     };
     if word == "past" {
         return Ok(Kind::named(rest).map(Want::Past));
+    }
+    if word == "plan" {
+        return Ok(Some(Want::Plan(plan_of(alloc, rest)?)));
     }
     match Kind::named(word) {
         None => Ok(None),
