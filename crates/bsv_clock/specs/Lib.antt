@@ -1,0 +1,10 @@
+pub mod Looks
+pub mod Clocks
+pub mod Grounds
+pub mod Steadiness
+pub mod Settling
+pub mod Feeding
+pub mod Values
+pub mod Events
+pub mod Runs
+pub mod Attributes
