@@ -4,3 +4,6 @@ pub mod Sight
 pub mod Settle
 pub mod Serially
 pub mod Turns
+pub mod SettledIsClock
+pub mod ClockIsSettled
+pub mod Clocks

@@ -1,0 +1,59 @@
+-- From each state that fits, with requests that fit, there is exactly one clock.
+use Rattle.std.proofs.Common.{◌≡◌, ◌∙◌, ℕ, Bool, List, is_some, sym, ap}
+use Rattle.bsv_prim.specs.declared.part.Part.{Part}
+use Rattle.bsv_design.specs.declared.schedule.Schedule.{Schedule}
+use Rattle.bsv_design.specs.Schemes.{Scheme, Asking, Called}
+use Rattle.bsv_design.specs.States.{emptied, after_calls}
+use Rattle.bsv_clock.specs.Clocks.{IsClock}
+use Rattle.bsv_clock.specs.Grounds.{BelongTogether}
+use Rattle.bsv_clock.specs.Looks.{calls_in_turn}
+use Rattle.bsv_clock.specs.Settling.{Doing, deed, deeds, fires, the_clock, fired_in, end_of}
+use Rattle.bsv_clock.specs.Steadiness.{IsSteady}
+use Rattle.bsv_clock.proofs.ClockIsSettled.{doing, clock_settled, fired_is, after_is}
+use Rattle.bsv_clock.proofs.Members.{filter_same}
+use Rattle.bsv_clock.proofs.Settle.{settled_one, clock_settles}
+use Rattle.bsv_clock.proofs.SettledIsClock.{settled_clock, calls_are_deeds}
+use Rattle.bsv_clock.proofs.Sight.{deeds_same}
+
+module _ (g : Bool) (S : Scheme) (made : Schedule) (q : Asking) (s : List Part) (together : BelongTogether S made q s) (steady : IsSteady g S) where
+  abbrev clock : Doing
+  clock = the_clock g S made q s
+
+  pub some_clock : IsClock g S made q s (fired_in made clock) (end_of S made s clock)
+  some_clock =
+      settled_clock g S made q s clock (clock_settles g S made together.lawful together.schedule q s)
+      together.lawful together.schedule together.fit steady
+
+  -- the calls that it makes, one element after the other, are those of what each does
+  pub clock_calls : calls_in_turn S q (emptied S.kinds s) (fired_in made clock) ≡ deeds clock made.execution
+  clock_calls =
+      calls_are_deeds g S made q s clock (clock_settles g S made together.lawful together.schedule q s)
+      together.lawful together.schedule together.fit steady
+
+  module _ (fired : List ℕ) (after : List Part) (is : IsClock g S made q s fired after) where
+    abbrev found : Doing
+    found = doing g S made q s fired after together.lawful together.schedule together.fit steady is
+
+    same_doing : (n : ℕ) → found n ≡ clock n
+    same_doing =
+        settled_one g S made together.lawful together.schedule q s found clock
+        (clock_settled g S made q s fired after together.lawful together.schedule together.fit steady is)
+        (clock_settles g S made together.lawful together.schedule q s)
+
+    pub only_fired : fired ≡ fired_in made clock
+    unfolding fired_in
+    only_fired =
+        fired_is g S made q s fired after together.lawful together.schedule together.fit steady is
+        ∙ filter_same (fires found) (fires clock) made.execution (λ n i. ap is_some (same_doing n))
+
+    pub only_after : after ≡ end_of S made s clock
+    unfolding end_of
+    only_after =
+        after_is g S made q s fired after together.lawful together.schedule together.fit steady is
+        ∙ ap (after_calls S.kinds (emptied S.kinds s)) (deeds_same found clock made.execution (λ n i. ap deed (same_doing n)))
+
+  pub one_fired : (fired others : List ℕ) (after end : List Part) → IsClock g S made q s fired after → IsClock g S made q s others end → fired ≡ others
+  one_fired fired others after end c d = only_fired fired after c ∙ sym (only_fired others end d)
+
+  pub one_after : (fired others : List ℕ) (after end : List Part) → IsClock g S made q s fired after → IsClock g S made q s others end → after ≡ end
+  one_after fired others after end c d = only_after fired after c ∙ sym (only_after others end d)
