@@ -7,3 +7,5 @@ pub mod Turns
 pub mod SettledIsClock
 pub mod ClockIsSettled
 pub mod Clocks
+pub mod Quiet
+pub mod Asked
