@@ -9,3 +9,5 @@ pub mod ClockIsSettled
 pub mod Clocks
 pub mod Quiet
 pub mod Asked
+pub mod OneRun
+pub mod HappenAlike
