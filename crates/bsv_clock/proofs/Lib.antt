@@ -1,1 +1,6 @@
-
+pub mod Propositions
+pub mod Belonging
+pub mod Sites
+pub mod CallLists
+pub mod InTurn
+pub mod Steadily
