@@ -4,3 +4,4 @@ pub mod Sites
 pub mod CallLists
 pub mod InTurn
 pub mod Steadily
+pub mod Given

@@ -40,7 +40,7 @@ part_fits (k ∷ ks) (p ∷ ps) h zero kind e = let same : k ≡ kind = cc in su
 part_fits (k ∷ ks) (p ∷ ps) h (suc i) kind e = part_fits ks ps h.1 i kind e
 
 module _ (S : Scheme) (ok : IsLawful S) (g : Bool) (q : Asking) (requests : (n : ℕ) → RequestFits S q n) where
-  abbrev fits : FittingLaws S
+  abbrev pub fits : FittingLaws S
   fits = fitting_keeps S ok.sound ok.fitting
 
   -- the part at which a method looks behind a run
