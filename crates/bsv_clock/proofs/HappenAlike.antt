@@ -1,18 +1,16 @@
 -- In schemes that do the same, the same happens.
 use Rattle.std.proofs.Common.{◌≡◌, ◌∙◌, ℕ, ◌⊎◌, inl, inr, Bool, not, ◌&&◌, List, [], ◌∷◌, ◌++◌, length, Option, refl, sym, ap, ap₂, subst}
 use Rattle.std.specs.Prelude.{filter, slice_get}
-use Rattle.std.specs.List.{AllByRecursion, list_any}
+use Rattle.std.specs.List.{AllByRecursion}
 use Rattle.bsv_bits.specs.Words.{Bits}
 use Rattle.bsv_prim.specs.declared.part.Part.{Part}
 use Rattle.bsv_design.specs.declared.fired.Fired.{Fired}
 use Rattle.bsv_design.specs.declared.kind.Kind.{Kind}
 use Rattle.bsv_design.specs.declared.schedule.Schedule.{Schedule}
-use Rattle.bsv_design.specs.declared.tree.Pair.{Pair}
 use Rattle.bsv_design.specs.Schemes.{Scheme, Outline, Asking, Called, Look, AreAlike, ready, calls, value}
 use Rattle.bsv_design.specs.Serial.{Serial, by_rank, made, run_whole}
 use Rattle.bsv_design.specs.States.{emptied, plain}
 use Rattle.bsv_graph.specs.Edges.{numbers_below}
-use Rattle.bsv_graph.specs.Elements.{relating, preempts}
 use Rattle.bsv_graph.specs.Orders.{In}
 use Rattle.bsv_graph.specs.Relating.{Relating}
 use Rattle.bsv_graph.specs.Stops.{Stops}
@@ -22,24 +20,15 @@ use Rattle.bsv_attr.specs.Obeying.{StopsIn}
 use Rattle.bsv_clock.specs.Clocks.{IsClock, is_in, is_asked, may_fire, may_fire_as, is_candidate}
 use Rattle.bsv_clock.specs.Events.{IsFirstStopper, Happens, stopped_in, blocked_in, gives, results_in_turn}
 use Rattle.bsv_clock.specs.Looks.{look_after, calls_in_turn, clock_look}
+use Rattle.bsv_clock.proofs.Belonging.{relating_alike}
 use Rattle.bsv_clock.proofs.Members.{filter_same}
-
--- ---- stops
-
-stops_as : (P Q : Relating) (x u : List ℕ) (a b : ℕ) → ((m n : ℕ) → P.goes m n ≡ Q.goes m n) → P.preempts a b ≡ Q.preempts a b → Stops P x u a b → Stops Q x u a b
-stops_as P Q x u a b go pre (inl (h, inl k)) = inl (h, inl (k.0, sym (go a b) ∙ k.1))
-stops_as P Q x u a b go pre (inl (h, inr k)) = inl (h, inr (k.0, sym (go b a) ∙ k.1))
-stops_as P Q x u a b go pre (inr h) = inr (sym pre ∙ h)
 
 module _ (S T : Scheme) (al : AreAlike S T) where
   same : DoTheSame S T
   same = alike S T al
 
-  stops_to : (s : Schedule) (a b : ℕ) → StopsIn S s a b → StopsIn T s a b
-  unfolding relating
-  stops_to s a b h =
-      stops_as (relating S) (relating T) s.execution s.urgency a b same.goes_same
-      (ap (λ (ps : List Pair). list_any (preempts a b) ps) al.pairs) h
+  stops_to : (made : Schedule) (a b : ℕ) → StopsIn S made a b → StopsIn T made a b
+  stops_to made a b h = subst (λ (r : Relating). Stops r made.execution made.urgency a b) (relating_alike S T al) h
 
   -- ---- looks
 

@@ -1,3 +1,10 @@
+pub mod Propositions
+pub mod Belonging
+pub mod Sites
+pub mod CallLists
+pub mod InTurn
+pub mod Steadily
+pub mod Given
 pub mod Members
 pub mod Stopping
 pub mod Sight

@@ -1,7 +1,6 @@
 -- Value methods stop nothing, and nothing stops them.
 use Rattle.std.proofs.Common.{◌≡◌, ◌∙◌, ℕ, zero, suc, ◌<◌, ◌⊎◌, inl, inr, Bool, true, false, not, ◌&&◌, ◌||◌, List, [], ◌∷◌, map, length, Option, Some, None, refl, sym, ap, ap₂, subst, arith}
 use Rattle.std.specs.Prelude.{if◌then◌else◌, slice_get, option_map, nat_lt, ◌==◌}
-use Rattle.std.specs.List.{list_any}
 use Rattle.std.proofs.lemmas.Bool.{and_parts, and_from, or_cases, or_left, or_right, both_ways, cases_Bool, false_from_ne_true, true_from_ne_false, eqb-true, lt-ltb, not_from_false}
 use Rattle.std.proofs.lemmas.Option.{slice_get-map, slice_get_within, same_Some}
 use Rattle.bsv_prim.specs.Table.{goes_before}
@@ -9,14 +8,13 @@ use Rattle.bsv_design.specs.declared.element.Role.{Role}
 use Rattle.bsv_design.specs.declared.element.Role.TheVariants as role
 use Rattle.bsv_design.specs.declared.kind.Kind.{Kind}
 use Rattle.bsv_design.specs.declared.schedule.Schedule.{Schedule}
-use Rattle.bsv_design.specs.declared.tree.Pair.{Pair}
 use Rattle.bsv_design.specs.Bodies.{Target}
 use Rattle.bsv_design.specs.Kinds.{kind_table, kind_laws}
 use Rattle.bsv_design.specs.Relations.{goes, for_all, may_precede, may_precede_of, no_answers}
-use Rattle.bsv_design.specs.Roles.{is_value}
+use Rattle.bsv_design.specs.Roles.{is_rule, is_value}
 use Rattle.bsv_design.specs.Schemes.{Scheme, Outline, filled, ports_of}
 use Rattle.bsv_design.specs.Traces.{Site, acts, kind_at}
-use Rattle.bsv_graph.specs.Elements.{relating, has_role, is_preempting, preempts}
+use Rattle.bsv_graph.specs.Elements.{relating, has_role}
 use Rattle.bsv_graph.specs.Orders.{In, IsOrderOf, StandsBefore}
 use Rattle.bsv_graph.specs.Relating.{Relating, value_edges, early_edges, hard_edges, feed_edges, is_value_edge, is_one_value, goes_only, value_of}
 use Rattle.bsv_graph.specs.Stops.{Stops, Clash}
@@ -29,7 +27,7 @@ use Rattle.bsv_guard.specs.Sound.{IsSound}
 use Rattle.bsv_guard.proofs.Given.{length-filled}
 use Rattle.bsv_guard.proofs.Lists.{item_of}
 use Rattle.bsv_attr.specs.Obeying.{StopsIn}
-use Rattle.bsv_clock.specs.Grounds.{IsScheduleOf, IsRule, PairsNameRules}
+use Rattle.bsv_clock.specs.Grounds.{IsScheduleOf}
 use Rattle.bsv_clock.specs.Settling.{stops_in}
 use Rattle.bsv_clock.specs.Values.{IsValueMethod, AreQuiet}
 use Rattle.bsv_clock.proofs.Stopping.{execution_order, stops_true, stops_within}
@@ -55,18 +53,13 @@ value_method S v h = of (slice_get S.elements v) refl (sym (ap (has_role is_valu
     of None e k = absurd (let n : ⊥ = cc in n)
     of (Some o) e k = (o, e, value_role o.role k)
 
-no_rule : (S : Scheme) (v : ℕ) → IsValueMethod S v → IsRule S v → ⊥
-no_rule S v h k =
-    let same : h.0 ≡ k.0 = same_Some h.0 k.0 (sym h.1 ∙ k.1) in
-    let roles : role.Value ≡ role.Rule = sym h.2 ∙ (ap (λ (o : Outline). o.role) same ∙ k.2) in
-    cc
-
-some_pair : (t : Pair → Bool) (ps : List Pair) → list_any t ps ≡ true → (k : ℕ) × ((p : Pair) × ((slice_get ps k ≡ Some p) × (t p ≡ true)))
-some_pair t [] h = absurd (let n : ⊥ = cc in n)
-some_pair t (p ∷ ps) h = elim (or_cases (t p) (list_any t ps) h) [
-  | inl e ↦ (zero, (p, (refl, e)))
-  | inr k ↦ let r = some_pair t ps k in (suc r.0, r.1)
-]
+no_rule : (S : Scheme) (n : ℕ) → (relating S).value n ≡ true → (relating S).rule n ≡ true → ⊥
+unfolding relating
+no_rule S n h k = of (slice_get (map (λ (o : Outline). o.role) S.elements) n) h k
+  where
+    of : (o : Option Role) → has_role is_value o ≡ true → has_role is_rule o ≡ true → ⊥
+    of (Some role.Rule) u v = let n : ⊥ = cc in n
+    of _ u v = let n : ⊥ = cc in n
 
 -- ---- value methods go before each other
 
@@ -172,17 +165,8 @@ module _ (S : Scheme) (made : Schedule) (sound : IsSound S) (scheduled : IsSched
   one_is a b (inr h) = or_right (r.value a) (r.value b) (is_a_value S b h)
 
   no_pair : (a b : ℕ) → IsValueMethod S a ⊎ IsValueMethod S b → r.preempts a b ≡ true → ⊥
-  unfolding relating
-  no_pair a b some h =
-      let p = some_pair (preempts a b) S.pairs h in
-      let both = and_parts (is_preempting p.1.0.attribute && (p.1.0.before == a)) (p.1.0.after == b) p.1.1.1 in
-      let first = eqb-true p.1.0.before a (and_parts (is_preempting p.1.0.attribute) (p.1.0.before == a) both.0).1 in
-      let second = eqb-true p.1.0.after b both.1 in
-      let rules = scheduled.named p.0 p.1.0 p.1.1.0 in
-      elim some [
-        | inl v ↦ no_rule S a v (subst (IsRule S) first rules.0)
-        | inr v ↦ no_rule S b v (subst (IsRule S) second rules.1)
-      ]
+  no_pair a b (inl v) h = no_rule S a (is_a_value S a v) (scheduled.named a b h).0
+  no_pair a b (inr v) h = no_rule S b (is_a_value S b v) (scheduled.named a b h).1
 
   no_stop : (a b : ℕ) → IsValueMethod S a ⊎ IsValueMethod S b → ¬ StopsIn S made a b
   no_stop a b some (inl h) = no_clash a b (one_is a b some) h.1

@@ -10,17 +10,14 @@ use Rattle.bsv_graph.specs.Orders.{In}
 use Rattle.bsv_graph.proofs.LeastLemmas.{in_parts}
 use Rattle.bsv_clock.specs.Looks.{calls_in_turn}
 use Rattle.bsv_clock.specs.Steadiness.{AllGo, GoInOrder}
+use Rattle.bsv_clock.proofs.CallLists.{after_calls-append}
 use Rattle.bsv_clock.proofs.Members.{find_again, found_again}
-
-pub after_append : (ks : List Kind) (ps : List Part) (cs ds : List Called) → after_calls ks ps (cs ++ ds) ≡ after_calls ks (after_calls ks ps cs) ds
-after_append ks ps [] ds = refl
-after_append ks ps (c ∷ cs) ds = after_append ks (after_call ks ps c) cs ds
 
 module _ (S : Scheme) (q : Asking) where
   -- what elements that are run one after the other leave
   pub behind_turns : (ps : List Part) (n : ℕ) (ns : List ℕ) → after_calls S.kinds ps (calls_in_turn S q ps (n ∷ ns)) ≡ after_calls S.kinds (run_whole S q n ps) (calls_in_turn S q (run_whole S q n ps) ns)
   unfolding run_whole
-  behind_turns ps n ns = after_append S.kinds ps (made S q n ps) (calls_in_turn S q (run_whole S q n ps) ns)
+  behind_turns ps n ns = after_calls-append S.kinds ps (made S q n ps) (calls_in_turn S q (run_whole S q n ps) ns)
 
   pub turns_append : (ps : List Part) (ms ns : List ℕ) → calls_in_turn S q ps (ms ++ ns) ≡ calls_in_turn S q ps ms ++ calls_in_turn S q (after_calls S.kinds ps (calls_in_turn S q ps ms)) ns
   turns_append ps [] ns = refl

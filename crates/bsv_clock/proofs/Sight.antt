@@ -4,7 +4,6 @@ use Rattle.std.specs.Prelude.{filter, slice_get}
 use Rattle.std.specs.List.{AllByRecursion, flat_map}
 use Rattle.std.proofs.lemmas.Bool.{both_ways, false_from_ne_true, or_left, or_right}
 use Rattle.std.proofs.lemmas.Grind.{flat_map-append}
-use Rattle.std.proofs.lemmas.List.Elements.{filter-append}
 use Rattle.std.proofs.lemmas.Option.{same_Some}
 use Rattle.bsv_prim.specs.declared.part.Part.{Part}
 use Rattle.bsv_design.specs.declared.kind.Kind.{Kind}
@@ -18,12 +17,9 @@ use Rattle.bsv_guard.specs.ElementLaws.{ElementLaws, IsUse}
 use Rattle.bsv_guard.proofs.Ranks.{all_by_rank}
 use Rattle.bsv_clock.specs.Looks.{seen_by, look_after, calls_in_turn}
 use Rattle.bsv_clock.specs.Settling.{Doing, DoesWithin, deed, deeds}
+use Rattle.bsv_clock.proofs.CallLists.{all_from, seen_by-append}
 
 -- ---- lists of calls
-
-pub all_from : {A : Type 0} (P : A → Type 0) (xs : List A) → ((k : ℕ) (x : A) → slice_get xs k ≡ Some x → P x) → AllByRecursion P xs
-all_from P [] h = tt
-all_from P (x ∷ xs) h = (h zero x refl, all_from P xs (λ k y e. h (suc k) y e))
 
 pub deeds_append : (D : Doing) (ms ns : List ℕ) → deeds D (ms ++ ns) ≡ deeds D ms ++ deeds D ns
 unfolding deeds
@@ -34,10 +30,6 @@ unfolding deeds
 deeds_same D E [] h = refl
 deeds_same D E (n ∷ ns) h = ap₂ (λ (cs ds : List Called). cs ++ ds) (h n (inl refl)) (deeds_same D E ns (λ m i. h m (inr i)))
 
-pub seen_append : (ks : List Kind) (t : Target) (cs ds : List Called) → seen_by ks t (cs ++ ds) ≡ seen_by ks t cs ++ seen_by ks t ds
-unfolding seen_by
-seen_append ks t cs ds = filter-append (λ c. is_seen ks c.target t) cs ds
-
 -- a look rests on what is seen
 pub look_same : (ks : List Kind) (ps : List Part) (t : Target) (cs ds : List Called) → seen_by ks t cs ≡ seen_by ks t ds → look_after ks ps cs t ≡ look_after ks ps ds t
 unfolding look_after
@@ -47,7 +39,7 @@ look_same ks ps t cs ds h = ap (λ (es : List Called). part_at (after_calls ks p
 pub look_cut : (ks : List Kind) (ps : List Part) (t : Target) (cs ds : List Called) → seen_by ks t ds ≡ [] → look_after ks ps (cs ++ ds) t ≡ look_after ks ps cs t
 look_cut ks ps t cs ds h =
     look_same ks ps t (cs ++ ds) cs
-    (seen_append ks t cs ds ∙ (ap (λ (es : List Called). seen_by ks t cs ++ es) h ∙ append-nil (seen_by ks t cs)))
+    (seen_by-append ks t cs ds ∙ (ap (λ (es : List Called). seen_by ks t cs ++ es) h ∙ append-nil (seen_by ks t cs)))
 
 -- ---- calls of methods that an element uses
 
@@ -87,7 +79,7 @@ module _ (S : Scheme) (n : ℕ) (t : Target) (use_ : IsUse S n t) where
   unfolding deeds seen_by
   blind_deeds D within [] none = refl
   blind_deeds D within (f ∷ fs) none =
-      seen_append S.kinds t (deed (D f)) (deeds D fs)
+      seen_by-append S.kinds t (deed (D f)) (deeds D fs)
       ∙ ap₂ (λ (cs ds : List Called). cs ++ ds)
       (blind f (none f (inl refl)) (deed (D f)) (does_uses S D within f))
       (blind_deeds D within fs (λ g i. none g (inr i)))
@@ -96,7 +88,7 @@ module _ (S : Scheme) (n : ℕ) (t : Target) (use_ : IsUse S n t) where
   unfolding seen_by
   blind_turns laws q ps [] none = refl
   blind_turns laws q ps (f ∷ fs) none =
-      seen_append S.kinds t (made S q f ps) (calls_in_turn S q (run_whole S q f ps) fs)
+      seen_by-append S.kinds t (made S q f ps) (calls_in_turn S q (run_whole S q f ps) fs)
       ∙ ap₂ (λ (cs ds : List Called). cs ++ ds)
       (blind f (none f (inl refl)) (made S q f ps) (ranked_uses S laws q f (plain ps)))
       (blind_turns laws q (run_whole S q f ps) fs (λ g i. none g (inr i)))
@@ -106,9 +98,9 @@ module _ (S : Scheme) (n : ℕ) (t : Target) (use_ : IsUse S n t) where
   unfolding deeds
   same_sight D E d e [] same = refl
   same_sight D E d e (f ∷ fs) same =
-      seen_append S.kinds t (deed (D f)) (deeds D fs)
+      seen_by-append S.kinds t (deed (D f)) (deeds D fs)
       ∙ ap₂ (λ (cs ds : List Called). cs ++ ds) (one (feeds S f n) refl) (same_sight D E d e fs (λ g i. same g (inr i)))
-      ∙ sym (seen_append S.kinds t (deed (E f)) (deeds E fs))
+      ∙ sym (seen_by-append S.kinds t (deed (E f)) (deeds E fs))
     where
       one : (b : Bool) → feeds S f n ≡ b → seen_by S.kinds t (deed (D f)) ≡ seen_by S.kinds t (deed (E f))
       one true h = ap (λ (o : Option (List Called)). seen_by S.kinds t (deed o)) (same f (inl refl) h)

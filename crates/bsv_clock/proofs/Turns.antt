@@ -22,7 +22,8 @@ use Rattle.bsv_clock.specs.Looks.{look_after, calls_in_turn, clock_look}
 use Rattle.bsv_clock.specs.Settling.{Doing, deed, deeds}
 use Rattle.bsv_clock.specs.Steadiness.{IsSteady, AllGo, GoInOrder}
 use Rattle.bsv_clock.proofs.Members.{kept_in}
-use Rattle.bsv_clock.proofs.Serially.{after_append, turns_append, serial_more, order_more}
+use Rattle.bsv_clock.proofs.CallLists.{after_calls-append}
+use Rattle.bsv_clock.proofs.Serially.{turns_append, serial_more, order_more}
 use Rattle.bsv_clock.proofs.Sight.{deeds_append}
 use Rattle.bsv_clock.proofs.Stopping.{ordered, execution_order}
 
@@ -138,7 +139,7 @@ module _ (g : Bool) (S : Scheme) (made : Schedule) (q : Asking) (s : List Part) 
       unfolding run_whole
       end_here =
           ap (after_calls S.kinds end) made_here
-          ∙ sym (ap (after_calls S.kinds start) more_deeds ∙ after_append S.kinds start (deeds D before) (deed (D n)))
+          ∙ sym (ap (after_calls S.kinds start) more_deeds ∙ after_calls-append S.kinds start (deeds D before) (deed (D n)))
 
       more_calls : calls_in_turn S q start (filter test before ++ n ∷ []) ≡ deeds D before ++ deed (D n)
       more_calls =

@@ -1,15 +1,13 @@
 -- What belongs together: a scheme that is scheduled, its schedule, a state and requests.
-use Rattle.std.specs.Prelude.{◌≡◌, ℕ, List, slice_get, Some}
+use Rattle.std.specs.Prelude.{ℕ, IsTrue, List}
 use Rattle.bsv_prim.specs.declared.part.Part.{Part}
-use Rattle.bsv_design.specs.declared.element.Role.TheVariants as role
 use Rattle.bsv_design.specs.declared.schedule.Schedule.{Schedule}
-use Rattle.bsv_design.specs.declared.tree.Pair.{Pair}
 use Rattle.bsv_design.specs.Relations.{KeepsTheRule}
-use Rattle.bsv_design.specs.Schemes.{Scheme, Outline, Asking}
+use Rattle.bsv_design.specs.Schemes.{Scheme, Asking}
 use Rattle.bsv_design.specs.States.{FitsKinds}
 use Rattle.bsv_graph.specs.Elements.{relating}
 use Rattle.bsv_graph.specs.ExecutionOrders.{Executes}
-use Rattle.bsv_graph.specs.Relating.{Agrees}
+use Rattle.bsv_graph.specs.Relating.{Relating, Agrees}
 use Rattle.bsv_graph.specs.Stops.{AreStops}
 use Rattle.bsv_graph.specs.UrgencyOrders.{Urges}
 use Rattle.bsv_guard.specs.Fitting.{RequestFits, IsFitting}
@@ -25,17 +23,14 @@ pub record IsLawful (S : Scheme) : Type 0 where
   pub fitting : IsFitting S
   pub rules : KeepsRules S
 
--- the pairs of attributes name rules
-abbrev pub IsRule : Scheme → ℕ → Type 0
-IsRule S n = (o : Outline) × (slice_get S.elements n ≡ Some o) × (o.role ≡ role.Rule)
-
-abbrev pub PairsNameRules : Scheme → Type 0
-PairsNameRules S = (k : ℕ) (p : Pair) → slice_get S.pairs k ≡ Some p → IsRule S p.before × IsRule S p.after
+-- `preempts` names rules
+abbrev pub PreemptsNameRules : Relating → Type 0
+PreemptsNameRules r = (a b : ℕ) → IsTrue (r.preempts a b) → IsTrue (r.rule a) × IsTrue (r.rule b)
 
 -- the schedule is that of the scheme, whose attributes name its rules
 pub record IsScheduleOf (S : Scheme) (made : Schedule) : Type 0 where
   pub agrees : Agrees (relating S)
-  pub named : PairsNameRules S
+  pub named : PreemptsNameRules (relating S)
   pub executes : Executes (relating S) made.execution
   pub urges : Urges (relating S) made.urgency
   pub stops : AreStops (relating S) made.execution made.urgency made.stops

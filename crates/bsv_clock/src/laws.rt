@@ -1,6 +1,7 @@
 ghost use Rattle.std.specs.Prelude.{◌≡◌, ℕ, Bool, List};
 ghost use Rattle.bsv_attr.specs.Obeying.{Obeys};
-ghost use Rattle.bsv_design.specs.Designs.{Blueprint, IsDesign};
+ghost use Rattle.bsv_design.specs.Seen.{blueprint};
+ghost use Rattle.bsv_design.specs.declared.design.Design.{Design as TheDesign};
 ghost use Rattle.bsv_design.specs.Schemes.{Scheme, Asking, AreAlike, design_scheme};
 ghost use Rattle.bsv_design.specs.States.{emptied};
 ghost use Rattle.bsv_design.specs.declared.fired.Fired.{Fired};
@@ -13,7 +14,7 @@ ghost use Rattle.bsv_clock.specs.Clocks.{IsClock};
 ghost use Rattle.bsv_clock.specs.Events.{Happens, TellAlike};
 ghost use Rattle.bsv_clock.specs.Feeding.{IsFed};
 ghost use Rattle.bsv_clock.specs.Grounds.{BelongTogether, Fit, IsLawful, IsScheduleOf, KeepsRules};
-ghost use Rattle.bsv_clock.specs.Grounds.{PairsNameRules};
+ghost use Rattle.bsv_clock.specs.Grounds.{PreemptsNameRules};
 ghost use Rattle.bsv_clock.specs.Looks.{calls_in_turn};
 ghost use Rattle.bsv_clock.specs.Runs.{AllFit, Row, Runs, TellRunsAlike};
 ghost use Rattle.bsv_clock.specs.Settling as settling;
@@ -25,10 +26,10 @@ ghost use Rattle.bsv_clock.specs.Values.{AreQuiet, AskAlike, HappenAlike};
 /// What the laws of a clock ask holds of every design in which no two calls of one element break the
 /// rule of one element, and of what is like such a design, as the tree from which it was made.
 pub fn lawful()
-    ensures designs { (b : Blueprint) → IsDesign b → KeepsRules (design_scheme b)
-        → IsLawful (design_scheme b) }
-    ensures agrees { (b : Blueprint) → IsDesign b → Agrees (relating (design_scheme b)) }
-    ensures named { (b : Blueprint) → IsDesign b → PairsNameRules (design_scheme b) }
+    ensures designs { (d : TheDesign) → KeepsRules (design_scheme (blueprint d))
+        → IsLawful (design_scheme (blueprint d)) }
+    ensures agrees { (d : TheDesign) → Agrees (relating (design_scheme (blueprint d))) }
+    ensures named { (d : TheDesign) → PreemptsNameRules (relating (design_scheme (blueprint d))) }
     ensures alike { (S T : Scheme) → AreAlike S T → IsLawful S → IsLawful T }
     ensures schedule_alike { (S T : Scheme) (made : Schedule) → AreAlike S T
         → IsScheduleOf S made → IsScheduleOf T made }
