@@ -5,30 +5,33 @@ use Rattle.bsv_design.specs.declared.schedule.Schedule.{Schedule}
 use Rattle.bsv_design.specs.Schemes.{Scheme, Asking, Called}
 use Rattle.bsv_design.specs.States.{emptied, after_calls}
 use Rattle.bsv_clock.specs.Clocks.{IsClock}
+use Rattle.bsv_clock.specs.Feeding.{IsFed}
 use Rattle.bsv_clock.specs.Grounds.{BelongTogether}
-use Rattle.bsv_clock.specs.Looks.{calls_in_turn}
-use Rattle.bsv_clock.specs.Settling.{Doing, deed, deeds, fires, the_clock, fired_in, end_of}
+use Rattle.bsv_clock.specs.Settling.{Doing, IsSettled, deed, deeds, fires, the_clock, fired_in, end_of}
 use Rattle.bsv_clock.specs.Steadiness.{IsSteady}
 use Rattle.bsv_clock.proofs.ClockIsSettled.{doing, clock_settled, fired_is, after_is}
+use Rattle.bsv_clock.proofs.Given.{CanBeRun, given}
 use Rattle.bsv_clock.proofs.Members.{filter_same}
 use Rattle.bsv_clock.proofs.Settle.{settled_one, clock_settles}
-use Rattle.bsv_clock.proofs.SettledIsClock.{settled_clock, calls_are_deeds}
+use Rattle.bsv_clock.proofs.SettledIsClock.{settled_clock, can_be_run}
 use Rattle.bsv_clock.proofs.Sight.{deeds_same}
 
 module _ (g : Bool) (S : Scheme) (made : Schedule) (q : Asking) (s : List Part) (together : BelongTogether S made q s) (steady : IsSteady g S) where
   abbrev clock : Doing
   clock = the_clock g S made q s
 
-  pub some_clock : IsClock g S made q s (fired_in made clock) (end_of S made s clock)
-  some_clock =
-      settled_clock g S made q s clock (clock_settles g S made together.lawful together.schedule q s)
-      together.lawful together.schedule together.fit steady
+  settled : IsSettled g S made q s clock
+  settled = clock_settles g S made together.lawful together.schedule q s
 
-  -- the calls that it makes, one element after the other, are those of what each does
-  pub clock_calls : calls_in_turn S q (emptied S.kinds s) (fired_in made clock) ≡ deeds clock made.execution
-  clock_calls =
-      calls_are_deeds g S made q s clock (clock_settles g S made together.lawful together.schedule q s)
-      together.lawful together.schedule together.fit steady
+  pub some_clock : IsClock g S made q s (fired_in made clock) (end_of S made s clock)
+  some_clock = settled_clock g S made q s clock settled together.lawful together.schedule together.fit steady
+
+  -- its elements can be run one after the other, and make the calls of what each does
+  pub clock_run : CanBeRun g S made q s clock
+  clock_run = can_be_run g S made q s clock settled together.lawful together.schedule together.fit steady
+
+  pub clock_fed : IsFed S made s clock
+  clock_fed = given g S made q s together.lawful together.fit clock settled clock_run
 
   module _ (fired : List ℕ) (after : List Part) (is : IsClock g S made q s fired after) where
     abbrev found : Doing
@@ -38,7 +41,7 @@ module _ (g : Bool) (S : Scheme) (made : Schedule) (q : Asking) (s : List Part) 
     same_doing =
         settled_one g S made together.lawful together.schedule q s found clock
         (clock_settled g S made q s fired after together.lawful together.schedule together.fit steady is)
-        (clock_settles g S made together.lawful together.schedule q s)
+        settled
 
     pub only_fired : fired ≡ fired_in made clock
     unfolding fired_in

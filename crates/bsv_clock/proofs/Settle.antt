@@ -61,18 +61,18 @@ pub clock_within : (g : Bool) (S : Scheme) (made : Schedule) (q : Asking) (s : L
 unfolding the_clock
 clock_within g S made q s lawful = rounds_within g S made q s (sound_keeps S lawful.sound) (suc (length S.elements))
 
+-- ---- what rests on the more urgent elements
+
+pub same_look : (S : Scheme) (made : Schedule) → IsScheduleOf S made → LooksRestOnUrgent S made
+unfolding look_of
+same_look S made scheduled s D E n l d e same t u =
+    look_same S.kinds (emptied S.kinds s) t (deeds D made.execution) (deeds E made.execution)
+    (same_sight S n t u D E d e made.execution
+    (λ f i h. same f (feeds_before S made scheduled f n ((execution_order S made scheduled).below f i) l h)))
+
 module _ (g : Bool) (S : Scheme) (made : Schedule) (lawful : IsLawful S) (scheduled : IsScheduleOf S made) where
   laws : ElementLaws S
   laws = sound_keeps S lawful.sound
-
-  -- ---- what rests on the more urgent elements
-
-  pub same_look : LooksRestOnUrgent S made
-  unfolding look_of
-  same_look s D E n l d e same t u =
-      look_same S.kinds (emptied S.kinds s) t (deeds D made.execution) (deeds E made.execution)
-      (same_sight S n t u D E d e made.execution
-      (λ f i h. same f (feeds_before S made scheduled f n ((execution_order S made scheduled).below f i) l h)))
 
   same_stopped : (D E : Doing) (n : ℕ) → DoAlikeBefore made n D E → is_stopped made D n ≡ is_stopped made E n
   unfolding is_stopped
@@ -89,7 +89,7 @@ module _ (g : Bool) (S : Scheme) (made : Schedule) (lawful : IsLawful S) (schedu
   pub same_decide : RestsOnUrgent g S made
   unfolding decide
   same_decide q s D E n l d e same =
-      let local = laws.local g q n (look_of S made s D) (look_of S made s E) (same_look s D E n l d e same) in
+      let local = laws.local g q n (look_of S made s D) (look_of S made s E) (same_look S made scheduled s D E n l d e same) in
       ap₂ (λ (b : Bool) (cs : List Called). cond b (Some (by_rank S.kinds cs)) None)
       (ap₂ (λ (r b : Bool). may_fire S q n && r && not b) local.same_ready (same_stopped D E n same))
       local.same_calls

@@ -18,6 +18,7 @@ use Rattle.bsv_clock.specs.Grounds.{IsLawful, IsScheduleOf, Fit}
 use Rattle.bsv_clock.specs.Looks.{look_after, calls_in_turn, clock_look}
 use Rattle.bsv_clock.specs.Settling.{Doing, IsSettled, deed, deeds, fires, look_of, is_stopped, decide, fired_in, end_of}
 use Rattle.bsv_clock.specs.Steadiness.{IsSteady}
+use Rattle.bsv_clock.proofs.Given.{CanBeRun}
 use Rattle.bsv_clock.proofs.Members.{is_found, not_found, kept_in, in_kept, filter_same}
 use Rattle.bsv_clock.proofs.Settle.{may_within, settled_within}
 use Rattle.bsv_clock.proofs.Sight.{deeds_append, deeds_same, look_cut, blind_deeds}
@@ -102,7 +103,7 @@ module _ (g : Bool) (S : Scheme) (made : Schedule) (q : Asking) (s : List Part) 
     come : HasCome g S q s (fires D) (look_of S made s D) made.execution
     come = whole_walk g S made q s lawful scheduled fit steady (fires D) (look_of S made s D) are_ready
 
-    pub calls_are_deeds : calls_in_turn S q start (fired_in made D) ≡ deeds D made.execution
+    calls_are_deeds : calls_in_turn S q start (fired_in made D) ≡ deeds D made.execution
     unfolding fired_in
     calls_are_deeds = come.same_calls ∙ same_deeds made.execution
 
@@ -133,12 +134,19 @@ module _ (g : Bool) (S : Scheme) (made : Schedule) (q : Asking) (s : List Part) 
         let by = stopper S made scheduled D n (it_is_stopped n still parts.0 (sym (ap (ready g S q n) looks_are_same) ∙ parts.1)) in
         (by.0, lists by.0 (it_fires by.0 by.1).may by.1, by.2)
 
-    pub settled_clock : IsClock g S made q s (fired_in made D) (end_of S made s D)
+    serial_run : Serial g S q start (fired_in made D) (end_of S made s D)
     unfolding end_of fired_in
+    serial_run = subst (λ (cs : List Called). Serial g S q start (fired_in made D) (after_calls S.kinds start cs)) (same_deeds made.execution) come.in_turn
+
+    pub can_be_run : CanBeRun g S made q s D
+    unfolding fired_in
+    can_be_run = record { serial = serial_run; go = come.order; calls = calls_are_deeds }
+
+    pub settled_clock : IsClock g S made q s (fired_in made D) (end_of S made s D)
     settled_clock = record {
       in_order = in_order;
       may = λ n i. (it_fires n (listed n i)).may;
-      serial = subst (λ (cs : List Called). Serial g S q start (fired_in made D) (after_calls S.kinds start cs)) (same_deeds made.execution) come.in_turn;
+      serial = serial_run;
       in_look = λ n i. ap (ready g S q n) looks_are_same ∙ (it_fires n (listed n i)).is_ready;
       none_stopped = λ a b i j. none_stops_other a b (listed a i) (listed b j);
       others_stopped = others;
