@@ -10,6 +10,7 @@ use Rattle.bsv_design.specs.Schemes.{Scheme, Asking}
 use Rattle.bsv_design.specs.States.{FitsKinds, opening, emptied}
 use Rattle.bsv_graph.specs.Orders.{In, IsOnce, StandsBefore}
 use Rattle.bsv_graph.proofs.OrderedLemmas.{place_before}
+use Rattle.bsv_guard.specs.Fitting.{RequestFits}
 use Rattle.bsv_attr.specs.Obeying.{StopsIn}
 use Rattle.bsv_clock.specs.Events.{IsFirstStopper, Happens, TellAlike, stopped_in, blocked_in, results_in_turn}
 use Rattle.bsv_clock.specs.Feeding.{IsFed}
@@ -65,6 +66,13 @@ module _ (g : Bool) (S : Scheme) (made : Schedule) (steady : IsSteady g S) where
 
   module _ (lawful : IsLawful S) (scheduled : IsScheduleOf S made)
       (fed : (q : Asking) (s : List Part) → BelongTogether S made q s → IsFed S made s (the_clock g S made q s)) where
+    belong : (q : Asking) (s : List Part) → ((n : ℕ) → RequestFits S q n) → FitsKinds S.kinds s → BelongTogether S made q s
+    belong q s requests parts = record { lawful = lawful; schedule = scheduled; fit = record { requests = requests; parts = parts } }
+
+    -- the parts fit behind a clock
+    still_fits : (q : Asking) (s : List Part) → BelongTogether S made q s → (row : Row) → Happens g S made q s row.fired row.after → FitsKinds S.kinds row.after
+    still_fits q s there row h = subst (FitsKinds S.kinds) (sym (only_after g S made q s there steady row.fired.list.items row.after h.clock)) (fed q s there).end_fits
+
     same_from : (s : List Part) → FitsKinds S.kinds s → (qs : List Asking) (rows others : List Row) → AllFit S qs
         → Continues g S made s qs rows → Continues g S made s qs others → TellRunsAlike rows others
     same_from s fits [] [] [] all h k = tt
@@ -73,14 +81,11 @@ module _ (g : Bool) (S : Scheme) (made : Schedule) (steady : IsSteady g S) where
     same_from s fits (q ∷ qs) [] others all h k = absurd h
     same_from s fits (q ∷ qs) (row ∷ rows) [] all h k = absurd k
     same_from s fits (q ∷ qs) (row ∷ rows) (other ∷ others) all h k =
-        let together : BelongTogether S made q s = record { lawful = lawful; schedule = scheduled; fit = record { requests = all.0; parts = fits } } in
-        let after = one_after g S made q s together steady row.fired.list.items other.fired.list.items row.after other.after h.0.clock k.0.clock in
-        let still : FitsKinds S.kinds row.after
-            = subst (FitsKinds S.kinds) (sym (only_after g S made q s together steady row.fired.list.items row.after h.0.clock)) (fed q s together).end_fits in
-        (
-          same_told q s together row.fired other.fired row.after other.after h.0 k.0,
+        let there = belong q s all.0 fits in
+        let after = one_after g S made q s there steady row.fired.list.items other.fired.list.items row.after other.after h.0.clock k.0.clock in (
+          same_told q s there row.fired other.fired row.after other.after h.0 k.0,
           after,
-          same_from row.after still qs rows others all.1 h.1 (subst (λ (end : List Part). Continues g S made end qs others) (sym after) k.1),
+          same_from row.after (still_fits q s there row h.0) qs rows others all.1 h.1 (subst (λ (end : List Part). Continues g S made end qs others) (sym after) k.1),
         )
 
     pub same_runs : (qs : List Asking) (rows others : List Row) → AllFit S qs → Runs g S made qs rows → Runs g S made qs others → TellRunsAlike rows others

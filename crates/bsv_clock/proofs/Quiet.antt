@@ -108,10 +108,6 @@ module _ (S : Scheme) (made : Schedule) (sound : IsSound S) (scheduled : IsSched
   executed_first : (a b : ℕ) → a < r.count → b < r.count → is_one_value r a b ≡ true → r.goes a b ≡ true → r.goes b a ≡ false → StandsBefore made.execution a b
   executed_first a b l m one go back =
       let x = scheduled.executes.order in
-      let here : is_value_edge r r.count a b ≡ true
-          = and_from (is_one_value r a b && goes_only r a b) (nat_lt (value_of r a b) r.count)
-          (and_from (is_one_value r a b) (goes_only r a b) one (and_from (r.goes a b) (not (r.goes b a)) go (not_from_false (r.goes b a) back)))
-          (below (r.value a)) in
       respects_before x.0 made.execution a b x.2.respects (within_order a l) (within_order b m)
       (keeps_has a b x.1
       (edge_right r.ordering (early_edges r r.count) a b
@@ -120,6 +116,12 @@ module _ (S : Scheme) (made : Schedule) (sound : IsSound S) (scheduled : IsSched
       below : (c : Bool) → nat_lt (if c then a else b) r.count ≡ true
       below true = lt-ltb a r.count l
       below false = lt-ltb b r.count m
+
+      only : goes_only r a b ≡ true
+      only = and_from (r.goes a b) (not (r.goes b a)) go (not_from_false (r.goes b a) back)
+
+      here : is_value_edge r r.count a b ≡ true
+      here = and_from (is_one_value r a b && goes_only r a b) (nat_lt (value_of r a b) r.count) (and_from (is_one_value r a b) (goes_only r a b) one only) (below (r.value a))
 
   -- one way they go, since else there would be no schedule
   one_way : (a b : ℕ) → a < r.count → b < r.count → r.value a ≡ true → r.value b ≡ false → r.goes a b ≡ false → r.goes b a ≡ false → ⊥

@@ -73,19 +73,24 @@ module _ (g : Bool) (S : Scheme) (made : Schedule) (q : Asking) (s : List Part) 
 
     -- ---- an element that does not pass
 
-    passed_over : (before : List ℕ) (n : ℕ) → HasCome g S q s test look before → test n ≡ false → HasCome g S q s test look (before ++ n ∷ [])
-    passed_over before n h out =
-        let same : filter test (before ++ n ∷ []) ≡ filter test before
-            = filter-append test before (n ∷ []) ∙ (ap (λ (b : Bool). filter test before ++ cond b (n ∷ []) []) out ∙ append-nil (filter test before)) in
-        let none : deeds D (before ++ n ∷ []) ≡ deeds D before
-            = deeds_append D before (n ∷ [])
-            ∙ (ap (λ (cs : List Called). deeds D before ++ cs) (one_deed n ∙ ap (λ (b : Bool). deed (cond b (Some (by_rank S.kinds (calls S q n look))) None)) out)
-            ∙ append-nil (deeds D before)) in
-        record {
-          in_turn = moved (filter test before) (filter test (before ++ n ∷ [])) (deeds D before) (deeds D (before ++ n ∷ [])) same none h.in_turn;
-          order = subst (GoInOrder S) (sym same) h.order;
-          same_calls = ap (calls_in_turn S q start) same ∙ (h.same_calls ∙ sym none);
-        }
+    module _ (before : List ℕ) (n : ℕ) (h : HasCome g S q s test look before) (out : test n ≡ false) where
+      no_more_members : filter test (before ++ n ∷ []) ≡ filter test before
+      no_more_members =
+          filter-append test before (n ∷ [])
+          ∙ (ap (λ (b : Bool). filter test before ++ cond b (n ∷ []) []) out ∙ append-nil (filter test before))
+
+      no_more_deeds : deeds D (before ++ n ∷ []) ≡ deeds D before
+      no_more_deeds =
+          deeds_append D before (n ∷ [])
+          ∙ (ap (λ (cs : List Called). deeds D before ++ cs) (one_deed n ∙ ap (λ (b : Bool). deed (cond b (Some (by_rank S.kinds (calls S q n look))) None)) out)
+          ∙ append-nil (deeds D before))
+
+      passed_over : HasCome g S q s test look (before ++ n ∷ [])
+      passed_over = record {
+        in_turn = moved (filter test before) (filter test (before ++ n ∷ [])) (deeds D before) (deeds D (before ++ n ∷ [])) no_more_members no_more_deeds h.in_turn;
+        order = subst (GoInOrder S) (sym no_more_members) h.order;
+        same_calls = ap (calls_in_turn S q start) no_more_members ∙ (h.same_calls ∙ sym no_more_deeds);
+      }
 
     -- ---- an element that passes
 
