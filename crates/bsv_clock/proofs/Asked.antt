@@ -12,7 +12,7 @@ use Rattle.bsv_graph.specs.Elements.{relating}
 use Rattle.bsv_guard.specs.Sound.{IsSound}
 use Rattle.bsv_guard.proofs.Keeps.{sound_keeps}
 use Rattle.bsv_clock.specs.Clocks.{may_fire}
-use Rattle.bsv_clock.specs.Grounds.{IsLawful, IsScheduleOf}
+use Rattle.bsv_clock.specs.Grounds.{IsScheduleOf}
 use Rattle.bsv_clock.specs.Looks.{look_after}
 use Rattle.bsv_clock.specs.Settling.{Doing, deed, deeds, fires, look_of, stops_in, is_stopped, decide, rounds, the_clock}
 use Rattle.bsv_clock.specs.Values.{IsValueMethod, AskAlike, HappenAlike}

@@ -1,7 +1,7 @@
 -- In a clock, each element does what is decided of it.
-use Rattle.std.proofs.Common.{◌≡◌, ◌∙◌, ℕ, inl, inr, Bool, true, false, cond, not, ◌&&◌, List, [], ◌∷◌, ◌++◌, Option, Some, None, is_some, refl, sym, ap, ap₂, subst}
+use Rattle.std.proofs.Common.{◌≡◌, ◌∙◌, ℕ, Bool, true, false, cond, not, ◌&&◌, List, ◌∷◌, Some, None, is_some, refl, sym, ap, ap₂}
 use Rattle.std.specs.Prelude.{filter}
-use Rattle.std.proofs.lemmas.Bool.{and_from, both_ways, cases_Bool, false_from_ne_true, true_from_ne_false}
+use Rattle.std.proofs.lemmas.Bool.{and_from, both_ways, false_from_ne_true, true_from_ne_false}
 use Rattle.std.proofs.lemmas.List.Elements.{filter-append}
 use Rattle.bsv_prim.specs.declared.part.Part.{Part}
 use Rattle.bsv_design.specs.declared.schedule.Schedule.{Schedule}
@@ -13,17 +13,16 @@ use Rattle.bsv_graph.specs.Elements.{relating}
 use Rattle.bsv_graph.specs.Orders.{In}
 use Rattle.bsv_guard.specs.ElementLaws.{IsUse}
 use Rattle.bsv_guard.proofs.Keeps.{sound_keeps}
-use Rattle.bsv_attr.specs.Obeying.{StopsIn}
 use Rattle.bsv_clock.specs.Clocks.{IsClock, is_in, may_fire, is_candidate}
 use Rattle.bsv_clock.specs.Grounds.{IsLawful, IsScheduleOf, Fit}
 use Rattle.bsv_clock.specs.Looks.{look_after, calls_in_turn, clock_look}
-use Rattle.bsv_clock.specs.Settling.{Doing, IsSettled, deed, deeds, fires, look_of, is_stopped, decide, fired_in, end_of}
+use Rattle.bsv_clock.specs.Settling.{Doing, IsSettled, deeds, fires, look_of, is_stopped, decide, fired_in, end_of}
 use Rattle.bsv_clock.specs.Steadiness.{IsSteady}
 use Rattle.bsv_clock.proofs.Members.{found, is_found, kept_in, filter_same}
 use Rattle.bsv_clock.proofs.Serially.{turns_append, serial_end}
 use Rattle.bsv_clock.proofs.Sight.{look_cut, blind_turns}
 use Rattle.bsv_clock.proofs.Stopping.{ordered, stopper, none_stops}
-use Rattle.bsv_clock.proofs.Turns.{does, StandsAt, AreReady, HasCome, whole_walk}
+use Rattle.bsv_clock.proofs.Turns.{does, StandsAt, AreReady, whole_walk}
 
 -- the decision of one element, given its parts
 decided_as : (f a r p : Bool) (x : List Called) → (f ≡ true → (a ≡ true) × (r ≡ true) × (p ≡ false)) → (f ≡ false → a ≡ true → r ≡ true → p ≡ true)

@@ -2,12 +2,12 @@
 use Rattle.std.proofs.Common.{◌≡◌, ◌∙◌, ℕ, Bool, List, is_some, sym, ap}
 use Rattle.bsv_prim.specs.declared.part.Part.{Part}
 use Rattle.bsv_design.specs.declared.schedule.Schedule.{Schedule}
-use Rattle.bsv_design.specs.Schemes.{Scheme, Asking, Called}
+use Rattle.bsv_design.specs.Schemes.{Scheme, Asking}
 use Rattle.bsv_design.specs.States.{emptied, after_calls}
 use Rattle.bsv_clock.specs.Clocks.{IsClock}
 use Rattle.bsv_clock.specs.Feeding.{IsFed}
 use Rattle.bsv_clock.specs.Grounds.{BelongTogether}
-use Rattle.bsv_clock.specs.Settling.{Doing, IsSettled, deed, deeds, fires, the_clock, fired_in, end_of}
+use Rattle.bsv_clock.specs.Settling.{Doing, IsSettled, deed, fires, the_clock, fired_in, end_of}
 use Rattle.bsv_clock.specs.Steadiness.{IsSteady}
 use Rattle.bsv_clock.proofs.ClockIsSettled.{doing, clock_settled, fired_is, after_is}
 use Rattle.bsv_clock.proofs.Given.{CanBeRun, given}

@@ -1,5 +1,5 @@
 -- In schemes that do the same, the same happens.
-use Rattle.std.proofs.Common.{◌≡◌, ◌∙◌, ℕ, ◌⊎◌, inl, inr, Bool, not, ◌&&◌, List, [], ◌∷◌, ◌++◌, length, Option, refl, sym, ap, ap₂, subst}
+use Rattle.std.proofs.Common.{◌≡◌, ◌∙◌, ℕ, Bool, not, ◌&&◌, List, [], ◌∷◌, ◌++◌, length, refl, sym, ap, ap₂, subst}
 use Rattle.std.specs.Prelude.{filter, slice_get}
 use Rattle.std.specs.List.{AllByRecursion}
 use Rattle.bsv_bits.specs.Words.{Bits}
@@ -7,7 +7,7 @@ use Rattle.bsv_prim.specs.declared.part.Part.{Part}
 use Rattle.bsv_design.specs.declared.fired.Fired.{Fired}
 use Rattle.bsv_design.specs.declared.kind.Kind.{Kind}
 use Rattle.bsv_design.specs.declared.schedule.Schedule.{Schedule}
-use Rattle.bsv_design.specs.Schemes.{Scheme, Outline, Asking, Called, Look, AreAlike, ready, calls, value}
+use Rattle.bsv_design.specs.Schemes.{Scheme, Outline, Asking, Called, AreAlike, ready}
 use Rattle.bsv_design.specs.Serial.{Serial, by_rank, made, run_whole}
 use Rattle.bsv_design.specs.States.{emptied, plain}
 use Rattle.bsv_graph.specs.Edges.{numbers_below}

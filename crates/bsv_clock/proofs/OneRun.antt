@@ -1,5 +1,5 @@
 -- What happens in a clock is one, and so is a run.
-use Rattle.std.proofs.Common.{◌≡◌, ◌∙◌, ℕ, ◌<◌, ◌⊎◌, inl, inr, Bool, List, [], ◌∷◌, map, refl, sym, ap, ap₂, subst, arith}
+use Rattle.std.proofs.Common.{◌≡◌, ◌∙◌, ℕ, ◌⊎◌, inl, inr, Bool, List, [], ◌∷◌, map, refl, sym, ap, ap₂, subst, arith}
 use Rattle.std.specs.List.{AllByRecursion}
 use Rattle.bsv_prim.specs.declared.part.Part.{Part}
 use Rattle.bsv_design.specs.declared.fired.Fired.{Fired}
@@ -8,7 +8,7 @@ use Rattle.bsv_design.specs.declared.schedule.Schedule.{Schedule}
 use Rattle.bsv_design.specs.Kinds.{kind_laws}
 use Rattle.bsv_design.specs.Schemes.{Scheme, Asking}
 use Rattle.bsv_design.specs.States.{FitsKinds, opening, emptied}
-use Rattle.bsv_graph.specs.Orders.{In, IsOnce, StandsBefore}
+use Rattle.bsv_graph.specs.Orders.{IsOnce, StandsBefore}
 use Rattle.bsv_graph.proofs.OrderedLemmas.{place_before}
 use Rattle.bsv_guard.specs.Fitting.{RequestFits}
 use Rattle.bsv_attr.specs.Obeying.{StopsIn}

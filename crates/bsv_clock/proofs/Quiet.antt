@@ -1,28 +1,26 @@
 -- Value methods stop nothing, and nothing stops them.
 use Rattle.std.proofs.Common.{◌≡◌, ◌∙◌, ℕ, zero, suc, ◌<◌, ◌⊎◌, inl, inr, Bool, true, false, not, ◌&&◌, ◌||◌, List, [], ◌∷◌, map, length, Option, Some, None, refl, sym, ap, ap₂, subst, arith}
 use Rattle.std.specs.Prelude.{if◌then◌else◌, slice_get, option_map, nat_lt, ◌==◌}
-use Rattle.std.proofs.lemmas.Bool.{and_parts, and_from, or_cases, or_left, or_right, both_ways, cases_Bool, false_from_ne_true, true_from_ne_false, eqb-true, lt-ltb, not_from_false}
-use Rattle.std.proofs.lemmas.Option.{slice_get-map, slice_get_within, same_Some}
+use Rattle.std.proofs.lemmas.Bool.{and_from, or_left, or_right, both_ways, cases_Bool, false_from_ne_true, true_from_ne_false, eqb-true, lt-ltb, not_from_false}
+use Rattle.std.proofs.lemmas.Option.{slice_get-map, slice_get_within}
 use Rattle.bsv_prim.specs.Table.{goes_before}
 use Rattle.bsv_design.specs.declared.element.Role.{Role}
 use Rattle.bsv_design.specs.declared.element.Role.TheVariants as role
 use Rattle.bsv_design.specs.declared.kind.Kind.{Kind}
 use Rattle.bsv_design.specs.declared.schedule.Schedule.{Schedule}
 use Rattle.bsv_design.specs.Bodies.{Target}
-use Rattle.bsv_design.specs.Kinds.{kind_table, kind_laws}
+use Rattle.bsv_design.specs.Kinds.{kind_laws}
 use Rattle.bsv_design.specs.Relations.{goes, for_all, may_precede, may_precede_of, no_answers}
 use Rattle.bsv_design.specs.Roles.{is_rule, is_value}
 use Rattle.bsv_design.specs.Schemes.{Scheme, Outline, filled, ports_of}
 use Rattle.bsv_design.specs.Traces.{Site, acts, kind_at}
 use Rattle.bsv_graph.specs.Elements.{relating, has_role}
 use Rattle.bsv_graph.specs.Orders.{In, IsOrderOf, StandsBefore}
-use Rattle.bsv_graph.specs.Relating.{Relating, value_edges, early_edges, hard_edges, feed_edges, is_value_edge, is_one_value, goes_only, value_of}
-use Rattle.bsv_graph.specs.Stops.{Stops, Clash}
-use Rattle.bsv_graph.specs.Walks.{HasEdge}
+use Rattle.bsv_graph.specs.Relating.{Relating, value_edges, early_edges, feed_edges, is_value_edge, is_one_value, goes_only, value_of}
+use Rattle.bsv_graph.specs.Stops.{Clash}
 use Rattle.bsv_graph.proofs.EdgeLemmas.{where_has}
 use Rattle.bsv_graph.proofs.OrderedLemmas.{before_in, place_before, keeps_has, respects_before}
 use Rattle.bsv_graph.proofs.WalkLemmas.{edge_left, edge_right}
-use Rattle.bsv_guard.specs.ElementLaws.{IsUse}
 use Rattle.bsv_guard.specs.Sound.{IsSound}
 use Rattle.bsv_guard.proofs.Given.{length-filled}
 use Rattle.bsv_guard.proofs.Lists.{item_of}
@@ -30,7 +28,7 @@ use Rattle.bsv_attr.specs.Obeying.{StopsIn}
 use Rattle.bsv_clock.specs.Grounds.{IsScheduleOf}
 use Rattle.bsv_clock.specs.Settling.{stops_in}
 use Rattle.bsv_clock.specs.Values.{IsValueMethod, AreQuiet}
-use Rattle.bsv_clock.proofs.Stopping.{execution_order, stops_true, stops_within}
+use Rattle.bsv_clock.proofs.Stopping.{execution_order, stops_true}
 
 -- ---- roles
 

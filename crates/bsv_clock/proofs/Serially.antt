@@ -1,11 +1,10 @@
 -- Elements that are run one after the other: the calls and the parts at the end.
-use Rattle.std.proofs.Common.{◌≡◌, ◌∙◌, ℕ, ◌⊎◌, inl, inr, Bool, true, List, [], ◌∷◌, ◌++◌, refl, sym, ap, ap₂, subst, append_assoc}
+use Rattle.std.proofs.Common.{◌≡◌, ◌∙◌, ℕ, inl, inr, Bool, true, List, [], ◌∷◌, ◌++◌, refl, sym, ap, append_assoc}
 use Rattle.bsv_prim.specs.declared.part.Part.{Part}
-use Rattle.bsv_design.specs.declared.kind.Kind.{Kind}
 use Rattle.bsv_design.specs.Relations.{goes}
 use Rattle.bsv_design.specs.Schemes.{Scheme, Asking, Called, ready}
 use Rattle.bsv_design.specs.Serial.{Serial, done, turn, IsIn, made, run_whole}
-use Rattle.bsv_design.specs.States.{plain, after_call, after_calls}
+use Rattle.bsv_design.specs.States.{plain, after_calls}
 use Rattle.bsv_graph.specs.Orders.{In}
 use Rattle.bsv_graph.proofs.LeastLemmas.{in_parts}
 use Rattle.bsv_clock.specs.Looks.{calls_in_turn}

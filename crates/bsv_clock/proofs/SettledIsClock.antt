@@ -1,11 +1,11 @@
 -- Where each element does what is decided of it, that is a clock.
-use Rattle.std.proofs.Common.{◌≡◌, ◌∙◌, ℕ, inl, inr, Bool, true, false, cond, not, ◌&&◌, List, [], ◌∷◌, ◌++◌, Option, Some, None, is_some, refl, sym, ap, subst}
+use Rattle.std.proofs.Common.{◌≡◌, ◌∙◌, ℕ, inl, inr, Bool, true, false, cond, not, ◌&&◌, List, ◌∷◌, Some, None, is_some, refl, sym, ap, subst}
 use Rattle.std.specs.Prelude.{filter}
 use Rattle.std.proofs.lemmas.Bool.{and_parts, and_from, not-true, both_ways, cases_Bool, false_from_ne_true}
 use Rattle.bsv_prim.specs.declared.part.Part.{Part}
 use Rattle.bsv_design.specs.declared.schedule.Schedule.{Schedule}
 use Rattle.bsv_design.specs.Bodies.{Target}
-use Rattle.bsv_design.specs.Schemes.{Scheme, Asking, Called, Look, ready, calls}
+use Rattle.bsv_design.specs.Schemes.{Scheme, Asking, Called, ready, calls}
 use Rattle.bsv_design.specs.Serial.{Serial, by_rank}
 use Rattle.bsv_design.specs.States.{emptied, after_calls}
 use Rattle.bsv_graph.specs.Elements.{relating}
@@ -22,7 +22,7 @@ use Rattle.bsv_clock.proofs.Given.{CanBeRun}
 use Rattle.bsv_clock.proofs.Members.{is_found, not_found, kept_in, in_kept, filter_same}
 use Rattle.bsv_clock.proofs.Settle.{may_within, settled_within}
 use Rattle.bsv_clock.proofs.Sight.{deeds_append, deeds_same, look_cut, blind_deeds}
-use Rattle.bsv_clock.proofs.Stopping.{ordered, execution_order, stops_within, stopper, none_stops}
+use Rattle.bsv_clock.proofs.Stopping.{ordered, execution_order, stopper, none_stops}
 use Rattle.bsv_clock.proofs.Turns.{does, StandsAt, AreReady, HasCome, whole_walk}
 
 some_if : {A : Type 0} (b : Bool) (x : A) → is_some (cond b (Some x) None) ≡ b

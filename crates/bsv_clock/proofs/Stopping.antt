@@ -1,23 +1,21 @@
 -- Which element stops which, by the orders of a schedule and by its lists.
-use Rattle.std.proofs.Common.{◌≡◌, ◌∙◌, ℕ, ◌<◌, ◌≤◌, ◌⊎◌, inl, inr, Bool, true, false, ◌&&◌, List, [], ◌∷◌, length, Option, Some, None, refl, sym, ap, subst, arith, IsTrue}
+use Rattle.std.proofs.Common.{◌≡◌, ◌∙◌, ℕ, ◌<◌, ◌≤◌, ◌⊎◌, inl, inr, true, false, ◌&&◌, List, [], ◌∷◌, length, Option, Some, sym, ap, subst, arith}
 use Rattle.std.specs.Prelude.{slice_get}
-use Rattle.std.specs.List.{list_any}
 use Rattle.std.proofs.lemmas.Bool.{and_parts, and_cases, both_ways, cases_lt}
-use Rattle.std.proofs.lemmas.Option.{slice_get_within, slice_get_past}
+use Rattle.std.proofs.lemmas.Option.{slice_get_past}
 use Rattle.bsv_design.specs.declared.schedule.Schedule.{Schedule}
 use Rattle.bsv_design.specs.Relations.{feeds}
 use Rattle.bsv_design.specs.Schemes.{Scheme}
 use Rattle.bsv_graph.specs.Elements.{relating}
 use Rattle.bsv_graph.specs.Orders.{In, IsOrderOf, place_of}
-use Rattle.bsv_graph.specs.Relating.{Relating}
-use Rattle.bsv_graph.specs.Stops.{Stops, Picks, Ordered}
+use Rattle.bsv_graph.specs.Stops.{Picks, Ordered}
 use Rattle.bsv_graph.proofs.EdgeLemmas.{within_all}
 use Rattle.bsv_graph.proofs.OrderedLemmas.{ordered_holds, before_in}
 use Rattle.bsv_attr.specs.Obeying.{StopsIn}
 use Rattle.bsv_clock.specs.Clocks.{is_in}
 use Rattle.bsv_clock.specs.Grounds.{IsScheduleOf}
 use Rattle.bsv_clock.specs.Settling.{Doing, fires, or_no_numbers, stops_in, is_stopped}
-use Rattle.bsv_clock.proofs.Members.{found, is_found, some_passes, none_passes, passes}
+use Rattle.bsv_clock.proofs.Members.{found, is_found, some_passes, none_passes}
 
 -- ---- what a list picks
 

@@ -1,12 +1,11 @@
 -- A walk along the execution order: elements that are ready under a look of a clock, and of which none stops another, are
 -- ready at their turns, and make there the calls that they make under the look.
-use Rattle.std.proofs.Common.{◌≡◌, ◌∙◌, ℕ, ◌⊎◌, inl, inr, Bool, true, false, cond, List, [], ◌∷◌, ◌++◌, Option, Some, None, refl, sym, ap, ap₂, subst, append-nil, append_assoc}
+use Rattle.std.proofs.Common.{◌≡◌, ◌∙◌, ℕ, inl, Bool, true, false, cond, List, [], ◌∷◌, ◌++◌, Some, None, refl, sym, ap, subst, append-nil, append_assoc}
 use Rattle.std.specs.Prelude.{filter}
 use Rattle.std.proofs.lemmas.List.Elements.{filter-append}
 use Rattle.bsv_prim.specs.declared.part.Part.{Part}
 use Rattle.bsv_design.specs.declared.schedule.Schedule.{Schedule}
 use Rattle.bsv_design.specs.Bodies.{Target}
-use Rattle.bsv_design.specs.Relations.{goes}
 use Rattle.bsv_design.specs.Schemes.{Scheme, Asking, Called, Look, ready, calls}
 use Rattle.bsv_design.specs.Serial.{Serial, done, by_rank, run_whole}
 use Rattle.bsv_design.specs.Serial as serial
