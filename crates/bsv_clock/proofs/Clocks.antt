@@ -5,15 +5,17 @@ use Rattle.bsv_design.specs.declared.schedule.Schedule.{Schedule}
 use Rattle.bsv_design.specs.Schemes.{Scheme, Asking}
 use Rattle.bsv_design.specs.States.{emptied, after_calls}
 use Rattle.bsv_clock.specs.Clocks.{IsClock}
+use Rattle.bsv_clock.specs.Events.{results_in_turn}
 use Rattle.bsv_clock.specs.Feeding.{IsFed}
 use Rattle.bsv_clock.specs.Grounds.{BelongTogether}
-use Rattle.bsv_clock.specs.Settling.{Doing, IsSettled, deed, fires, the_clock, fired_in, end_of}
+use Rattle.bsv_clock.specs.Settling.{Doing, IsSettled, deed, fires, look_of, the_clock, fired_in, end_of}
 use Rattle.bsv_clock.specs.Steadiness.{IsSteady}
 use Rattle.bsv_clock.proofs.ClockIsSettled.{doing, clock_settled, fired_is, after_is}
 use Rattle.bsv_clock.proofs.Given.{CanBeRun, given}
 use Rattle.bsv_clock.proofs.Members.{filter_same}
 use Rattle.bsv_clock.proofs.Settle.{settled_one, clock_settles}
-use Rattle.bsv_clock.proofs.SettledIsClock.{settled_clock, can_be_run}
+use Rattle.bsv_clock.proofs.SettledIsClock.{settled_clock, can_be_run, results_in_look}
+use Rattle.bsv_clock.proofs.Turns.{results_under}
 use Rattle.bsv_clock.proofs.Sight.{deeds_same}
 
 module _ (g : Bool) (S : Scheme) (made : Schedule) (q : Asking) (s : List Part) (together : BelongTogether S made q s) (steady : IsSteady g S) where
@@ -29,6 +31,10 @@ module _ (g : Bool) (S : Scheme) (made : Schedule) (q : Asking) (s : List Part) 
   -- its elements can be run one after the other, and make the calls of what each does
   pub clock_run : CanBeRun g S made q s clock
   clock_run = can_be_run g S made q s clock settled together.lawful together.schedule together.fit steady
+
+  -- and give what they give under its look
+  pub clock_results : results_in_turn S q (emptied S.kinds s) (fired_in made clock) ≡ results_under S q (look_of S made s clock) (fired_in made clock)
+  clock_results = results_in_look g S made q s clock settled together.lawful together.schedule together.fit steady
 
   pub clock_fed : IsFed S made s clock
   clock_fed = given g S made q s together.lawful together.fit clock settled clock_run

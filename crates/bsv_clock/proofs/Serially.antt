@@ -1,12 +1,14 @@
--- Elements that are run one after the other: the calls and the parts at the end.
+-- Elements that are run one after the other: the calls, the results and the parts at the end.
 use Rattle.std.proofs.Common.{◌≡◌, ◌∙◌, ℕ, inl, inr, Bool, true, List, [], ◌∷◌, ◌++◌, refl, sym, ap, append_assoc}
+use Rattle.bsv_bits.specs.Words.{Bits}
 use Rattle.bsv_prim.specs.declared.part.Part.{Part}
 use Rattle.bsv_design.specs.Relations.{goes}
-use Rattle.bsv_design.specs.Schemes.{Scheme, Asking, Called, ready}
+use Rattle.bsv_design.specs.Schemes.{Scheme, Asking, Called, ready, value}
 use Rattle.bsv_design.specs.Serial.{Serial, done, turn, IsIn, made, run_whole}
 use Rattle.bsv_design.specs.States.{plain, after_calls}
 use Rattle.bsv_graph.specs.Orders.{In}
 use Rattle.bsv_graph.proofs.LeastLemmas.{in_parts}
+use Rattle.bsv_clock.specs.Events.{gives, results_in_turn}
 use Rattle.bsv_clock.specs.Looks.{calls_in_turn}
 use Rattle.bsv_clock.specs.Steadiness.{AllGo, GoInOrder}
 use Rattle.bsv_clock.proofs.CallLists.{after_calls-append}
@@ -25,6 +27,14 @@ module _ (S : Scheme) (q : Asking) where
       (turns_append (run_whole S q m ps) ms ns
       ∙ ap (λ (end : List Part). calls_in_turn S q (run_whole S q m ps) ms ++ calls_in_turn S q end ns) (sym (behind_turns ps m ms)))
       ∙ sym (append_assoc (made S q m ps) (calls_in_turn S q (run_whole S q m ps) ms) (calls_in_turn S q (after_calls S.kinds ps (calls_in_turn S q ps (m ∷ ms))) ns))
+
+  pub results_append : (ps : List Part) (ms ns : List ℕ) → results_in_turn S q ps (ms ++ ns) ≡ results_in_turn S q ps ms ++ results_in_turn S q (after_calls S.kinds ps (calls_in_turn S q ps ms)) ns
+  results_append ps [] ns = refl
+  results_append ps (m ∷ ms) ns =
+      ap (λ (xs : List (ℕ × Bits)). gives m (value S q m (plain ps)) ++ xs)
+      (results_append (run_whole S q m ps) ms ns
+      ∙ ap (λ (end : List Part). results_in_turn S q (run_whole S q m ps) ms ++ results_in_turn S q end ns) (sym (behind_turns ps m ms)))
+      ∙ sym (append_assoc (gives m (value S q m (plain ps))) (results_in_turn S q (run_whole S q m ps) ms) (results_in_turn S q (after_calls S.kinds ps (calls_in_turn S q ps (m ∷ ms))) ns))
 
   pub serial_end : (g : Bool) {ps end : List Part} {ns : List ℕ} → Serial g S q ps ns end → end ≡ after_calls S.kinds ps (calls_in_turn S q ps ns)
   serial_end g done = refl

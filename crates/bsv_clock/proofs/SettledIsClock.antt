@@ -14,6 +14,7 @@ use Rattle.bsv_guard.specs.ElementLaws.{IsUse}
 use Rattle.bsv_guard.proofs.Keeps.{sound_keeps}
 use Rattle.bsv_attr.specs.Obeying.{StopsIn}
 use Rattle.bsv_clock.specs.Clocks.{IsClock, is_in, may_fire, is_candidate}
+use Rattle.bsv_clock.specs.Events.{results_in_turn}
 use Rattle.bsv_clock.specs.Grounds.{IsLawful, IsScheduleOf, Fit}
 use Rattle.bsv_clock.specs.Looks.{look_after, calls_in_turn, clock_look}
 use Rattle.bsv_clock.specs.Settling.{Doing, IsSettled, deed, deeds, fires, look_of, is_stopped, decide, fired_in, end_of}
@@ -23,7 +24,7 @@ use Rattle.bsv_clock.proofs.Members.{is_found, not_found, kept_in, in_kept, filt
 use Rattle.bsv_clock.proofs.Settle.{may_within, settled_within}
 use Rattle.bsv_clock.proofs.Sight.{deeds_append, deeds_same, look_cut, blind_deeds}
 use Rattle.bsv_clock.proofs.Stopping.{ordered, execution_order, stopper, none_stops}
-use Rattle.bsv_clock.proofs.Turns.{does, StandsAt, AreReady, HasCome, whole_walk}
+use Rattle.bsv_clock.proofs.Turns.{does, results_under, StandsAt, AreReady, HasCome, whole_walk}
 
 some_if : {A : Type 0} (b : Bool) (x : A) → is_some (cond b (Some x) None) ≡ b
 some_if true x = refl
@@ -133,6 +134,11 @@ module _ (g : Bool) (S : Scheme) (made : Schedule) (q : Asking) (s : List Part) 
         let still : fires D n ≡ false = false_from_ne_true (fires D n) (λ k. out (lists n parts.0 k)) in
         let by = stopper S made scheduled D n (it_is_stopped n still parts.0 (sym (ap (ready g S q n) looks_are_same) ∙ parts.1)) in
         (by.0, lists by.0 (it_fires by.0 by.1).may by.1, by.2)
+
+    -- what they give at their turns is what they give under the look of the clock
+    pub results_in_look : results_in_turn S q start (fired_in made D) ≡ results_under S q (look_of S made s D) (fired_in made D)
+    unfolding fired_in
+    results_in_look = come.same_results
 
     serial_run : Serial g S q start (fired_in made D) (end_of S made s D)
     unfolding end_of fired_in

@@ -1,12 +1,15 @@
 -- A walk along the execution order: elements that are ready under a look of a clock, and of which none stops another, are
--- ready at their turns, and make there the calls that they make under the look.
-use Rattle.std.proofs.Common.{◌≡◌, ◌∙◌, ℕ, inl, Bool, true, false, cond, List, [], ◌∷◌, ◌++◌, Some, None, refl, sym, ap, subst, append-nil, append_assoc}
+-- ready at their turns, and make and give there what they make and give under the look.
+use Rattle.std.proofs.Common.{◌≡◌, ◌∙◌, ℕ, inl, Bool, true, false, cond, List, [], ◌∷◌, ◌++◌, Option, Some, None, refl, sym, ap, ap₂, subst, append-nil, append_assoc}
 use Rattle.std.specs.Prelude.{filter}
+use Rattle.std.specs.List.{flat_map}
+use Rattle.std.proofs.lemmas.Grind.{flat_map-append}
 use Rattle.std.proofs.lemmas.List.Elements.{filter-append}
+use Rattle.bsv_bits.specs.Words.{Bits}
 use Rattle.bsv_prim.specs.declared.part.Part.{Part}
 use Rattle.bsv_design.specs.declared.schedule.Schedule.{Schedule}
 use Rattle.bsv_design.specs.Bodies.{Target}
-use Rattle.bsv_design.specs.Schemes.{Scheme, Asking, Called, Look, ready, calls}
+use Rattle.bsv_design.specs.Schemes.{Scheme, Asking, Called, Look, ready, calls, value}
 use Rattle.bsv_design.specs.Serial.{Serial, done, by_rank, run_whole}
 use Rattle.bsv_design.specs.Serial as serial
 use Rattle.bsv_design.specs.States.{emptied, plain, after_calls}
@@ -16,19 +19,24 @@ use Rattle.bsv_graph.proofs.LeastLemmas.{in_left, in_right, once_apart}
 use Rattle.bsv_guard.specs.ElementLaws.{IsUse, ActsAlike}
 use Rattle.bsv_guard.proofs.Keeps.{sound_keeps}
 use Rattle.bsv_attr.specs.Obeying.{StopsIn}
+use Rattle.bsv_clock.specs.Events.{gives, results_in_turn}
 use Rattle.bsv_clock.specs.Grounds.{IsLawful, IsScheduleOf, Fit}
 use Rattle.bsv_clock.specs.Looks.{look_after, calls_in_turn, clock_look}
 use Rattle.bsv_clock.specs.Settling.{Doing, deed, deeds}
 use Rattle.bsv_clock.specs.Steadiness.{IsSteady, AllGo, GoInOrder}
 use Rattle.bsv_clock.proofs.Members.{kept_in}
 use Rattle.bsv_clock.proofs.CallLists.{after_calls-append}
-use Rattle.bsv_clock.proofs.Serially.{turns_append, serial_more, order_more}
+use Rattle.bsv_clock.proofs.Serially.{turns_append, results_append, serial_more, order_more}
 use Rattle.bsv_clock.proofs.Sight.{deeds_append}
 use Rattle.bsv_clock.proofs.Stopping.{ordered, execution_order}
 
 -- what elements do that pass a test, under a look
 abbrev pub does : Scheme → Asking → (ℕ → Bool) → Look → Doing
 does S q test look n = cond (test n) (Some (by_rank S.kinds (calls S q n look))) None
+
+-- what elements give under a look
+abbrev pub results_under : Scheme → Asking → Look → List ℕ → List (ℕ × Bits)
+results_under S q look ns = flat_map (λ n. gives n (value S q n look)) ns
 
 -- the part of the execution order that stands before an element
 abbrev pub StandsAt : Schedule → List ℕ → ℕ → List ℕ → Type 0
@@ -48,6 +56,7 @@ pub record HasCome (g : Bool) (S : Scheme) (q : Asking) (s : List Part) (test : 
   pub in_turn : Serial g S q (emptied S.kinds s) (filter test before) (after_calls S.kinds (emptied S.kinds s) (deeds (does S q test look) before))
   pub order : GoInOrder S (filter test before)
   pub same_calls : calls_in_turn S q (emptied S.kinds s) (filter test before) ≡ deeds (does S q test look) before
+  pub same_results : results_in_turn S q (emptied S.kinds s) (filter test before) ≡ results_under S q look (filter test before)
 
 module _ (g : Bool) (S : Scheme) (made : Schedule) (q : Asking) (s : List Part) (lawful : IsLawful S) (scheduled : IsScheduleOf S made) (fit : Fit S q s) (steady : IsSteady g S) where
   module _ (test : ℕ → Bool) (look : Look) (are : AreReady g S made q s test look) where
@@ -59,7 +68,7 @@ module _ (g : Bool) (S : Scheme) (made : Schedule) (q : Asking) (s : List Part) 
 
     begin : HasCome g S q s test look []
     unfolding deeds
-    begin = record { in_turn = done; order = tt; same_calls = refl }
+    begin = record { in_turn = done; order = tt; same_calls = refl; same_results = refl }
 
     one_deed : (n : ℕ) → deeds D (n ∷ []) ≡ deed (D n)
     unfolding deeds
@@ -89,6 +98,7 @@ module _ (g : Bool) (S : Scheme) (made : Schedule) (q : Asking) (s : List Part) 
         in_turn = moved (filter test before) (filter test (before ++ n ∷ [])) (deeds D before) (deeds D (before ++ n ∷ [])) no_more_members no_more_deeds h.in_turn;
         order = subst (GoInOrder S) (sym no_more_members) h.order;
         same_calls = ap (calls_in_turn S q start) no_more_members ∙ (h.same_calls ∙ sym no_more_deeds);
+        same_results = ap (results_in_turn S q start) no_more_members ∙ (h.same_results ∙ sym (ap (results_under S q look) no_more_members));
       }
 
     -- ---- an element that passes
@@ -151,6 +161,13 @@ module _ (g : Bool) (S : Scheme) (made : Schedule) (q : Asking) (s : List Part) 
           ∙ ap (λ (cs : List Called). cs ++ (serial.made S q n (after_calls S.kinds start cs) ++ [])) h.same_calls
           ∙ ap (λ (cs : List Called). deeds D before ++ cs) (append-nil (serial.made S q n end) ∙ made_here)
 
+      more_results : results_in_turn S q start (filter test before ++ n ∷ []) ≡ results_under S q look (filter test before ++ n ∷ [])
+      more_results =
+          results_append S q start (filter test before) (n ∷ [])
+          ∙ ap (λ (cs : List Called). results_in_turn S q start (filter test before) ++ (gives n (value S q n (plain (after_calls S.kinds start cs))) ++ [])) h.same_calls
+          ∙ ap₂ (λ (xs : List (ℕ × Bits)) (o : Option Bits). xs ++ (gives n o ++ [])) h.same_results (sym acts.same_value)
+          ∙ sym (flat_map-append (λ m. gives m (value S q m look)) (filter test before) (n ∷ []))
+
       taken_in : HasCome g S q s test look (before ++ n ∷ [])
       taken_in = record {
         in_turn = subst (λ (ns : List ℕ). Serial g S q start ns (after_calls S.kinds start (deeds D (before ++ n ∷ [])))) (sym same_members)
@@ -158,26 +175,20 @@ module _ (g : Bool) (S : Scheme) (made : Schedule) (q : Asking) (s : List Part) 
             (serial_more S q g n h.in_turn (sym acts.same_ready ∙ are.is_ready n here is) fresh));
         order = subst (GoInOrder S) (sym same_members) (order_more S (filter test before) n h.order goes_before);
         same_calls = ap (calls_in_turn S q start) same_members ∙ (more_calls ∙ sym more_deeds);
+        same_results = ap (results_in_turn S q start) same_members ∙ (more_results ∙ sym (ap (results_under S q look) same_members));
       }
 
     -- ---- the whole order
 
-    walk : (ns before rest : List ℕ) → made.execution ≡ before ++ (ns ++ rest) → HasCome g S q s test look before → HasCome g S q s test look (before ++ ns)
-    walk [] before rest e h = subst (HasCome g S q s test look) (sym (append-nil before)) h
-    walk (n ∷ ns) before rest e h =
-        subst (HasCome g S q s test look) (append_assoc before (n ∷ []) ns)
-        (walk ns (before ++ n ∷ []) rest (e ∙ sym (append_assoc before (n ∷ []) (ns ++ rest))) (next (test n) refl))
+    walk : (behind before : List ℕ) → made.execution ≡ before ++ behind → HasCome g S q s test look before → HasCome g S q s test look (before ++ behind)
+    walk [] before e h = subst (HasCome g S q s test look) (sym (append-nil before)) h
+    walk (n ∷ behind) before e h =
+        subst (HasCome g S q s test look) (append_assoc before (n ∷ []) behind)
+        (walk behind (before ++ n ∷ []) (e ∙ sym (append_assoc before (n ∷ []) behind)) (next (test n) refl))
       where
         next : (b : Bool) → test n ≡ b → HasCome g S q s test look (before ++ n ∷ [])
-        next true is = taken_in before (ns ++ rest) n e h is
+        next true is = taken_in before behind n e h is
         next false out = passed_over before n h out
 
-    pub walk_to : (before behind : List ℕ) → made.execution ≡ before ++ behind → HasCome g S q s test look before
-    walk_to before behind e = walk before [] behind e begin
-
     pub whole_walk : HasCome g S q s test look made.execution
-    whole_walk = walk_to made.execution [] (sym (append-nil made.execution))
-
-    -- at its turn, an element that passes does what it does under the look
-    pub acts_in_turn : (before behind : List ℕ) (n : ℕ) → StandsAt made before n behind → test n ≡ true → ActsAlike g S q n look (plain (after_calls S.kinds start (deeds D before)))
-    acts_in_turn before behind n at is = acts before behind n at (walk_to before (n ∷ behind) at) is
+    whole_walk = walk made.execution [] refl begin
