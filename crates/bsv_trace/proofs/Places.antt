@@ -4,7 +4,7 @@ use Rattle.std.proofs.lemmas.List.{get_or_default}
 use Rattle.std.proofs.lemmas.Option.{slice_get_read, unwrap_or-slice_get}
 use Rattle.bsv_bits.specs.Words.{Bits}
 use Rattle.bsv_design.specs.declared.element.Element.{Element}
-use Rattle.bsv_design.specs.Schemes.{Asking}
+use Rattle.bsv_design.specs.Schemes.{Asking, Outline, outline}
 use Rattle.bsv_trace.specs.Lines.{asked_with}
 use Rattle.bsv_trace.specs.Reading.{HasPlaces, arguments, call_of}
 use Rattle.bsv_trace.specs.Reading as spec
@@ -24,17 +24,17 @@ map-set_same f [] n x y at same = refl
 map-set_same f (z ∷ zs) zero x y at same = let it : z ≡ x = cc in ap (λ v. v ∷ map f zs) (same ∙ ap f (sym it))
 map-set_same f (z ∷ zs) (suc n) x y at same = ap (λ v. f z ∷ v) (map-set_same f zs n x y at same)
 
-module _ (methods : List Element) (q : Asking) (has : HasPlaces methods q) where
+module _ (methods : List Outline) (q : Asking) (has : HasPlaces methods q) where
   pub length_args : length q.args ≡ length methods
   length_args =
-      sym (length-map (λ ws. length ws) q.args) ∙ ap (λ ns. length ns) has.args ∙ length-map (λ e. length e.arguments) methods
+      sym (length-map (λ ws. length ws) q.args) ∙ ap (λ ns. length ns) has.args ∙ length-map (λ o. length o.ports) methods
 
-  pub words_at : (n : ℕ) (e : Element) (ws : List Bits) → slice_get methods n ≡ Some e → slice_get q.args n ≡ Some ws → length ws ≡ length e.arguments
+  pub words_at : (n : ℕ) (e : Outline) (ws : List Bits) → slice_get methods n ≡ Some e → slice_get q.args n ≡ Some ws → length ws ≡ length e.ports
   words_at n e ws at_method at_words =
       let left = map_at (λ ws. length ws) q.args n ws at_words in
-      let right = map_at (λ e. length e.arguments) methods n e at_method in
+      let right = map_at (λ o. length o.ports) methods n e at_method in
       let same = ap (λ ns. slice_get ns n) has.args in
-      let whole : ◌≡◌ {A = Option ℕ} (Some (length ws)) (Some (length e.arguments)) = sym left ∙ same ∙ right in
+      let whole : ◌≡◌ {A = Option ℕ} (Some (length ws)) (Some (length e.ports)) = sym left ∙ same ∙ right in
       cc
 
   pub with_words : (n : ℕ) (old words : List Bits) → slice_get q.args n ≡ Some old → length words ≡ length old
@@ -59,14 +59,18 @@ flag_at asked n b below is = unwrap_or-slice_get asked n true ∙ get_or_default
 pub item_at : {A : Type 0} (xs : List A) (n : ℕ) (x : A) → n < length xs → x ≡ get_or xs n x → slice_get xs n ≡ Some x
 item_at xs n x below is = slice_get_read xs (length xs) n x refl below is
 
+-- the outline of the method at a place
+pub outline_read : (methods : List Element) (n : ℕ) (e : Element) → n < length methods → e ≡ get_or methods n e → slice_get (map outline methods) n ≡ Some (outline e)
+outline_read methods n e below is = map_at outline methods n e (item_at methods n e below is)
+
 -- ---- a call, by what is at its place
 
-module _ (methods : List Element) (n : ℕ) (bytes : List ℕ) (q : Asking) where
+module _ (methods : List Outline) (n : ℕ) (bytes : List ℕ) (q : Asking) where
   pub call_of-asked : unwrap_or (slice_get q.asked n) true ≡ true → call_of methods n bytes q ≡ None
   unfolding call_of
   call_of-asked asked = rw asked refl
 
-  pub call_of-read : (e : Element) (old : List Bits) (o : Option (List Bits × List ℕ)) → unwrap_or (slice_get q.asked n) true ≡ false → slice_get methods n ≡ Some e → slice_get q.args n ≡ Some old
-      → arguments e.arguments bytes old ≡ o → call_of methods n bytes q ≡ spec.asking_with n q o
+  pub call_of-read : (e : Outline) (old : List Bits) (o : Option (List Bits × List ℕ)) → unwrap_or (slice_get q.asked n) true ≡ false → slice_get methods n ≡ Some e → slice_get q.args n ≡ Some old
+      → arguments e.ports bytes old ≡ o → call_of methods n bytes q ≡ spec.asking_with n q o
   unfolding call_of
   call_of-read e old o free at words read = rw (free, at, words, read) refl

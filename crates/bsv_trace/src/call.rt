@@ -1,6 +1,7 @@
 ghost use Rattle.std.specs.Prelude.{◌≡◌, ◌+◌, ◌<◌, ◌≤◌, ◌==◌};
-ghost use Rattle.std.specs.Prelude.{length, not, slice_get, option_map, OnSome, IfSome};
+ghost use Rattle.std.specs.Prelude.{length, map, not, slice_get, option_map, OnSome, IfSome};
 ghost use Rattle.std.specs.List.{prefix_len};
+ghost use Rattle.bsv_design.specs.Schemes.{outline};
 ghost use Rattle.bsv_design.specs.Seen.{asking};
 ghost use Rattle.bsv_trace.specs.Reading as spec;
 
@@ -103,7 +104,7 @@ fn name_len(bytes: &[u8]) -> usize
 
 /// The method of this name, by its place.
 fn method_named(methods: &[Element], name: &[u8]) -> Option<usize>
-    ensures number { result ≡ spec.method_from 0 methods.now name.now }
+    ensures number { result ≡ spec.method_from 0 (map outline methods.now) name.now }
     ensures within { IfSome result (λ number. number < length methods.now) }
 {
     for (number, method) in methods.iter().enumerate() {
@@ -123,10 +124,10 @@ fn call_of<'a>(
     requests: &mut Requests,
 ) -> Option<&'a [u8]>
     requires within { number < length methods.now }
-    requires places { spec.HasPlaces methods.now (asking requests.old) }
+    requires places { spec.HasPlaces (map outline methods.now) (asking requests.old) }
     ensures read { spec.Gives result (asking requests.new)
-        (spec.call_of methods.now number bytes.now (asking requests.old)) }
-    ensures places { spec.HasPlaces methods.now (asking requests.new) }
+        (spec.call_of (map outline methods.now) number bytes.now (asking requests.old)) }
+    ensures places { spec.HasPlaces (map outline methods.now) (asking requests.new) }
 {
     if requests.asked.as_slice()[number] {
         return None;
@@ -144,10 +145,10 @@ fn call_of<'a>(
 /// Reads a call, asks for it, and gives what is behind it.
 #[tactic(auto, unfolding(crate::specs::Reading::call))]
 fn call<'a>(methods: &[Element], bytes: &'a [u8], requests: &mut Requests) -> Option<&'a [u8]>
-    requires { spec.HasPlaces methods.now (asking requests.old) }
+    requires { spec.HasPlaces (map outline methods.now) (asking requests.old) }
     ensures read { spec.Gives result (asking requests.new)
-        (spec.call methods.now bytes.now (asking requests.old)) }
-    ensures places { spec.HasPlaces methods.now (asking requests.new) }
+        (spec.call (map outline methods.now) bytes.now (asking requests.old)) }
+    ensures places { spec.HasPlaces (map outline methods.now) (asking requests.new) }
 {
     let (name, after) = bytes.split_at(name_len(bytes));
     match behind(b'(', after) {
@@ -161,10 +162,10 @@ fn call<'a>(methods: &[Element], bytes: &'a [u8], requests: &mut Requests) -> Op
 
 /// Reads calls with a blank between each two, and asks for them. Whether there is nothing else.
 pub(crate) fn calls(methods: &[Element], bytes: &[u8], requests: &mut Requests) -> bool
-    requires { spec.HasPlaces methods.now (asking requests.old) }
+    requires { spec.HasPlaces (map outline methods.now) (asking requests.old) }
     ensures read { spec.GivesAll result (asking requests.new)
-        (spec.calls (length bytes.now) methods.now bytes.now (asking requests.old)) }
-    ensures places { spec.HasPlaces methods.now (asking requests.new) }
+        (spec.calls (length bytes.now) (map outline methods.now) bytes.now (asking requests.old)) }
+    ensures places { spec.HasPlaces (map outline methods.now) (asking requests.new) }
 {
     let mut rest = bytes;
     for turn in 0..bytes.len() {
