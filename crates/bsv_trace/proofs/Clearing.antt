@@ -1,5 +1,6 @@
 -- Requests in which nothing is asked are written over those of the last line.
 use Rattle.std.proofs.Common.{◌≡◌, ◌∙◌, ℕ, ◌+◌, ◌<◌, Bool, false, List, [], ◌∷◌, map, length, get_or, slice_get, slice_set, Some, refl, sym, ap, arith}
+use Rattle.std.proofs.lemmas.List.{length-map}
 use Rattle.std.proofs.lemmas.Option.{slice_get_within}
 use Rattle.bsv_bits.specs.Words.{Bits, zero_word}
 use Rattle.bsv_design.specs.declared.element.Port.{Port}
@@ -8,7 +9,7 @@ use Rattle.bsv_design.specs.States.{zeros}
 use Rattle.bsv_trace.specs.Lines.{nothing_of}
 use Rattle.bsv_trace.specs.Reading.{HasPlaces}
 use Rattle.bsv_trace.proofs.Filling.{filled, fill_more, filled_at, length-filled}
-use Rattle.bsv_trace.proofs.Places.{map_at, length-map, item_at, length_args, words_at}
+use Rattle.bsv_trace.proofs.Places.{map_at, item_at, length_args, words_at}
 
 -- ---- the words of a call
 
@@ -16,7 +17,7 @@ pub word_cleared : (ps : List Port) (old words new : List Bits) (n : ℕ) (p : P
     → words ≡ filled n (zeros ps) old → w ≡ zero_word p.width → new ≡ slice_set words n w → new ≡ filled (n + 1) (zeros ps) old
 word_cleared ps old words new n p w same below is before zero set =
     set ∙ ap (λ ws. slice_set ws n w) before ∙ ap (slice_set (filled n (zeros ps) old) n) zero
-    ∙ fill_more n (zeros ps) old (zero_word p.width) (same ∙ sym (length-map (λ p. zero_word p.width) ps)) (map_at (λ p. zero_word p.width) ps n p (item_at ps n p below is))
+    ∙ fill_more n (zeros ps) old (zero_word p.width) (same ∙ sym (length-map ps (λ p. zero_word p.width))) (map_at (λ p. zero_word p.width) ps n p (item_at ps n p below is))
 
 -- ---- the methods
 
@@ -28,16 +29,16 @@ zero_words o = zeros o.ports
 
 module _ (methods : List Outline) (q : Asking) (has : HasPlaces methods q) where
   same_asked : length q.asked ≡ length (map no methods)
-  same_asked = has.asked ∙ sym (length-map no methods)
+  same_asked = has.asked ∙ sym (length-map methods no)
 
   same_args : length q.args ≡ length (map zero_words methods)
-  same_args = length_args methods q has ∙ sym (length-map zero_words methods)
+  same_args = length_args methods q has ∙ sym (length-map methods zero_words)
 
   -- the words of the next method have their places
   pub next_words : (args : List (List Bits)) (n : ℕ) (o : Outline) (ws : List Bits) → args ≡ filled n (map zero_words methods) q.args → slice_get methods n ≡ Some o
       → ws ≡ get_or args n ws → length ws ≡ length o.ports
   next_words args n o ws before is at =
-      let long : length args ≡ length methods = ap (λ l. length l) before ∙ length-filled n (map zero_words methods) q.args same_args ∙ length-map zero_words methods in
+      let long : length args ≡ length methods = ap (λ l. length l) before ∙ length-filled n (map zero_words methods) q.args same_args ∙ length-map methods zero_words in
       let below : n < length methods = slice_get_within methods n o is in
       words_at methods q has n o ws is
       (sym (filled_at n (map zero_words methods) q.args same_args) ∙ ap (λ l. slice_get l n) (sym before) ∙ item_at args n ws (omega (arith, long)) at)
@@ -60,8 +61,8 @@ module _ (methods : List Outline) (q : Asking) (has : HasPlaces methods q) where
 zero_places : (ms : List Outline) → map (λ ws. length ws) (map zero_words ms) ≡ map (λ o. length o.ports) ms
 zero_places [] = refl
 zero_places (o ∷ os) =
-    ap (λ n. n ∷ map (λ ws. length ws) (map zero_words os)) (length-map (λ p. zero_word p.width) o.ports)
+    ap (λ n. n ∷ map (λ ws. length ws) (map zero_words os)) (length-map o.ports (λ p. zero_word p.width))
     ∙ ap (λ ns. length o.ports ∷ ns) (zero_places os)
 
 pub nothing_places : (ms : List Outline) → HasPlaces ms (nothing_of ms)
-nothing_places ms = record { asked = length-map no ms; args = zero_places ms }
+nothing_places ms = record { asked = length-map ms no; args = zero_places ms }

@@ -14,10 +14,10 @@ use Rattle.bsv_design.specs.Schemes.{Asking, Outline, ports_of}
 use Rattle.bsv_design.specs.Widths.{port_fits}
 use Rattle.bsv_trace.specs.declared.number.Base.{Base}
 use Rattle.bsv_trace.specs.declared.number.Base.TheVariants as base
-use Rattle.bsv_trace.specs.Lines.{IsArgument, AreArguments, MethodCall, IsCall, AreCalls, AreMethods, methods_among, asked_with, asked_with_all}
+use Rattle.bsv_trace.specs.Lines.{IsArgument, AreArguments, MethodCall, IsCall, AreCalls, AreMethods, methods_among, in_name, asked_with, asked_with_all}
 use Rattle.bsv_trace.specs.Numbers.{IsNumber, decimal, hexadecimal, value_of}
 use Rattle.bsv_trace.specs.Reading as spec
-use Rattle.bsv_trace.specs.Reading.{HasPlaces, radix, is_digit, fitting, word_of, with_rest, digits, argument, ports_fit}
+use Rattle.bsv_trace.specs.Reading.{HasPlaces, radix, is_digit, fitting, word_of, with_rest, digits, argument}
 use Rattle.bsv_trace.proofs.Places.{words_at, length_args}
 use Rattle.bsv_trace.proofs.Pieces.{front_len, behind_mark, call_text, led, join_first, take_placed}
 use Rattle.bsv_trace.proofs.Sound.{is_asked, some_at, AreFresh, call_places}
@@ -221,8 +221,8 @@ module _ (outlines : List Outline) (right : AreMethods outlines) where
       let after = inner ++ 41 ∷ rest in
       let bytes = e.name ++ 40 ∷ after in
       let whole : text ++ rest ≡ bytes = ap (λ l. l ++ rest) is.written ∙ sym (call_text e.name inner rest) in
-      let n : prefix_len spec.in_name bytes ≡ length e.name = front_len spec.in_name e.name after 40 (right.names c.method e is.at) refl in
-      ap (λ l. spec.call_named methods (take (prefix_len spec.in_name l) l) (spec.behind 40 (drop (prefix_len spec.in_name l) l)) q) whole
+      let n : prefix_len in_name bytes ≡ length e.name = front_len in_name e.name after 40 (right.names c.method e is.at) refl in
+      ap (λ l. spec.call_named methods (take (prefix_len in_name l) l) (spec.behind 40 (drop (prefix_len in_name l) l)) q) whole
       ∙ ap (λ k. spec.call_named methods (take k bytes) (spec.behind 40 (drop k bytes)) q) n
       ∙ ap (λ l. spec.call_named methods l (spec.behind 40 (drop (length e.name) bytes)) q) (take-append_seam e.name (40 ∷ after))
       ∙ ap (λ l. spec.call_named methods e.name (spec.behind 40 l) q) (drop-append_seam e.name (40 ∷ after))

@@ -1,5 +1,6 @@
 -- The methods of the top among the elements, their outlines, and requests that fit them.
 use Rattle.std.proofs.Common.{◌≡◌, ◌∙◌, suc, ◌≤◌, Bool, true, false, cond, List, [], ◌∷◌, map, length, take, refl, ap, arith}
+use Rattle.std.proofs.lemmas.List.{length-map}
 use Rattle.std.proofs.lemmas.Simd.{map-map}
 use Rattle.bsv_bits.specs.Words.{Bits}
 use Rattle.bsv_design.specs.declared.element.Element.{Element}
@@ -9,7 +10,6 @@ use Rattle.bsv_design.specs.Schemes.{Asking, Outline, outline}
 use Rattle.bsv_design.specs.States.{methods_in, nothing_asked, zeros, AreWordsOf, FitMethods, AskingFits}
 use Rattle.bsv_trace.specs.Lines.{methods_among, nothing_of}
 use Rattle.bsv_trace.specs.Reading.{HasPlaces}
-use Rattle.bsv_trace.proofs.Places.{length-map}
 
 length_words : (ps : List Port) (ws : List Bits) → AreWordsOf ps ws → length ws ≡ length ps
 length_words [] [] fit = refl
@@ -71,7 +71,7 @@ module _ (es : List Element) (q : Asking) (fit : AskingFits es q) where
   asking_places = fit_places (methods_in es) q.asked q.args fit
 
   counted : length q.asked ≡ length (methods_in es)
-  counted = asking_places.asked ∙ length-map outline (methods_in es)
+  counted = asking_places.asked ∙ length-map (methods_in es) outline
 
   pub asked_fewer : length q.asked ≤ length es
   asked_fewer = omega (arith, counted, methods_fewer es)

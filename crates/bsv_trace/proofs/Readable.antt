@@ -18,8 +18,8 @@ use Rattle.bsv_design.specs.Schemes.{Asking, Outline, outline}
 use Rattle.bsv_design.specs.Seen.{blueprint}
 use Rattle.bsv_design.specs.States.{methods_in, nothing_asked, AreWordsOf, FitMethods, AskingFits}
 use Rattle.bsv_design.specs.Widths.{port_fits}
-use Rattle.bsv_trace.specs.Lines.{AreArguments, MethodCall, AreCalls, IsMethod, AreMethods, AsksFor, methods_among, nothing_of, asked_with, asked_with_all}
-use Rattle.bsv_trace.specs.Reading.{in_name, ports_fit}
+use Rattle.bsv_trace.specs.Lines.{AreArguments, MethodCall, AreCalls, IsMethod, AreMethods, AsksFor, methods_among, in_name, nothing_of, asked_with, asked_with_all}
+use Rattle.bsv_trace.specs.Reading.{ports_fit}
 use Rattle.bsv_trace.proofs.Methods.{methods_outlined, nothing_outlined}
 
 -- ---- a method is an element that is no rule

@@ -11,7 +11,7 @@ use Rattle.bsv_design.specs.declared.element.Port.{Port}
 use Rattle.bsv_design.specs.Schemes.{Asking, Outline, ports_of}
 use Rattle.bsv_trace.specs.declared.number.Base.{Base}
 use Rattle.bsv_trace.specs.declared.number.Base.TheVariants as base
-use Rattle.bsv_trace.specs.Lines.{IsArgument, AreArguments, MethodCall, IsCall, AreCalls, asked_with, asked_with_all}
+use Rattle.bsv_trace.specs.Lines.{IsArgument, AreArguments, MethodCall, IsCall, AreCalls, in_name, asked_with, asked_with_all}
 use Rattle.bsv_trace.specs.Numbers.{IsNumber, decimal, hexadecimal, value_of}
 use Rattle.bsv_trace.specs.Reading as spec
 use Rattle.bsv_trace.specs.Reading.{HasPlaces, radix, is_digit, fitting, word_of, with_rest, digits, argument}
@@ -271,8 +271,8 @@ by_bracket methods bytes name left rest q new (Some after) has is bracket read =
 call_sound : (methods : List Outline) (bytes rest : List ℕ) (q new : Asking) → HasPlaces methods q → spec.call methods bytes q ≡ Some (new, rest) → CallRead methods bytes rest q new
 unfolding spec.call
 call_sound methods bytes rest q new has read =
-    by_bracket methods bytes (take (prefix_len spec.in_name bytes) bytes) (drop (prefix_len spec.in_name bytes) bytes) rest q new
-    (spec.behind 40 (drop (prefix_len spec.in_name bytes) bytes)) has (sym (take-append-drop (prefix_len spec.in_name bytes) bytes)) refl read
+    by_bracket methods bytes (take (prefix_len in_name bytes) bytes) (drop (prefix_len in_name bytes) bytes) rest q new
+    (spec.behind 40 (drop (prefix_len in_name bytes) bytes)) has (sym (take-append-drop (prefix_len in_name bytes) bytes)) refl read
 
 -- ---- lines
 

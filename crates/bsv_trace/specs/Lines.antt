@@ -1,6 +1,6 @@
 -- What a line of a trace is, and what it asks for: calls of methods of the top, with a blank between each two, as in
 -- `start(0x10,3) result()`. It is said of the outlines of elements, so of a design and of the source that it is made from.
-use Rattle.std.specs.Prelude.{◌≡◌, ◌≢◌, ℕ, ◌^◌, ◌<◌, ◌≤◌, ◌==◌, true, false, cond, not, IsTrue, List, [], ◌∷◌, ◌++◌, map, length, slice_get, slice_set, Some, codes}
+use Rattle.std.specs.Prelude.{◌≡◌, ◌≢◌, ℕ, ◌^◌, ◌<◌, ◌≤◌, ◌==◌, Bool, true, false, cond, not, IsTrue, List, [], ◌∷◌, ◌++◌, map, length, slice_get, slice_set, Some, codes}
 use Rattle.std.specs.List.{list_all, join_with_byte}
 use Rattle.bsv_bits.specs.Words.{Bits}
 use Rattle.bsv_design.specs.declared.element.Port.{Port}
@@ -21,10 +21,14 @@ methods_among (o ∷ os) = cond (is_rule o.role) [] (o ∷ methods_among os)
 abbrev pub IsMethod : List Outline → ℕ → Outline → Type 0
 IsMethod outlines n o = slice_get (methods_among outlines) n ≡ Some o
 
+-- a byte that may stand in a name: any but the bracket
+abbrev pub in_name : ℕ → Bool
+in_name b = not (b == 40)
+
 -- no two methods have one name, no name has a bracket, and every argument has 1 to 128 bits
 pub record AreMethods (outlines : List Outline) : Type 0 where
   pub apart : (m n : ℕ) (o p : Outline) → IsMethod outlines m o → IsMethod outlines n p → o.name ≡ p.name → m ≡ n
-  pub names : (n : ℕ) (o : Outline) → IsMethod outlines n o → IsTrue (list_all (λ b. not (b == 40)) o.name)
+  pub names : (n : ℕ) (o : Outline) → IsMethod outlines n o → IsTrue (list_all in_name o.name)
   pub ports : (n : ℕ) (o : Outline) → IsMethod outlines n o → IsTrue (list_all port_fits o.ports)
 
 -- ---- arguments

@@ -1,5 +1,5 @@
 -- The reader of a line, as functions on lists.
-use Rattle.std.specs.Prelude.{◌≡◌, ℕ, zero, suc, ◌+◌, ◌^◌, Bool, true, false, not, ◌&&◌, ◌==◌, nat_le, nat_lt, if◌then◌else◌, List, [], ◌∷◌, length, take, drop, slice_get, slice_set, map, Option, Some, None, unwrap_or}
+use Rattle.std.specs.Prelude.{◌≡◌, ℕ, zero, suc, ◌+◌, ◌^◌, Bool, true, false, ◌&&◌, ◌==◌, nat_le, nat_lt, if◌then◌else◌, List, [], ◌∷◌, length, take, drop, slice_get, slice_set, map, Option, Some, None, unwrap_or}
 use Rattle.std.specs.Borrow.{Bor}
 use Rattle.std.specs.Char.{is_ascii_digit, is_ascii_hexdigit}
 use Rattle.std.specs.List.{list_all, prefix_len}
@@ -11,7 +11,7 @@ use Rattle.bsv_design.specs.Schemes.{Asking, Outline, ports_of}
 use Rattle.bsv_design.specs.Widths.{port_fits}
 use Rattle.bsv_trace.specs.declared.number.Base.{Base}
 use Rattle.bsv_trace.specs.declared.number.Base.TheVariants as base
-use Rattle.bsv_trace.specs.Lines.{asked_with}
+use Rattle.bsv_trace.specs.Lines.{in_name, asked_with}
 use Rattle.bsv_trace.specs.Numbers.{value_of}
 
 -- ---- answers
@@ -127,10 +127,7 @@ abbrev pub call_named : List Outline → List ℕ → Option (List ℕ) → Aski
 call_named methods name None q = None
 call_named methods name (Some bytes) q = call_if methods (method_from 0 methods name) bytes q
 
--- what is before the first bracket
-abbrev pub in_name : ℕ → Bool
-in_name b = not (b == 40)
-
+-- the name is what stands before the first bracket
 unfoldable pub call : List Outline → List ℕ → Asking → Option (Asking × List ℕ)
 call methods bytes q =
     call_named methods (take (prefix_len in_name bytes) bytes) (behind 40 (drop (prefix_len in_name bytes) bytes)) q

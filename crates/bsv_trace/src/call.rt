@@ -1,8 +1,9 @@
-ghost use Rattle.std.specs.Prelude.{◌≡◌, ◌+◌, ◌<◌, ◌≤◌, ◌==◌};
-ghost use Rattle.std.specs.Prelude.{length, map, not, slice_get, option_map, OnSome, IfSome};
+ghost use Rattle.std.specs.Prelude.{◌≡◌, ◌+◌, ◌<◌, ◌≤◌};
+ghost use Rattle.std.specs.Prelude.{length, map, option_map, IfSome};
 ghost use Rattle.std.specs.List.{prefix_len};
 ghost use Rattle.bsv_design.specs.Schemes.{outline};
 ghost use Rattle.bsv_design.specs.Seen.{asking};
+ghost use Rattle.bsv_trace.specs.Lines.{in_name};
 ghost use Rattle.bsv_trace.specs.Reading as spec;
 
 use crate::number::argument;
@@ -96,7 +97,7 @@ fn arguments<'a>(ports: &[Port], bytes: &'a [u8], words: &mut Items<Word>) -> Op
 
 /// How many bytes stand before the first bracket.
 fn name_len(bytes: &[u8]) -> usize
-    ensures value { result ≡ prefix_len spec.in_name bytes.now }
+    ensures value { result ≡ prefix_len in_name bytes.now }
     ensures within { result ≤ length bytes.now }
 {
     bytes.iter().take_while(|b| **b != b'(').count()

@@ -3,9 +3,9 @@ ghost use Rattle.bsv_design.specs.Designs.{Blueprint, IsDesign};
 ghost use Rattle.bsv_design.specs.Schemes.{Asking, Outline, outline};
 ghost use Rattle.bsv_trace.specs.Lines.{AreMethods, AsksFor};
 
-/// A line asks for one thing: nothing else is asked for by the same line. Each line asks for
-/// something, or is no line of a trace. Both are said of methods that can be told apart, which
-/// those of a design can.
+/// A line of a trace has one meaning: it does not ask for two things, and of each line it is decided
+/// whether it asks for something. That is so where methods have names apart and without brackets,
+/// and arguments of 1 to 128 bits, as those of a design have.
 pub fn one_request()
     ensures only { (outlines : List Outline) (line : List ℕ) (q other : Asking)
         → AreMethods outlines → AsksFor outlines line q → AsksFor outlines line other
