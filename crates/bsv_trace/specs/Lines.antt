@@ -17,20 +17,6 @@ abbrev pub methods_among : List Outline → List Outline
 methods_among [] = []
 methods_among (o ∷ os) = cond (is_rule o.role) [] (o ∷ methods_among os)
 
--- the method at a place
-abbrev pub IsMethod : List Outline → ℕ → Outline → Type 0
-IsMethod outlines n o = slice_get (methods_among outlines) n ≡ Some o
-
--- a byte that may stand in a name: any but the bracket
-abbrev pub in_name : ℕ → Bool
-in_name b = not (b == 40)
-
--- no two methods have one name, no name has a bracket, and every argument has 1 to 128 bits
-pub record AreMethods (outlines : List Outline) : Type 0 where
-  pub apart : (m n : ℕ) (o p : Outline) → IsMethod outlines m o → IsMethod outlines n p → o.name ≡ p.name → m ≡ n
-  pub names : (n : ℕ) (o : Outline) → IsMethod outlines n o → IsTrue (list_all in_name o.name)
-  pub ports : (n : ℕ) (o : Outline) → IsMethod outlines n o → IsTrue (list_all port_fits o.ports)
-
 -- ---- arguments
 
 -- the text is the number of a word that the argument can hold
@@ -98,3 +84,19 @@ pub record AsksFor (outlines : List Outline) (line : List ℕ) (q : Asking) : Ty
   pub written : line ≡ join_with_byte 32 pieces
   pub short : length line ≤ 4096
   pub asking : q ≡ asked_with_all calls (nothing_of (methods_among outlines))
+
+-- ---- methods that can be told apart
+
+-- the method at a place
+abbrev pub IsMethod : List Outline → ℕ → Outline → Type 0
+IsMethod outlines n o = slice_get (methods_among outlines) n ≡ Some o
+
+-- a byte that may stand in a name: any but an opening bracket
+abbrev pub in_name : ℕ → Bool
+in_name b = not (b == 40)
+
+-- no two methods have one name, no name has an opening bracket, and every argument has 1 to 128 bits
+pub record AreMethods (outlines : List Outline) : Type 0 where
+  pub apart : (m n : ℕ) (o p : Outline) → IsMethod outlines m o → IsMethod outlines n p → o.name ≡ p.name → m ≡ n
+  pub names : (n : ℕ) (o : Outline) → IsMethod outlines n o → IsTrue (list_all in_name o.name)
+  pub ports : (n : ℕ) (o : Outline) → IsMethod outlines n o → IsTrue (list_all port_fits o.ports)
