@@ -69,7 +69,8 @@ fn methods_of<'a>(elements: &'a [Element], requests: &Requests) -> &'a [Element]
 /// two. The requests are then those that the line asks for, and nothing is asked where it is no line.
 pub fn line(design: &Design, bytes: &[u8], requests: &mut Requests) -> Result<(), BadLine>
     requires { AskingFits design.now.elements (asking requests.old) }
-    ensures asks { OnOk result (AsksFor (map outline design.now.elements) bytes.now (asking requests.new)) }
+    ensures asks { OnOk result
+        (AsksFor (map outline design.now.elements) bytes.now (asking requests.new)) }
     ensures only { OnOk result ((other : Asking) →
         AsksFor (map outline design.now.elements) bytes.now other → other ≡ asking requests.new) }
     ensures bad { OnErr result ((asked : Asking) →
