@@ -5,7 +5,7 @@ use Rattle.bsv_design.specs.declared.schedule.Schedule.{Schedule}
 use Rattle.bsv_design.specs.Schemes.{Scheme, Asking}
 use Rattle.bsv_design.specs.States.{emptied, after_calls}
 use Rattle.bsv_clock.specs.Clocks.{IsClock}
-use Rattle.bsv_clock.specs.Events.{results_in_turn}
+use Rattle.bsv_clock.specs.Events.{results_in_turn, results_under}
 use Rattle.bsv_clock.specs.Feeding.{IsFed}
 use Rattle.bsv_clock.specs.Grounds.{BelongTogether}
 use Rattle.bsv_clock.specs.Settling.{Doing, IsSettled, deed, fires, look_of, the_clock, fired_in, end_of}
@@ -15,7 +15,6 @@ use Rattle.bsv_clock.proofs.Given.{CanBeRun, given}
 use Rattle.bsv_clock.proofs.Members.{filter_same}
 use Rattle.bsv_clock.proofs.Settle.{settled_one, clock_settles}
 use Rattle.bsv_clock.proofs.SettledIsClock.{settled_clock, can_be_run, results_in_look}
-use Rattle.bsv_clock.proofs.Turns.{results_under}
 use Rattle.bsv_clock.proofs.Sight.{deeds_same}
 
 module _ (g : Bool) (S : Scheme) (made : Schedule) (q : Asking) (s : List Part) (together : BelongTogether S made q s) (steady : IsSteady g S) where

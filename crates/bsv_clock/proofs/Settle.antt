@@ -15,7 +15,7 @@ use Rattle.bsv_guard.proofs.Keeps.{sound_keeps}
 use Rattle.bsv_guard.proofs.Lists.{all_at}
 use Rattle.bsv_clock.specs.Clocks.{may_fire, may_fire_as}
 use Rattle.bsv_clock.specs.Grounds.{IsLawful, IsScheduleOf}
-use Rattle.bsv_clock.specs.Settling.{Doing, DoesWithin, DoAlikeBefore, RestsOnUrgent, LooksRestOnUrgent, IsSettled, deed, deeds, fires, look_of, stops_in, is_stopped, decide, rounds, the_clock}
+use Rattle.bsv_clock.specs.Settling.{Doing, DoesWithin, DoAlikeBefore, RestsOnUrgent, SeesRestOnUrgent, IsSettled, deed, deeds, fires, look_of, stops_in, is_stopped, decide, rounds, the_clock}
 use Rattle.bsv_clock.proofs.Members.{any_same, place_within, once_long}
 use Rattle.bsv_clock.proofs.Sight.{AreUses, ranked_uses, look_same, same_sight}
 use Rattle.bsv_clock.proofs.Stopping.{execution_order, urgency_order, feeds_before, stops_before}
@@ -62,12 +62,16 @@ clock_within g S made q s lawful = rounds_within g S made q s (sound_keeps S law
 
 -- ---- what rests on the more urgent elements
 
-pub same_look : (S : Scheme) (made : Schedule) → IsScheduleOf S made → LooksRestOnUrgent S made
+pub same_seen : (S : Scheme) (made : Schedule) → IsScheduleOf S made → SeesRestOnUrgent S made
+same_seen S made scheduled D E n l d e same t u =
+    same_sight S n t u D E d e made.execution
+    (λ f i h. same f (feeds_before S made scheduled f n ((execution_order S made scheduled).below f i) l h))
+
+same_look : (S : Scheme) (made : Schedule) → IsScheduleOf S made → (s : List Part) (D E : Doing) (n : ℕ) → n < length S.elements → DoesWithin S D → DoesWithin S E
+    → DoAlikeBefore made n D E → (t : Target) → IsUse S n t → look_of S made s D t ≡ look_of S made s E t
 unfolding look_of
 same_look S made scheduled s D E n l d e same t u =
-    look_same S.kinds (emptied S.kinds s) t (deeds D made.execution) (deeds E made.execution)
-    (same_sight S n t u D E d e made.execution
-    (λ f i h. same f (feeds_before S made scheduled f n ((execution_order S made scheduled).below f i) l h)))
+    look_same S.kinds (emptied S.kinds s) t (deeds D made.execution) (deeds E made.execution) (same_seen S made scheduled D E n l d e same t u)
 
 module _ (g : Bool) (S : Scheme) (made : Schedule) (lawful : IsLawful S) (scheduled : IsScheduleOf S made) where
   laws : ElementLaws S

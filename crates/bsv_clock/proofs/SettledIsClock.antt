@@ -14,7 +14,7 @@ use Rattle.bsv_guard.specs.ElementLaws.{IsUse}
 use Rattle.bsv_guard.proofs.Keeps.{sound_keeps}
 use Rattle.bsv_attr.specs.Obeying.{StopsIn}
 use Rattle.bsv_clock.specs.Clocks.{IsClock, is_in, may_fire, is_candidate}
-use Rattle.bsv_clock.specs.Events.{results_in_turn}
+use Rattle.bsv_clock.specs.Events.{results_in_turn, results_under}
 use Rattle.bsv_clock.specs.Grounds.{IsLawful, IsScheduleOf, Fit}
 use Rattle.bsv_clock.specs.Looks.{look_after, calls_in_turn, clock_look}
 use Rattle.bsv_clock.specs.Settling.{Doing, IsSettled, deed, deeds, fires, look_of, is_stopped, decide, fired_in, end_of}
@@ -24,7 +24,7 @@ use Rattle.bsv_clock.proofs.Members.{is_found, not_found, kept_in, in_kept, filt
 use Rattle.bsv_clock.proofs.Settle.{may_within, settled_within}
 use Rattle.bsv_clock.proofs.Sight.{deeds_append, deeds_same, look_cut, blind_deeds}
 use Rattle.bsv_clock.proofs.Stopping.{ordered, execution_order, stopper, none_stops}
-use Rattle.bsv_clock.proofs.Turns.{does, results_under, StandsAt, AreReady, HasCome, whole_walk}
+use Rattle.bsv_clock.proofs.Turns.{does, StandsAt, AreReady, HasCome, whole_walk}
 
 some_if : {A : Type 0} (b : Bool) (x : A) → is_some (cond b (Some x) None) ≡ b
 some_if true x = refl

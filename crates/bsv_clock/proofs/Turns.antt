@@ -19,7 +19,7 @@ use Rattle.bsv_graph.proofs.LeastLemmas.{in_left, in_right, once_apart}
 use Rattle.bsv_guard.specs.ElementLaws.{IsUse, ActsAlike}
 use Rattle.bsv_guard.proofs.Keeps.{sound_keeps}
 use Rattle.bsv_attr.specs.Obeying.{StopsIn}
-use Rattle.bsv_clock.specs.Events.{gives, results_in_turn}
+use Rattle.bsv_clock.specs.Events.{gives, results_in_turn, results_under}
 use Rattle.bsv_clock.specs.Grounds.{IsLawful, IsScheduleOf, Fit}
 use Rattle.bsv_clock.specs.Looks.{look_after, calls_in_turn, clock_look}
 use Rattle.bsv_clock.specs.Settling.{Doing, deed, deeds}
@@ -33,10 +33,6 @@ use Rattle.bsv_clock.proofs.Stopping.{ordered, execution_order}
 -- what elements do that pass a test, under a look
 abbrev pub does : Scheme → Asking → (ℕ → Bool) → Look → Doing
 does S q test look n = cond (test n) (Some (by_rank S.kinds (calls S q n look))) None
-
--- what elements give under a look
-abbrev pub results_under : Scheme → Asking → Look → List ℕ → List (ℕ × Bits)
-results_under S q look ns = flat_map (λ n. gives n (value S q n look)) ns
 
 -- the part of the execution order that stands before an element
 abbrev pub StandsAt : Schedule → List ℕ → ℕ → List ℕ → Type 0

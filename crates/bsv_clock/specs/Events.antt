@@ -1,12 +1,12 @@
 -- What a clock leaves to tell, beside the state: which element was stopped, and by what; which method was blocked; and what
 -- the methods gave.
 use Rattle.std.specs.Prelude.{◌≡◌, ℕ, Bool, true, not, ◌&&◌, ◌⊎◌, List, [], ◌∷◌, ◌++◌, map, filter, length, Option, Some, None}
-use Rattle.std.specs.List.{AllByRecursion}
+use Rattle.std.specs.List.{AllByRecursion, flat_map}
 use Rattle.bsv_bits.specs.Words.{Bits}
 use Rattle.bsv_prim.specs.declared.part.Part.{Part}
 use Rattle.bsv_design.specs.declared.fired.Fired.{Fired}
 use Rattle.bsv_design.specs.declared.schedule.Schedule.{Schedule}
-use Rattle.bsv_design.specs.Schemes.{Scheme, Asking, ready, value}
+use Rattle.bsv_design.specs.Schemes.{Scheme, Asking, Look, ready, value}
 use Rattle.bsv_design.specs.Serial.{run_whole}
 use Rattle.bsv_design.specs.States.{emptied, plain}
 use Rattle.bsv_graph.specs.Edges.{numbers_below}
@@ -39,6 +39,10 @@ gives n (Some w) = (n, w) ∷ []
 abbrev pub results_in_turn : Scheme → Asking → List Part → List ℕ → List (ℕ × Bits)
 results_in_turn S q ps [] = []
 results_in_turn S q ps (n ∷ ns) = gives n (value S q n (plain ps)) ++ results_in_turn S q (run_whole S q n ps) ns
+
+-- what elements give under a look
+abbrev pub results_under : Scheme → Asking → Look → List ℕ → List (ℕ × Bits)
+results_under S q look ns = flat_map (λ n. gives n (value S q n look)) ns
 
 -- all that happens in a clock from a state
 pub record Happens (aggressive : Bool) (S : Scheme) (made : Schedule) (q : Asking) (s : List Part) (fired : Fired) (after : List Part) : Type 0 where

@@ -11,7 +11,7 @@ use Rattle.bsv_design.specs.States.{emptied, after_calls}
 use Rattle.bsv_graph.specs.Orders.{place_of}
 use Rattle.bsv_guard.specs.ElementLaws.{IsUse}
 use Rattle.bsv_clock.specs.Clocks.{is_in, may_fire}
-use Rattle.bsv_clock.specs.Looks.{look_after}
+use Rattle.bsv_clock.specs.Looks.{look_after, seen_by}
 
 -- of each element its calls by rank, or nothing where it does not fire
 abbrev pub Doing : Type 0
@@ -65,11 +65,11 @@ RestsOnUrgent aggressive S made =
     (q : Asking) (s : List Part) (D E : Doing) (n : ℕ) → n < length S.elements → DoesWithin S D → DoesWithin S E
     → DoAlikeBefore made n D E → decide aggressive S made q s D n ≡ decide aggressive S made q s E n
 
--- and so does what each method looks at that it uses
-abbrev pub LooksRestOnUrgent : Scheme → Schedule → Type 0
-LooksRestOnUrgent S made =
-    (s : List Part) (D E : Doing) (n : ℕ) → n < length S.elements → DoesWithin S D → DoesWithin S E
-    → DoAlikeBefore made n D E → (t : Target) → IsUse S n t → look_of S made s D t ≡ look_of S made s E t
+-- and so do the calls that each method sees that it uses
+abbrev pub SeesRestOnUrgent : Scheme → Schedule → Type 0
+SeesRestOnUrgent S made =
+    (D E : Doing) (n : ℕ) → n < length S.elements → DoesWithin S D → DoesWithin S E → DoAlikeBefore made n D E
+    → (t : Target) → IsUse S n t → seen_by S.kinds t (deeds D made.execution) ≡ seen_by S.kinds t (deeds E made.execution)
 
 -- each does what is decided of it
 abbrev pub IsSettled : Bool → Scheme → Schedule → Asking → List Part → Doing → Type 0

@@ -11,7 +11,7 @@ ghost use Rattle.bsv_graph.specs.Relating.{Agrees};
 ghost use Rattle.bsv_prim.specs.declared.part.Part.{Part};
 ghost use Rattle.bsv_clock.specs.Attributes.{ObeysInClock};
 ghost use Rattle.bsv_clock.specs.Clocks.{IsClock};
-ghost use Rattle.bsv_clock.specs.Events.{Happens, TellAlike};
+ghost use Rattle.bsv_clock.specs.Events.{Happens, TellAlike, results_in_turn, results_under};
 ghost use Rattle.bsv_clock.specs.Feeding.{IsFed};
 ghost use Rattle.bsv_clock.specs.Grounds.{BelongTogether, Fit, IsLawful, IsScheduleOf, KeepsRules};
 ghost use Rattle.bsv_clock.specs.Grounds.{PreemptsNameRules};
@@ -19,7 +19,7 @@ ghost use Rattle.bsv_clock.specs.Looks.{calls_in_turn};
 ghost use Rattle.bsv_clock.specs.Runs.{AllFit, Row, Runs, TellRunsAlike};
 ghost use Rattle.bsv_clock.specs.Settling as settling;
 ghost use Rattle.bsv_clock.specs.Settling.{Doing, IsSettled, DoesWithin, RestsOnUrgent};
-ghost use Rattle.bsv_clock.specs.Settling.{LooksRestOnUrgent, deeds, end_of, fired_in};
+ghost use Rattle.bsv_clock.specs.Settling.{SeesRestOnUrgent, deeds, end_of, fired_in, look_of};
 ghost use Rattle.bsv_clock.specs.Steadiness.{IsSteady, LooksDecide};
 ghost use Rattle.bsv_clock.specs.Values.{AreQuiet, AskAlike, HappenAlike};
 
@@ -50,8 +50,7 @@ pub fn steady()
 pub fn settled()
     ensures rests { (aggressive : Bool) (S : Scheme) (made : Schedule) → IsLawful S
         → IsScheduleOf S made → RestsOnUrgent aggressive S made }
-    ensures looks { (S : Scheme) (made : Schedule) → IsLawful S → IsScheduleOf S made
-        → LooksRestOnUrgent S made }
+    ensures sees { (S : Scheme) (made : Schedule) → IsScheduleOf S made → SeesRestOnUrgent S made }
     ensures settles { (aggressive : Bool) (S : Scheme) (made : Schedule) (q : Asking) (s : List Part)
         → IsLawful S → IsScheduleOf S made
         → IsSettled aggressive S made q s (settling.the_clock aggressive S made q s) }
@@ -65,6 +64,12 @@ pub fn settled()
         → calls_in_turn S q (emptied S.kinds s)
         (fired_in made (settling.the_clock aggressive S made q s))
         ≡ deeds (settling.the_clock aggressive S made q s) made.execution }
+    ensures results { (aggressive : Bool) (S : Scheme) (made : Schedule) (q : Asking) (s : List Part)
+        → BelongTogether S made q s
+        → results_in_turn S q (emptied S.kinds s)
+        (fired_in made (settling.the_clock aggressive S made q s))
+        ≡ results_under S q (look_of S made s (settling.the_clock aggressive S made q s))
+        (fired_in made (settling.the_clock aggressive S made q s)) }
 {}
 
 /// From each state that fits, with requests that fit, there is exactly one clock: one list of elements
