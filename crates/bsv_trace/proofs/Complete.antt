@@ -9,16 +9,15 @@ use Rattle.std.specs.Char.{is_ascii_digit}
 use Rattle.std.specs.List.{list_all, prefix_len, join_with_byte}
 use Rattle.std.specs.Str.{bytes_eq}
 use Rattle.bsv_bits.specs.Words.{Bits}
-use Rattle.bsv_design.specs.declared.element.Element.{Element}
 use Rattle.bsv_design.specs.declared.element.Port.{Port}
-use Rattle.bsv_design.specs.Schemes.{Asking}
+use Rattle.bsv_design.specs.Schemes.{Asking, Outline, ports_of}
 use Rattle.bsv_design.specs.Widths.{port_fits}
 use Rattle.bsv_trace.specs.declared.number.Base.{Base}
 use Rattle.bsv_trace.specs.declared.number.Base.TheVariants as base
-use Rattle.bsv_trace.specs.Lines.{IsArgument, AreArguments, MethodCall, IsCall, AreCalls, asked_with, asked_with_all}
+use Rattle.bsv_trace.specs.Lines.{IsArgument, AreArguments, MethodCall, IsCall, AreCalls, AreMethods, methods_among, in_name, asked_with, asked_with_all}
 use Rattle.bsv_trace.specs.Numbers.{IsNumber, decimal, hexadecimal, value_of}
 use Rattle.bsv_trace.specs.Reading as spec
-use Rattle.bsv_trace.specs.Reading.{HasPlaces, radix, is_digit, fitting, word_of, with_rest, digits, argument, ports_fit}
+use Rattle.bsv_trace.specs.Reading.{HasPlaces, radix, is_digit, fitting, word_of, with_rest, digits, argument}
 use Rattle.bsv_trace.proofs.Places.{words_at, length_args}
 use Rattle.bsv_trace.proofs.Pieces.{front_len, behind_mark, call_text, led, join_first, take_placed}
 use Rattle.bsv_trace.proofs.Sound.{is_asked, some_at, AreFresh, call_places}
@@ -176,18 +175,12 @@ arguments_complete (p ∷ ps) (t ∷ pieces) (w ∷ ws) old rest fit long each =
 
 -- ---- calls
 
--- what the reader needs of the methods: no two have one name, and no name has a bracket
-pub record AreReadable (methods : List Element) : Type 0 where
-  pub apart : (m n : ℕ) (d e : Element) → slice_get methods m ≡ Some d → slice_get methods n ≡ Some e → d.name ≡ e.name → m ≡ n
-  pub names : (n : ℕ) (e : Element) → slice_get methods n ≡ Some e → IsTrue (list_all spec.in_name e.name)
-  pub ports : (n : ℕ) (e : Element) → slice_get methods n ≡ Some e → IsTrue (list_all port_fits e.arguments)
-
-named_complete : (methods : List Element) (n base : ℕ) (e : Element) → ((m : ℕ) (d : Element) → slice_get methods m ≡ Some d → d.name ≡ e.name → m ≡ n) → slice_get methods n ≡ Some e
+named_complete : (methods : List Outline) (n base : ℕ) (e : Outline) → ((m : ℕ) (d : Outline) → slice_get methods m ≡ Some d → d.name ≡ e.name → m ≡ n) → slice_get methods n ≡ Some e
     → spec.method_from base methods e.name ≡ Some (base + n)
 named_complete [] n base e first at = absurd cc
 named_complete (m ∷ methods) zero base e first at =
     let same : m ≡ e = cc in
-    let test : bytes_eq m.name e.name ≡ true = (bytes_eq-Decides m.name e.name).1 (ap (λ (x : Element). x.name) same) in
+    let test : bytes_eq m.name e.name ≡ true = (bytes_eq-Decides m.name e.name).1 (ap (λ (x : Outline). x.name) same) in
     let none : base ≡ base + 0 = omega arith in
     ap (λ t. if t then Some base else spec.method_from (base + 1) methods e.name) test ∙ ap (λ k. Some k) none
 named_complete (m ∷ methods) (suc n) base e first at = by (bytes_eq m.name e.name) refl (named_complete methods n (base + 1) e (λ k d there same. shifted k n (first (suc k) d there same)) at)
@@ -203,30 +196,33 @@ named_complete (m ∷ methods) (suc n) base e first at = by (bytes_eq m.name e.n
         let sums : base + 1 + n ≡ base + suc n = omega arith in
         ap (λ t. if t then Some base else spec.method_from (base + 1) methods e.name) test ∙ others ∙ ap (λ k. Some k) sums
 
-module _ (methods : List Element) (right : AreReadable methods) where
-  call_of_complete : (q : Asking) (c : MethodCall) (e : Element) (pieces : List (List ℕ)) (rest : List ℕ) → HasPlaces methods q → slice_get methods c.method ≡ Some e → AreArguments e.arguments pieces c.words
+module _ (outlines : List Outline) (right : AreMethods outlines) where
+  abbrev methods : List Outline
+  methods = methods_among outlines
+
+  call_of_complete : (q : Asking) (c : MethodCall) (e : Outline) (pieces : List (List ℕ)) (rest : List ℕ) → HasPlaces methods q → slice_get methods c.method ≡ Some e → AreArguments e.ports pieces c.words
       → is_asked q c.method ≡ false → spec.call_of methods c.method (join_with_byte 44 pieces ++ 41 ∷ rest) q ≡ Some (asked_with c q, rest)
   unfolding spec.call_of
   call_of_complete q c e pieces rest has at each free =
       let text = join_with_byte 44 pieces ++ 41 ∷ rest in
       let there = some_at q.args c.method (omega (arith, length_args methods q has, slice_get_within methods c.method e at)) in
       let long = words_at methods q has c.method e there.0 at there.1 in
-      ap (λ t. if t then None else spec.asking_with c.method q (spec.arguments (spec.ports_of (slice_get methods c.method)) text (unwrap_or (slice_get q.args c.method) []))) free
-      ∙ ap (λ o. spec.asking_with c.method q (spec.arguments (spec.ports_of o) text (unwrap_or (slice_get q.args c.method) []))) at
-      ∙ ap (λ o. spec.asking_with c.method q (spec.arguments e.arguments text (unwrap_or o []))) there.1
-      ∙ ap (spec.asking_with c.method q) (arguments_complete e.arguments pieces c.words there.0 rest (right.ports c.method e at) long each)
+      ap (λ t. if t then None else spec.asking_with c.method q (spec.arguments (ports_of (slice_get methods c.method)) text (unwrap_or (slice_get q.args c.method) []))) free
+      ∙ ap (λ o. spec.asking_with c.method q (spec.arguments (ports_of o) text (unwrap_or (slice_get q.args c.method) []))) at
+      ∙ ap (λ o. spec.asking_with c.method q (spec.arguments e.ports text (unwrap_or o []))) there.1
+      ∙ ap (spec.asking_with c.method q) (arguments_complete e.ports pieces c.words there.0 rest (right.ports c.method e at) long each)
 
   call_complete : (q : Asking) (c : MethodCall) (text rest : List ℕ) → HasPlaces methods q → IsCall methods text c → is_asked q c.method ≡ false
       → spec.call methods (text ++ rest) q ≡ Some (asked_with c q, rest)
   unfolding spec.call
   call_complete q c text rest has is free =
-      let e = is.element in
+      let e = is.outline in
       let inner = join_with_byte 44 is.pieces in
       let after = inner ++ 41 ∷ rest in
       let bytes = e.name ++ 40 ∷ after in
       let whole : text ++ rest ≡ bytes = ap (λ l. l ++ rest) is.written ∙ sym (call_text e.name inner rest) in
-      let n : prefix_len spec.in_name bytes ≡ length e.name = front_len spec.in_name e.name after 40 (right.names c.method e is.at) refl in
-      ap (λ l. spec.call_named methods (take (prefix_len spec.in_name l) l) (spec.behind 40 (drop (prefix_len spec.in_name l) l)) q) whole
+      let n : prefix_len in_name bytes ≡ length e.name = front_len in_name e.name after 40 (right.names c.method e is.at) refl in
+      ap (λ l. spec.call_named methods (take (prefix_len in_name l) l) (spec.behind 40 (drop (prefix_len in_name l) l)) q) whole
       ∙ ap (λ k. spec.call_named methods (take k bytes) (spec.behind 40 (drop k bytes)) q) n
       ∙ ap (λ l. spec.call_named methods l (spec.behind 40 (drop (length e.name) bytes)) q) (take-append_seam e.name (40 ∷ after))
       ∙ ap (λ l. spec.call_named methods e.name (spec.behind 40 l) q) (drop-append_seam e.name (40 ∷ after))
@@ -237,7 +233,7 @@ module _ (methods : List Element) (right : AreReadable methods) where
   -- a call has some bytes
   call_some : (text : List ℕ) (c : MethodCall) → IsCall methods text c → 0 < length text
   call_some text c is =
-      let e = is.element in
+      let e = is.outline in
       omega (arith, ap (λ (l : List ℕ). length l) is.written, length-append ((e.name ++ codes "(") ++ join_with_byte 44 is.pieces) (codes ")"))
 
   calls_complete : (n : ℕ) (q : Asking) (text : List ℕ) (texts : List (List ℕ)) (c : MethodCall) (cs : List MethodCall) → HasPlaces methods q → AreCalls methods (text ∷ texts) (c ∷ cs) → AreFresh q (c ∷ cs)

@@ -1,9 +1,7 @@
 -- Calls of different methods: none is asked before it.
 use Rattle.std.proofs.Common.{◌≡◌, ◌≢◌, ◌∙◌, ℕ, zero, suc, Bool, true, false, List, [], ◌∷◌, slice_get, slice_set, Some, unwrap_or, refl, sym, ap}
-use Rattle.bsv_design.specs.declared.element.Element.{Element}
-use Rattle.bsv_design.specs.Schemes.{Asking}
-use Rattle.bsv_trace.specs.Lines.{MethodCall, AreCalls, CallsNot, AreApart, asked_with}
-use Rattle.bsv_trace.specs.Reading.{nothing_of}
+use Rattle.bsv_design.specs.Schemes.{Asking, Outline}
+use Rattle.bsv_trace.specs.Lines.{MethodCall, AreCalls, CallsNot, AreApart, asked_with, nothing_of}
 use Rattle.bsv_trace.proofs.Places.{map_at}
 use Rattle.bsv_trace.proofs.Sound.{is_asked, AreFresh}
 
@@ -56,14 +54,14 @@ apart_fresh : (q : Asking) (cs : List MethodCall) → AreApart cs → AreFree q 
 apart_fresh q [] apart free = tt
 apart_fresh q (c ∷ cs) apart free = (free.0, apart_fresh (asked_with c q) cs apart.1 (still_free q c cs apart.0 free.1))
 
-free_at : (methods : List Element) (n : ℕ) (e : Element) → slice_get methods n ≡ Some e → is_asked (nothing_of methods) n ≡ false
-free_at methods n e at = ap (λ o. unwrap_or o true) (map_at (λ (x : Element). false) methods n e at)
+free_at : (methods : List Outline) (n : ℕ) (e : Outline) → slice_get methods n ≡ Some e → is_asked (nothing_of methods) n ≡ false
+free_at methods n e at = ap (λ o. unwrap_or o true) (map_at (λ (x : Outline). false) methods n e at)
 
-all_free : (methods : List Element) (texts : List (List ℕ)) (cs : List MethodCall) → AreCalls methods texts cs → AreFree (nothing_of methods) cs
+all_free : (methods : List Outline) (texts : List (List ℕ)) (cs : List MethodCall) → AreCalls methods texts cs → AreFree (nothing_of methods) cs
 all_free methods [] [] each = tt
 all_free methods [] (c ∷ cs) each = absurd each
 all_free methods (t ∷ texts) [] each = absurd each
-all_free methods (t ∷ texts) (c ∷ cs) each = (free_at methods c.method each.0.element each.0.at, all_free methods texts cs each.1)
+all_free methods (t ∷ texts) (c ∷ cs) each = (free_at methods c.method each.0.outline each.0.at, all_free methods texts cs each.1)
 
-pub calls_fresh : (methods : List Element) (texts : List (List ℕ)) (cs : List MethodCall) → AreCalls methods texts cs → AreApart cs → AreFresh (nothing_of methods) cs
+pub calls_fresh : (methods : List Outline) (texts : List (List ℕ)) (cs : List MethodCall) → AreCalls methods texts cs → AreApart cs → AreFresh (nothing_of methods) cs
 calls_fresh methods texts cs each apart = apart_fresh (nothing_of methods) cs apart (all_free methods texts cs each)

@@ -1,5 +1,5 @@
--- What the reader needs of a design, and that the requests of a line fit it.
-use Rattle.std.proofs.Common.{◌≡◌, ◌∙◌, ℕ, zero, suc, ◌≤◌, ◌<◌, ◌^◌, ◌==◌, Bool, true, false, cond, ◌&&◌, not, IsTrue, List, [], ◌∷◌, slice_get, slice_set, Some, refl, sym, ap, subst, arith}
+-- The outlines of a design can be read, and the requests of a line fit the design.
+use Rattle.std.proofs.Common.{◌≡◌, ◌∙◌, ℕ, zero, suc, ◌≤◌, ◌<◌, ◌^◌, ◌==◌, Bool, true, false, cond, ◌&&◌, not, IsTrue, List, [], ◌∷◌, map, slice_get, slice_set, Some, refl, sym, ap, subst, arith}
 use Rattle.std.specs.List.{list_all}
 use Rattle.std.proofs.Math.Logic.{∥∥₁_elim}
 use Rattle.std.proofs.Math.Bool.{Bool-set}
@@ -14,30 +14,31 @@ use Rattle.bsv_design.specs.declared.element.Role.{Role}
 use Rattle.bsv_design.specs.declared.element.Role.TheVariants as role
 use Rattle.bsv_design.specs.Designs.{Blueprint, IsDesign, IsNamed}
 use Rattle.bsv_design.specs.Roles.{is_rule}
-use Rattle.bsv_design.specs.Schemes.{Asking}
+use Rattle.bsv_design.specs.Schemes.{Asking, Outline, outline}
 use Rattle.bsv_design.specs.Seen.{blueprint}
 use Rattle.bsv_design.specs.States.{methods_in, nothing_asked, AreWordsOf, FitMethods, AskingFits}
 use Rattle.bsv_design.specs.Widths.{port_fits}
-use Rattle.bsv_trace.specs.Lines.{AreArguments, MethodCall, AreCalls, asked_with, asked_with_all}
-use Rattle.bsv_trace.specs.Reading.{in_name, ports_fit}
-use Rattle.bsv_trace.proofs.Complete.{AreReadable}
+use Rattle.bsv_trace.specs.Lines.{AreArguments, MethodCall, AreCalls, IsMethod, AreMethods, AsksFor, methods_among, in_name, nothing_of, asked_with, asked_with_all}
+use Rattle.bsv_trace.specs.Reading.{ports_fit}
+use Rattle.bsv_trace.proofs.Methods.{methods_outlined, nothing_outlined}
 
 -- ---- a method is an element that is no rule
 
-record IsMethod (es : List Element) (n : ℕ) (e : Element) : Type 0 where
-  at : slice_get es n ≡ Some e
-  acts : is_rule e.role ≡ false
+record MethodAt (es : List Element) (n : ℕ) (o : Outline) : Type 0 where
+  element : Element
+  at : slice_get es n ≡ Some element
+  is : outline element ≡ o
+  acts : is_rule element.role ≡ false
 
-method_at : (es : List Element) (n : ℕ) (e : Element) → slice_get (methods_in es) n ≡ Some e → IsMethod es n e
-method_at [] n e h = absurd cc
-method_at (x ∷ es) n e h = by (is_rule x.role) refl n h (λ m. method_at es m e)
+method_at : (es : List Element) (n : ℕ) (o : Outline) → IsMethod (map outline es) n o → MethodAt es n o
+method_at [] n o h = absurd cc
+method_at (e ∷ es) n o h = by (is_rule e.role) refl n h (λ m. method_at es m o)
   where
-    by : (r : Bool) → is_rule x.role ≡ r → (n : ℕ) → slice_get (cond r [] (x ∷ methods_in es)) n ≡ Some e → ((m : ℕ) → slice_get (methods_in es) m ≡ Some e → IsMethod es m e) → IsMethod (x ∷ es) n e
+    by : (r : Bool) → is_rule e.role ≡ r → (n : ℕ) → slice_get (cond r [] (outline e ∷ methods_among (map outline es))) n ≡ Some o → ((m : ℕ) → IsMethod (map outline es) m o → MethodAt es m o)
+        → MethodAt (e ∷ es) n o
     by true r n h others = absurd cc
-    by false r zero h others =
-        let same : x ≡ e = cc in
-        record { at = h; acts = ap (λ (y : Element). is_rule y.role) (sym same) ∙ r }
-    by false r (suc n) h others = let m = others n h in record { at = m.at; acts = m.acts }
+    by false r zero h others = let same : outline e ≡ o = cc in record { element = e; at = refl; is = same; acts = r }
+    by false r (suc n) h others = let m = others n h in record { element = m.element; at = m.at; is = m.is; acts = m.acts }
 
 -- ---- a Lower name has no bracket
 
@@ -82,22 +83,36 @@ method_name role.ActionValue text acts named = lower_in_name text named
 
 -- ---- designs
 
-of_design : (b : Blueprint) → IsDesign b → AreReadable (methods_in b.elements)
-of_design b d = record {
-  apart = λ m n x y at_x at_y same. d.apart m n x y (method_at b.elements m x at_x).at (method_at b.elements n y at_y).at same;
-  names = λ n e at. let is = method_at b.elements n e at in method_name e.role e.name is.acts (d.named n e is.at);
-  ports = λ n e at. (d.elements n e (method_at b.elements n e at).at).fits.ports;
+pub design_methods : (b : Blueprint) → IsDesign b → AreMethods (map outline b.elements)
+design_methods b d = record {
+  apart = λ m n o p at_o at_p same.
+      let first = method_at b.elements m o at_o in
+      let second = method_at b.elements n p at_p in
+      d.apart m n first.element second.element first.at second.at (ap (λ (x : Outline). x.name) first.is ∙ same ∙ sym (ap (λ (x : Outline). x.name) second.is));
+  names = λ n o at.
+      let m = method_at b.elements n o at in
+      subst (λ (x : Outline). IsTrue (list_all in_name x.name)) m.is (method_name m.element.role m.element.name m.acts (d.named n m.element m.at));
+  ports = λ n o at.
+      let m = method_at b.elements n o at in
+      subst (λ (x : Outline). IsTrue (list_all port_fits x.ports)) m.is (d.elements n m.element m.at).fits.ports;
 }
 
-pub readable : (d : Design) → AreReadable (methods_in d.elements)
-readable d = ∥∥₁_elim d.right (hlevel (Bool-set, ℕ_set)) (of_design (blueprint d))
+pub readable : (d : Design) → AreMethods (map outline d.elements)
+readable d = ∥∥₁_elim d.right (hlevel (Bool-set, ℕ_set)) (design_methods (blueprint d))
 
-all_ports : (ms : List Element) → ((n : ℕ) (e : Element) → slice_get ms n ≡ Some e → IsTrue (list_all port_fits e.arguments)) → list_all ports_fit ms ≡ true
+-- the arguments of each of these have 1 to 128 bits
+abbrev PortsFit : List Outline → Type 0
+PortsFit os = (n : ℕ) (o : Outline) → slice_get os n ≡ Some o → IsTrue (list_all port_fits o.ports)
+
+all_ports : (ms : List Element) → PortsFit (map outline ms) → list_all ports_fit ms ≡ true
 all_ports [] h = refl
-all_ports (e ∷ es) h = ap (λ b. b && list_all ports_fit es) (h 0 e refl) ∙ all_ports es (λ n. h (suc n))
+all_ports (e ∷ es) h = ap (λ b. b && list_all ports_fit es) (h 0 (outline e) refl) ∙ all_ports es (λ n. h (suc n))
 
-pub methods_fit : (ms : List Element) → AreReadable ms → IsTrue (list_all ports_fit ms)
-methods_fit ms right = all_ports ms right.ports
+design_ports : (es : List Element) → AreMethods (map outline es) → PortsFit (map outline (methods_in es))
+design_ports es right = subst PortsFit (methods_outlined es) right.ports
+
+pub methods_fit : (es : List Element) → AreMethods (map outline es) → IsTrue (list_all ports_fit (methods_in es))
+methods_fit es right = all_ports (methods_in es) (design_ports es right)
 
 -- ---- the requests of a line fit
 
@@ -115,26 +130,29 @@ words_fit (p ∷ ps) (t ∷ texts) (w ∷ ws) fits each =
     let below = subst (λ (n : ℕ). w.value < 2 ^ n) (sym same) each.0.below in
     (record { word = record { some = omega (arith, same); most = omega (arith, same); below = below }; same_width = same }, words_fit ps texts ws (both_right (port_fits p) _ fits) each.1)
 
-call_fits : (ms : List Element) (asked : List Bool) (args : List (List Bits)) (n : ℕ) (e : Element) (ws : List Bits) → FitMethods ms asked args → slice_get ms n ≡ Some e → AreWordsOf e.arguments ws
+call_fits : (ms : List Element) (asked : List Bool) (args : List (List Bits)) (n : ℕ) (o : Outline) (ws : List Bits) → FitMethods ms asked args → slice_get (map outline ms) n ≡ Some o → AreWordsOf o.ports ws
     → FitMethods ms (slice_set asked n true) (slice_set args n ws)
-call_fits [] asked args n e ws fit at words = absurd cc
-call_fits (m ∷ ms) [] args n e ws fit at words = absurd fit
-call_fits (m ∷ ms) (a ∷ asked) [] n e ws fit at words = absurd fit
-call_fits (m ∷ ms) (a ∷ asked) (old ∷ args) zero e ws fit at words =
-    let same : m ≡ e = cc in
-    (subst (λ (x : Element). AreWordsOf x.arguments ws) (sym same) words, fit.1)
-call_fits (m ∷ ms) (a ∷ asked) (old ∷ args) (suc n) e ws fit at words = (fit.0, call_fits ms asked args n e ws fit.1 at words)
+call_fits [] asked args n o ws fit at words = absurd cc
+call_fits (m ∷ ms) [] args n o ws fit at words = absurd fit
+call_fits (m ∷ ms) (a ∷ asked) [] n o ws fit at words = absurd fit
+call_fits (m ∷ ms) (a ∷ asked) (old ∷ args) zero o ws fit at words =
+    let same : outline m ≡ o = cc in
+    (subst (λ (x : Outline). AreWordsOf x.ports ws) (sym same) words, fit.1)
+call_fits (m ∷ ms) (a ∷ asked) (old ∷ args) (suc n) o ws fit at words = (fit.0, call_fits ms asked args n o ws fit.1 at words)
 
-all_fit : (ms : List Element) (q : Asking) (texts : List (List ℕ)) (cs : List MethodCall) → AreReadable ms → FitMethods ms q.asked q.args → AreCalls ms texts cs
+all_fit : (ms : List Element) (q : Asking) (texts : List (List ℕ)) (cs : List MethodCall) → PortsFit (map outline ms) → FitMethods ms q.asked q.args → AreCalls (map outline ms) texts cs
     → FitMethods ms (asked_with_all cs q).asked (asked_with_all cs q).args
-all_fit ms q [] [] right fit each = fit
-all_fit ms q [] (c ∷ cs) right fit each = absurd each
-all_fit ms q (t ∷ texts) [] right fit each = absurd each
-all_fit ms q (t ∷ texts) (c ∷ cs) right fit each =
+all_fit ms q [] [] ports fit each = fit
+all_fit ms q [] (c ∷ cs) ports fit each = absurd each
+all_fit ms q (t ∷ texts) [] ports fit each = absurd each
+all_fit ms q (t ∷ texts) (c ∷ cs) ports fit each =
     let is = each.0 in
-    let words = words_fit is.element.arguments is.pieces c.words (right.ports c.method is.element is.at) is.arguments in
-    all_fit ms (asked_with c q) texts cs right (call_fits ms q.asked q.args c.method is.element c.words fit is.at words) each.1
+    let words = words_fit is.outline.ports is.pieces c.words (ports c.method is.outline is.at) is.arguments in
+    all_fit ms (asked_with c q) texts cs ports (call_fits ms q.asked q.args c.method is.outline c.words fit is.at words) each.1
 
-pub line_fits : (es : List Element) (q : Asking) (texts : List (List ℕ)) (cs : List MethodCall) → AreReadable (methods_in es) → AskingFits es (nothing_asked es) → AreCalls (methods_in es) texts cs
-    → q ≡ asked_with_all cs (nothing_asked es) → AskingFits es q
-line_fits es q texts cs right fit each is = subst (AskingFits es) (sym is) (all_fit (methods_in es) (nothing_asked es) texts cs right fit each)
+pub line_fits : (es : List Element) (line : List ℕ) (q : Asking) → AreMethods (map outline es) → AskingFits es (nothing_asked es) → AsksFor (map outline es) line q → AskingFits es q
+line_fits es line q right fit asks =
+    let same = methods_outlined es in
+    let each = subst (λ (os : List Outline). AreCalls os asks.pieces asks.calls) same asks.each in
+    let is : q ≡ asked_with_all asks.calls (nothing_asked es) = asks.asking ∙ ap (λ os. asked_with_all asks.calls (nothing_of os)) same ∙ ap (asked_with_all asks.calls) (nothing_outlined es) in
+    subst (AskingFits es) (sym is) (all_fit (methods_in es) (nothing_asked es) asks.pieces asks.calls (design_ports es right) fit each)

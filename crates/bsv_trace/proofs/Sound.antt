@@ -7,12 +7,11 @@ use Rattle.std.specs.List.{list_all, prefix_len, join_with_byte}
 use Rattle.std.specs.Str.{bytes_eq}
 use Rattle.std.proofs.lemmas.Slice.Eq.{bytes_eq-Decides}
 use Rattle.bsv_bits.specs.Words.{Bits}
-use Rattle.bsv_design.specs.declared.element.Element.{Element}
 use Rattle.bsv_design.specs.declared.element.Port.{Port}
-use Rattle.bsv_design.specs.Schemes.{Asking}
+use Rattle.bsv_design.specs.Schemes.{Asking, Outline, ports_of}
 use Rattle.bsv_trace.specs.declared.number.Base.{Base}
 use Rattle.bsv_trace.specs.declared.number.Base.TheVariants as base
-use Rattle.bsv_trace.specs.Lines.{IsArgument, AreArguments, MethodCall, IsCall, AreCalls, asked_with, asked_with_all}
+use Rattle.bsv_trace.specs.Lines.{IsArgument, AreArguments, MethodCall, IsCall, AreCalls, in_name, asked_with, asked_with_all}
 use Rattle.bsv_trace.specs.Numbers.{IsNumber, decimal, hexadecimal, value_of}
 use Rattle.bsv_trace.specs.Reading as spec
 use Rattle.bsv_trace.specs.Reading.{HasPlaces, radix, is_digit, fitting, word_of, with_rest, digits, argument}
@@ -186,21 +185,21 @@ arguments_sound (p ∷ ps) bytes rest old new long e = by_first (argument p.widt
 
 -- ---- calls
 
-record Named (methods : List Element) (name : List ℕ) (number base : ℕ) : Type 0 where
+record Named (methods : List Outline) (name : List ℕ) (number base : ℕ) : Type 0 where
   at : ℕ
-  element : Element
-  found : slice_get methods at ≡ Some element
-  name_is : element.name ≡ name
+  outline : Outline
+  found : slice_get methods at ≡ Some outline
+  name_is : outline.name ≡ name
   number_is : number ≡ base + at
 
-by_name : (e : Element) (es : List Element) (name : List ℕ) (number base : ℕ) (t : Bool) → bytes_eq e.name name ≡ t → (if t then Some base else spec.method_from (base + 1) es name) ≡ Some number
+by_name : (e : Outline) (es : List Outline) (name : List ℕ) (number base : ℕ) (t : Bool) → bytes_eq e.name name ≡ t → (if t then Some base else spec.method_from (base + 1) es name) ≡ Some number
     → (spec.method_from (base + 1) es name ≡ Some number → Named es name number (base + 1)) → Named (e ∷ es) name number base
-by_name e es name number base true same is others = record { at = 0; element = e; found = refl; name_is = (bytes_eq-Decides e.name name).0 same; number_is = let it : base ≡ number = cc in omega arith }
+by_name e es name number base true same is others = record { at = 0; outline = e; found = refl; name_is = (bytes_eq-Decides e.name name).0 same; number_is = let it : base ≡ number = cc in omega arith }
 by_name e es name number base false same is others =
     let n = others is in
-    record { at = suc n.at; element = n.element; found = n.found; name_is = n.name_is; number_is = omega (arith, n.number_is) }
+    record { at = suc n.at; outline = n.outline; found = n.found; name_is = n.name_is; number_is = omega (arith, n.number_is) }
 
-named_sound : (methods : List Element) (name : List ℕ) (number base : ℕ) → spec.method_from base methods name ≡ Some number → Named methods name number base
+named_sound : (methods : List Outline) (name : List ℕ) (number base : ℕ) → spec.method_from base methods name ≡ Some number → Named methods name number base
 named_sound [] name number base e = absurd cc
 named_sound (m ∷ methods) name number base e = by_name m methods name number base (bytes_eq m.name name) refl e (named_sound methods name number (base + 1))
 
@@ -209,7 +208,7 @@ abbrev pub is_asked : Asking → ℕ → Bool
 is_asked q n = unwrap_or (slice_get q.asked n) true
 
 -- a call in front of what is left
-record CallRead (methods : List Element) (bytes rest : List ℕ) (q new : Asking) : Type 0 where
+record CallRead (methods : List Outline) (bytes rest : List ℕ) (q new : Asking) : Type 0 where
   text : List ℕ
   call : MethodCall
   each : IsCall methods text call
@@ -223,57 +222,57 @@ some_at [] n below = absurd (omega arith)
 some_at (x ∷ xs) zero below = (x, refl)
 some_at (x ∷ xs) (suc n) below = let less : n < length xs = omega arith in some_at xs n less
 
-by_flag : (methods : List Element) (n : ℕ) (bytes rest : List ℕ) (q new : Asking) (e : Element) (old : List Bits) (t : Bool) → is_asked q n ≡ t → slice_get methods n ≡ Some e → length old ≡ length e.arguments
-    → (if t then None else spec.asking_with n q (spec.arguments e.arguments bytes old)) ≡ Some (new, rest) → CallRead methods (e.name ++ 40 ∷ bytes) rest q new
+by_flag : (methods : List Outline) (n : ℕ) (bytes rest : List ℕ) (q new : Asking) (e : Outline) (old : List Bits) (t : Bool) → is_asked q n ≡ t → slice_get methods n ≡ Some e → length old ≡ length e.ports
+    → (if t then None else spec.asking_with n q (spec.arguments e.ports bytes old)) ≡ Some (new, rest) → CallRead methods (e.name ++ 40 ∷ bytes) rest q new
 by_flag methods n bytes rest q new e old true flag at long read = absurd cc
-by_flag methods n bytes rest q new e old false flag at long read = by_words (spec.arguments e.arguments bytes old) refl read
+by_flag methods n bytes rest q new e old false flag at long read = by_words (spec.arguments e.ports bytes old) refl read
   where
-    by_words : (o : Option (List Bits × List ℕ)) → spec.arguments e.arguments bytes old ≡ o → spec.asking_with n q o ≡ Some (new, rest) → CallRead methods (e.name ++ 40 ∷ bytes) rest q new
+    by_words : (o : Option (List Bits × List ℕ)) → spec.arguments e.ports bytes old ≡ o → spec.asking_with n q o ≡ Some (new, rest) → CallRead methods (e.name ++ 40 ∷ bytes) rest q new
     by_words None words_read made = absurd cc
     by_words (Some found) words_read made =
-        let all = arguments_sound e.arguments bytes found.1 old found.0 long words_read in
+        let all = arguments_sound e.ports bytes found.1 old found.0 long words_read in
         let both : ◌≡◌ {A = Asking × List ℕ} (asked_with (record { method = n; words = found.0 }) q, found.1) (new, rest) = cc in
         record {
           text = e.name ++ codes "(" ++ join_with_byte 44 all.pieces ++ codes ")";
           call = record { method = n; words = found.0 };
-          each = record { element = e; at = at; pieces = all.pieces; arguments = all.each; written = refl };
+          each = record { outline = e; at = at; pieces = all.pieces; arguments = all.each; written = refl };
           free = flag;
           is = ap (λ l. e.name ++ 40 ∷ l) (all.is ∙ ap (λ l. join_with_byte 44 all.pieces ++ 41 ∷ l) (ap (λ (pair : Asking × List ℕ). pair.1) both)) ∙ call_text e.name (join_with_byte 44 all.pieces) rest;
           new_is = sym (ap (λ (pair : Asking × List ℕ). pair.0) both);
         }
 
-call_of_sound : (methods : List Element) (n : ℕ) (bytes rest : List ℕ) (q new : Asking) (e : Element) → HasPlaces methods q → slice_get methods n ≡ Some e
+call_of_sound : (methods : List Outline) (n : ℕ) (bytes rest : List ℕ) (q new : Asking) (e : Outline) → HasPlaces methods q → slice_get methods n ≡ Some e
     → spec.call_of methods n bytes q ≡ Some (new, rest) → CallRead methods (e.name ++ 40 ∷ bytes) rest q new
 unfolding spec.call_of
 call_of_sound methods n bytes rest q new e has at read =
     let there = some_at q.args n (omega (arith, length_args methods q has, slice_get_within methods n e at)) in
     let long = words_at methods q has n e there.0 at there.1 in
     by_flag methods n bytes rest q new e there.0 (is_asked q n) refl at long
-    (ap (λ o. if is_asked q n then None else spec.asking_with n q (spec.arguments (spec.ports_of o) bytes there.0)) (sym at)
-    ∙ ap (λ o. if is_asked q n then None else spec.asking_with n q (spec.arguments (spec.ports_of (slice_get methods n)) bytes (unwrap_or o []))) (sym there.1)
+    (ap (λ o. if is_asked q n then None else spec.asking_with n q (spec.arguments (ports_of o) bytes there.0)) (sym at)
+    ∙ ap (λ o. if is_asked q n then None else spec.asking_with n q (spec.arguments (ports_of (slice_get methods n)) bytes (unwrap_or o []))) (sym there.1)
     ∙ read)
 
-by_found : (methods : List Element) (bytes name after rest : List ℕ) (q new : Asking) (o : Option ℕ) → HasPlaces methods q → bytes ≡ name ++ 40 ∷ after → spec.method_from 0 methods name ≡ o
+by_found : (methods : List Outline) (bytes name after rest : List ℕ) (q new : Asking) (o : Option ℕ) → HasPlaces methods q → bytes ≡ name ++ 40 ∷ after → spec.method_from 0 methods name ≡ o
     → spec.call_if methods o after q ≡ Some (new, rest) → CallRead methods bytes rest q new
 by_found methods bytes name after rest q new None has is found read = absurd cc
 by_found methods bytes name after rest q new (Some n) has is found read =
     let named = named_sound methods name n 0 found in
     let here : n ≡ named.at = omega (arith, named.number_is) in
-    let at : slice_get methods n ≡ Some named.element = ap (λ m. slice_get methods m) here ∙ named.found in
+    let at : slice_get methods n ≡ Some named.outline = ap (λ m. slice_get methods m) here ∙ named.found in
     let P : List ℕ → Type 0 = λ l. CallRead methods l rest q new in
-    subst P (ap (λ l. l ++ 40 ∷ after) named.name_is ∙ sym is) (call_of_sound methods n after rest q new named.element has at read)
+    subst P (ap (λ l. l ++ 40 ∷ after) named.name_is ∙ sym is) (call_of_sound methods n after rest q new named.outline has at read)
 
-by_bracket : (methods : List Element) (bytes name left rest : List ℕ) (q new : Asking) (o : Option (List ℕ)) → HasPlaces methods q → bytes ≡ name ++ left → spec.behind 40 left ≡ o
+by_bracket : (methods : List Outline) (bytes name left rest : List ℕ) (q new : Asking) (o : Option (List ℕ)) → HasPlaces methods q → bytes ≡ name ++ left → spec.behind 40 left ≡ o
     → spec.call_named methods name o q ≡ Some (new, rest) → CallRead methods bytes rest q new
 by_bracket methods bytes name left rest q new None has is bracket read = absurd cc
 by_bracket methods bytes name left rest q new (Some after) has is bracket read =
     by_found methods bytes name after rest q new (spec.method_from 0 methods name) has (is ∙ ap (λ l. name ++ l) (behind_is 40 left after bracket)) refl read
 
-call_sound : (methods : List Element) (bytes rest : List ℕ) (q new : Asking) → HasPlaces methods q → spec.call methods bytes q ≡ Some (new, rest) → CallRead methods bytes rest q new
+call_sound : (methods : List Outline) (bytes rest : List ℕ) (q new : Asking) → HasPlaces methods q → spec.call methods bytes q ≡ Some (new, rest) → CallRead methods bytes rest q new
 unfolding spec.call
 call_sound methods bytes rest q new has read =
-    by_bracket methods bytes (take (prefix_len spec.in_name bytes) bytes) (drop (prefix_len spec.in_name bytes) bytes) rest q new
-    (spec.behind 40 (drop (prefix_len spec.in_name bytes) bytes)) has (sym (take-append-drop (prefix_len spec.in_name bytes) bytes)) refl read
+    by_bracket methods bytes (take (prefix_len in_name bytes) bytes) (drop (prefix_len in_name bytes) bytes) rest q new
+    (spec.behind 40 (drop (prefix_len in_name bytes) bytes)) has (sym (take-append-drop (prefix_len in_name bytes) bytes)) refl read
 
 -- ---- lines
 
@@ -283,7 +282,7 @@ AreFresh q [] = Unit {0}
 AreFresh q (c ∷ cs) = (is_asked q c.method ≡ false) × AreFresh (asked_with c q) cs
 
 -- one call or more
-record CallsRead (methods : List Element) (bytes : List ℕ) (q new : Asking) : Type 0 where
+record CallsRead (methods : List Outline) (bytes : List ℕ) (q new : Asking) : Type 0 where
   text : List ℕ
   pieces : List (List ℕ)
   call : MethodCall
@@ -302,13 +301,13 @@ length_words (p ∷ ps) (t ∷ texts) [] each = absurd each
 length_words (p ∷ ps) (t ∷ texts) (w ∷ ws) each = ap suc (length_words ps texts ws each.1)
 
 -- places stay behind a call
-pub call_places : (methods : List Element) (q : Asking) (text : List ℕ) (c : MethodCall) → HasPlaces methods q → IsCall methods text c → HasPlaces methods (asked_with c q)
+pub call_places : (methods : List Outline) (q : Asking) (text : List ℕ) (c : MethodCall) → HasPlaces methods q → IsCall methods text c → HasPlaces methods (asked_with c q)
 call_places methods q text c has is =
-    let there = some_at q.args c.method (omega (arith, length_args methods q has, slice_get_within methods c.method is.element is.at)) in
+    let there = some_at q.args c.method (omega (arith, length_args methods q has, slice_get_within methods c.method is.outline is.at)) in
     with_call methods q has c.method there.0 c.words there.1
-    (length_words is.element.arguments is.pieces c.words is.arguments ∙ sym (words_at methods q has c.method is.element there.0 is.at there.1))
+    (length_words is.outline.ports is.pieces c.words is.arguments ∙ sym (words_at methods q has c.method is.outline there.0 is.at there.1))
 
-one_call : (methods : List Element) (bytes rest : List ℕ) (q new mid : Asking) → CallRead methods bytes rest q mid → rest ≡ [] → new ≡ mid → CallsRead methods bytes q new
+one_call : (methods : List Outline) (bytes rest : List ℕ) (q new mid : Asking) → CallRead methods bytes rest q mid → rest ≡ [] → new ≡ mid → CallsRead methods bytes q new
 one_call methods bytes rest q new mid first none last = record {
   text = first.text;
   pieces = [];
@@ -320,7 +319,7 @@ one_call methods bytes rest q new mid first none last = record {
   new_is = last ∙ first.new_is;
 }
 
-call_before : (methods : List Element) (bytes left : List ℕ) (q new mid : Asking) → CallRead methods bytes (32 ∷ left) q mid → CallsRead methods left mid new → CallsRead methods bytes q new
+call_before : (methods : List Outline) (bytes left : List ℕ) (q new mid : Asking) → CallRead methods bytes (32 ∷ left) q mid → CallsRead methods left mid new → CallsRead methods bytes q new
 call_before methods bytes left q new mid first others = record {
   text = first.text;
   pieces = others.text ∷ others.pieces;
@@ -332,19 +331,19 @@ call_before methods bytes left q new mid first others = record {
   new_is = others.new_is ∙ ap (asked_with_all (others.call ∷ others.calls)) first.new_is;
 }
 
-by_blank : (methods : List Element) (bytes left : List ℕ) (further : List ℕ → Asking → Option Asking) (q new mid : Asking) (b : ℕ) (t : Bool) → CallRead methods bytes (b ∷ left) q mid → (b == 32) ≡ t
+by_blank : (methods : List Outline) (bytes left : List ℕ) (further : List ℕ → Asking → Option Asking) (q new mid : Asking) (b : ℕ) (t : Bool) → CallRead methods bytes (b ∷ left) q mid → (b == 32) ≡ t
     → (if t then further left mid else None) ≡ Some new → (further left mid ≡ Some new → CallsRead methods left mid new) → CallsRead methods bytes q new
 by_blank methods bytes left further q new mid b true first blank read others =
     let same : b ≡ 32 = grind (arith, nat_tests, blank) in
     call_before methods bytes left q new mid (subst (λ n. CallRead methods bytes (n ∷ left) q mid) same first) (others read)
 by_blank methods bytes left further q new mid b false first blank read others = absurd cc
 
-by_rest : (methods : List Element) (bytes rest : List ℕ) (further : List ℕ → Asking → Option Asking) (q new mid : Asking) → CallRead methods bytes rest q mid → spec.next_call further mid rest ≡ Some new
+by_rest : (methods : List Outline) (bytes rest : List ℕ) (further : List ℕ → Asking → Option Asking) (q new mid : Asking) → CallRead methods bytes rest q mid → spec.next_call further mid rest ≡ Some new
     → ((left : List ℕ) → further left mid ≡ Some new → CallsRead methods left mid new) → CallsRead methods bytes q new
 by_rest methods bytes [] further q new mid first read others = let last : mid ≡ new = cc in one_call methods bytes [] q new mid first refl (sym last)
 by_rest methods bytes (b ∷ left) further q new mid first read others = by_blank methods bytes left further q new mid b (b == 32) first refl read (others left)
 
-by_call : (methods : List Element) (bytes : List ℕ) (further : List ℕ → Asking → Option Asking) (q new : Asking) (o : Option (Asking × List ℕ)) → HasPlaces methods q → spec.call methods bytes q ≡ o → spec.next_calls further o ≡ Some new
+by_call : (methods : List Outline) (bytes : List ℕ) (further : List ℕ → Asking → Option Asking) (q new : Asking) (o : Option (Asking × List ℕ)) → HasPlaces methods q → spec.call methods bytes q ≡ o → spec.next_calls further o ≡ Some new
     → ((left : List ℕ) (mid : Asking) → HasPlaces methods mid → further left mid ≡ Some new → CallsRead methods left mid new) → CallsRead methods bytes q new
 by_call methods bytes further q new None has first read others = absurd cc
 by_call methods bytes further q new (Some found) has first read others =
@@ -352,7 +351,7 @@ by_call methods bytes further q new (Some found) has first read others =
     let places : HasPlaces methods found.0 = subst (HasPlaces methods) (sym here.new_is) (call_places methods q here.text here.call has here.each) in
     by_rest methods bytes found.1 further q new found.0 here read (λ left. others left found.0 places)
 
-calls_sound : (n : ℕ) (methods : List Element) (bytes : List ℕ) (q new : Asking) → HasPlaces methods q → spec.calls n methods bytes q ≡ Some new → CallsRead methods bytes q new
+calls_sound : (n : ℕ) (methods : List Outline) (bytes : List ℕ) (q new : Asking) → HasPlaces methods q → spec.calls n methods bytes q ≡ Some new → CallsRead methods bytes q new
 calls_sound zero methods bytes q new has read = absurd cc
 calls_sound (suc n) methods bytes q new has read =
     by_call methods bytes (spec.calls n methods) q new (spec.call methods bytes q) has refl read (λ left mid. calls_sound n methods left mid new)
@@ -360,7 +359,7 @@ calls_sound (suc n) methods bytes q new has read =
 -- ---- lines
 
 -- the calls of a line
-pub record LineRead (methods : List Element) (bytes : List ℕ) (q new : Asking) : Type 0 where
+pub record LineRead (methods : List Outline) (bytes : List ℕ) (q new : Asking) : Type 0 where
   pub pieces : List (List ℕ)
   pub calls : List MethodCall
   pub each : AreCalls methods pieces calls
@@ -369,7 +368,7 @@ pub record LineRead (methods : List Element) (bytes : List ℕ) (q new : Asking)
   pub short : length bytes ≤ 4096
   pub new_is : new ≡ asked_with_all calls q
 
-by_length : (methods : List Element) (bytes : List ℕ) (q new : Asking) (t : Bool) → HasPlaces methods q → nat_lt 4096 (length bytes) ≡ t → (if t then None else spec.all_calls methods bytes q) ≡ Some new
+by_length : (methods : List Outline) (bytes : List ℕ) (q new : Asking) (t : Bool) → HasPlaces methods q → nat_lt 4096 (length bytes) ≡ t → (if t then None else spec.all_calls methods bytes q) ≡ Some new
     → LineRead methods bytes q new
 by_length methods bytes q new true has long read = absurd cc
 by_length methods [] q new false has long read =
@@ -379,6 +378,6 @@ by_length methods (b ∷ bytes) q new false has long read =
     let all = calls_sound (length (b ∷ bytes)) methods (b ∷ bytes) q new has read in
     record { pieces = all.text ∷ all.pieces; calls = all.call ∷ all.calls; each = all.each; fresh = all.fresh; is = all.is; short = grind (arith, nat_tests, long); new_is = all.new_is }
 
-pub read_sound : (methods : List Element) (bytes : List ℕ) (q new : Asking) → HasPlaces methods q → spec.read methods bytes q ≡ Some new → LineRead methods bytes q new
+pub read_sound : (methods : List Outline) (bytes : List ℕ) (q new : Asking) → HasPlaces methods q → spec.read methods bytes q ≡ Some new → LineRead methods bytes q new
 unfolding spec.read
 read_sound methods bytes q new has read = by_length methods bytes q new (nat_lt 4096 (length bytes)) has refl read

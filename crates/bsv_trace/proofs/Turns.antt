@@ -1,7 +1,6 @@
 -- The turns of the reader of calls.
 use Rattle.std.proofs.Common.{◌≡◌, ◌∙◌, ℕ, suc, ◌+◌, ◌-◌, ◌<◌, ◌==◌, Bool, true, false, List, [], ◌∷◌, Option, Some, None, if◌then◌else◌, ap, arith}
-use Rattle.bsv_design.specs.declared.element.Element.{Element}
-use Rattle.bsv_design.specs.Schemes.{Asking}
+use Rattle.bsv_design.specs.Schemes.{Asking, Outline}
 use Rattle.bsv_trace.specs.Reading.{behind, call, calls, next_call, next_calls}
 
 one_more : (len turn : ℕ) → turn < len → len - turn ≡ suc (len - (turn + 1))
@@ -17,7 +16,7 @@ by_blank further r [] more is = absurd cc
 by_blank further r (b ∷ next) more is = by_test further r next more (b == 32) is
 
 -- a call is read, and then a blank
-pub turn_on : (methods : List Element) (rest : List ℕ) (q r : Asking) (len turn : ℕ) (next more : List ℕ) → turn < len
+pub turn_on : (methods : List Outline) (rest : List ℕ) (q r : Asking) (len turn : ℕ) (next more : List ℕ) → turn < len
     → call methods rest q ≡ Some (r, next) → behind 32 next ≡ Some more → calls (len - turn) methods rest q ≡ calls (len - (turn + 1)) methods more r
 turn_on methods rest q r len turn next more below read is =
     ap (λ n. calls n methods rest q) (one_more len turn below)

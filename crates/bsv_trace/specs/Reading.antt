@@ -1,5 +1,5 @@
 -- The reader of a line, as functions on lists.
-use Rattle.std.specs.Prelude.{◌≡◌, ℕ, zero, suc, ◌+◌, ◌^◌, Bool, true, false, not, ◌&&◌, ◌==◌, nat_le, nat_lt, if◌then◌else◌, List, [], ◌∷◌, length, take, drop, slice_get, slice_set, map, Option, Some, None, unwrap_or}
+use Rattle.std.specs.Prelude.{◌≡◌, ℕ, zero, suc, ◌+◌, ◌^◌, Bool, true, false, ◌&&◌, ◌==◌, nat_le, nat_lt, if◌then◌else◌, List, [], ◌∷◌, length, take, drop, slice_get, slice_set, map, Option, Some, None, unwrap_or}
 use Rattle.std.specs.Borrow.{Bor}
 use Rattle.std.specs.Char.{is_ascii_digit, is_ascii_hexdigit}
 use Rattle.std.specs.List.{list_all, prefix_len}
@@ -7,12 +7,11 @@ use Rattle.std.specs.Str.{bytes_eq}
 use Rattle.bsv_bits.specs.Words.{Bits}
 use Rattle.bsv_design.specs.declared.element.Element.{Element}
 use Rattle.bsv_design.specs.declared.element.Port.{Port}
-use Rattle.bsv_design.specs.Schemes.{Asking}
-use Rattle.bsv_design.specs.States.{zeros}
+use Rattle.bsv_design.specs.Schemes.{Asking, Outline, ports_of}
 use Rattle.bsv_design.specs.Widths.{port_fits}
 use Rattle.bsv_trace.specs.declared.number.Base.{Base}
 use Rattle.bsv_trace.specs.declared.number.Base.TheVariants as base
-use Rattle.bsv_trace.specs.Lines.{asked_with}
+use Rattle.bsv_trace.specs.Lines.{in_name, asked_with}
 use Rattle.bsv_trace.specs.Numbers.{value_of}
 
 -- ---- answers
@@ -106,37 +105,30 @@ arguments (p ∷ ps) bytes words = onward (more_arguments ps 1) (argument_at p.w
 -- ---- calls
 
 -- the method of this name, counted from a number
-abbrev pub method_from : ℕ → List Element → List ℕ → Option ℕ
+abbrev pub method_from : ℕ → List Outline → List ℕ → Option ℕ
 method_from number [] name = None
-method_from number (e ∷ es) name = if bytes_eq e.name name then Some number else method_from (number + 1) es name
-
-abbrev pub ports_of : Option Element → List Port
-ports_of None = []
-ports_of (Some e) = e.arguments
+method_from number (o ∷ os) name = if bytes_eq o.name name then Some number else method_from (number + 1) os name
 
 abbrev pub asking_with : ℕ → Asking → Option (List Bits × List ℕ) → Option (Asking × List ℕ)
 asking_with number q None = None
 asking_with number q (Some found) = Some (asked_with (record { method = number; words = found.0 }) q, found.1)
 
 -- a call of this method, where it is not asked yet
-unfoldable pub call_of : List Element → ℕ → List ℕ → Asking → Option (Asking × List ℕ)
+unfoldable pub call_of : List Outline → ℕ → List ℕ → Asking → Option (Asking × List ℕ)
 call_of methods number bytes q =
     if unwrap_or (slice_get q.asked number) true then None
     else asking_with number q (arguments (ports_of (slice_get methods number)) bytes (unwrap_or (slice_get q.args number) []))
 
-abbrev pub call_if : List Element → Option ℕ → List ℕ → Asking → Option (Asking × List ℕ)
+abbrev pub call_if : List Outline → Option ℕ → List ℕ → Asking → Option (Asking × List ℕ)
 call_if methods None bytes q = None
 call_if methods (Some number) bytes q = call_of methods number bytes q
 
-abbrev pub call_named : List Element → List ℕ → Option (List ℕ) → Asking → Option (Asking × List ℕ)
+abbrev pub call_named : List Outline → List ℕ → Option (List ℕ) → Asking → Option (Asking × List ℕ)
 call_named methods name None q = None
 call_named methods name (Some bytes) q = call_if methods (method_from 0 methods name) bytes q
 
--- what is before the first bracket
-abbrev pub in_name : ℕ → Bool
-in_name b = not (b == 40)
-
-unfoldable pub call : List Element → List ℕ → Asking → Option (Asking × List ℕ)
+-- the name is what stands before the first bracket
+unfoldable pub call : List Outline → List ℕ → Asking → Option (Asking × List ℕ)
 call methods bytes q =
     call_named methods (take (prefix_len in_name bytes) bytes) (behind 40 (drop (prefix_len in_name bytes) bytes)) q
 
@@ -151,27 +143,23 @@ next_calls further None = None
 next_calls further (Some found) = next_call further found.0 found.1
 
 -- at most so many calls, with a blank between each two
-abbrev pub calls : ℕ → List Element → List ℕ → Asking → Option Asking
+abbrev pub calls : ℕ → List Outline → List ℕ → Asking → Option Asking
 calls zero methods bytes q = None
 calls (suc turns) methods bytes q = next_calls (calls turns methods) (call methods bytes q)
 
-abbrev pub all_calls : List Element → List ℕ → Asking → Option Asking
+abbrev pub all_calls : List Outline → List ℕ → Asking → Option Asking
 all_calls methods [] q = Some q
 all_calls methods (b ∷ bytes) q = calls (length (b ∷ bytes)) methods (b ∷ bytes) q
 
-unfoldable pub read : List Element → List ℕ → Asking → Option Asking
+unfoldable pub read : List Outline → List ℕ → Asking → Option Asking
 read methods bytes q = if nat_lt 4096 (length bytes) then None else all_calls methods bytes q
 
 -- ---- places
 
 -- an entry for each method, with a word for each of its arguments
-pub record HasPlaces (methods : List Element) (q : Asking) : Type 0 where
+pub record HasPlaces (methods : List Outline) (q : Asking) : Type 0 where
   pub asked : length q.asked ≡ length methods
-  pub args : map (λ ws. length ws) q.args ≡ map (λ e. length e.arguments) methods
+  pub args : map (λ ws. length ws) q.args ≡ map (λ o. length o.ports) methods
 
 abbrev pub ports_fit : Element → Bool
 ports_fit e = list_all port_fits e.arguments
-
--- nothing is asked of these methods
-abbrev pub nothing_of : List Element → Asking
-nothing_of methods = record { asked = map (λ e. false) methods; args = map (λ e. zeros e.arguments) methods }

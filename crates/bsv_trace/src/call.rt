@@ -1,7 +1,9 @@
-ghost use Rattle.std.specs.Prelude.{◌≡◌, ◌+◌, ◌<◌, ◌≤◌, ◌==◌};
-ghost use Rattle.std.specs.Prelude.{length, not, slice_get, option_map, OnSome, IfSome};
+ghost use Rattle.std.specs.Prelude.{◌≡◌, ◌+◌, ◌<◌, ◌≤◌};
+ghost use Rattle.std.specs.Prelude.{length, map, option_map, IfSome};
 ghost use Rattle.std.specs.List.{prefix_len};
+ghost use Rattle.bsv_design.specs.Schemes.{outline};
 ghost use Rattle.bsv_design.specs.Seen.{asking};
+ghost use Rattle.bsv_trace.specs.Lines.{in_name};
 ghost use Rattle.bsv_trace.specs.Reading as spec;
 
 use crate::number::argument;
@@ -95,7 +97,7 @@ fn arguments<'a>(ports: &[Port], bytes: &'a [u8], words: &mut Items<Word>) -> Op
 
 /// How many bytes stand before the first bracket.
 fn name_len(bytes: &[u8]) -> usize
-    ensures value { result ≡ prefix_len spec.in_name bytes.now }
+    ensures value { result ≡ prefix_len in_name bytes.now }
     ensures within { result ≤ length bytes.now }
 {
     bytes.iter().take_while(|b| **b != b'(').count()
@@ -103,7 +105,7 @@ fn name_len(bytes: &[u8]) -> usize
 
 /// The method of this name, by its place.
 fn method_named(methods: &[Element], name: &[u8]) -> Option<usize>
-    ensures number { result ≡ spec.method_from 0 methods.now name.now }
+    ensures number { result ≡ spec.method_from 0 (map outline methods.now) name.now }
     ensures within { IfSome result (λ number. number < length methods.now) }
 {
     for (number, method) in methods.iter().enumerate() {
@@ -123,10 +125,10 @@ fn call_of<'a>(
     requests: &mut Requests,
 ) -> Option<&'a [u8]>
     requires within { number < length methods.now }
-    requires places { spec.HasPlaces methods.now (asking requests.old) }
+    requires places { spec.HasPlaces (map outline methods.now) (asking requests.old) }
     ensures read { spec.Gives result (asking requests.new)
-        (spec.call_of methods.now number bytes.now (asking requests.old)) }
-    ensures places { spec.HasPlaces methods.now (asking requests.new) }
+        (spec.call_of (map outline methods.now) number bytes.now (asking requests.old)) }
+    ensures places { spec.HasPlaces (map outline methods.now) (asking requests.new) }
 {
     if requests.asked.as_slice()[number] {
         return None;
@@ -144,10 +146,10 @@ fn call_of<'a>(
 /// Reads a call, asks for it, and gives what is behind it.
 #[tactic(auto, unfolding(crate::specs::Reading::call))]
 fn call<'a>(methods: &[Element], bytes: &'a [u8], requests: &mut Requests) -> Option<&'a [u8]>
-    requires { spec.HasPlaces methods.now (asking requests.old) }
+    requires { spec.HasPlaces (map outline methods.now) (asking requests.old) }
     ensures read { spec.Gives result (asking requests.new)
-        (spec.call methods.now bytes.now (asking requests.old)) }
-    ensures places { spec.HasPlaces methods.now (asking requests.new) }
+        (spec.call (map outline methods.now) bytes.now (asking requests.old)) }
+    ensures places { spec.HasPlaces (map outline methods.now) (asking requests.new) }
 {
     let (name, after) = bytes.split_at(name_len(bytes));
     match behind(b'(', after) {
@@ -161,10 +163,10 @@ fn call<'a>(methods: &[Element], bytes: &'a [u8], requests: &mut Requests) -> Op
 
 /// Reads calls with a blank between each two, and asks for them. Whether there is nothing else.
 pub(crate) fn calls(methods: &[Element], bytes: &[u8], requests: &mut Requests) -> bool
-    requires { spec.HasPlaces methods.now (asking requests.old) }
+    requires { spec.HasPlaces (map outline methods.now) (asking requests.old) }
     ensures read { spec.GivesAll result (asking requests.new)
-        (spec.calls (length bytes.now) methods.now bytes.now (asking requests.old)) }
-    ensures places { spec.HasPlaces methods.now (asking requests.new) }
+        (spec.calls (length bytes.now) (map outline methods.now) bytes.now (asking requests.old)) }
+    ensures places { spec.HasPlaces (map outline methods.now) (asking requests.new) }
 {
     let mut rest = bytes;
     for turn in 0..bytes.len() {

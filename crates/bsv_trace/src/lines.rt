@@ -1,10 +1,10 @@
 ghost use Rattle.std.specs.Prelude.{◌≡◌, ◌<◌, length, map, IsTrue, OnOk, OnErr};
 ghost use Rattle.std.specs.List.{list_all};
-ghost use Rattle.bsv_design.specs.Schemes.{Asking};
+ghost use Rattle.bsv_design.specs.Schemes.{Asking, outline};
 ghost use Rattle.bsv_design.specs.Seen.{asking};
 ghost use Rattle.bsv_design.specs.States.{methods_in, nothing_asked, zeros, AskingFits};
 ghost use Rattle.bsv_design.specs.Widths.{port_fits};
-ghost use Rattle.bsv_trace.specs.Lines.{AsksFor};
+ghost use Rattle.bsv_trace.specs.Lines.{AsksFor, nothing_of};
 ghost use Rattle.bsv_trace.specs.Reading as spec;
 
 use crate::call::calls;
@@ -30,8 +30,8 @@ fn clear_words(ports: &[Port], words: &mut Items<Word>)
 /// Asks for nothing, with all arguments 0.
 fn clear(methods: &[Element], requests: &mut Requests)
     requires fit { IsTrue (list_all spec.ports_fit methods.now) }
-    requires places { spec.HasPlaces methods.now (asking requests.old) }
-    ensures { asking requests.new ≡ spec.nothing_of methods.now }
+    requires places { spec.HasPlaces (map outline methods.now) (asking requests.old) }
+    ensures { asking requests.new ≡ nothing_of (map outline methods.now) }
 {
     for (number, method) in methods.iter().enumerate() {
         requests.asked.set(number, false);
@@ -42,10 +42,10 @@ fn clear(methods: &[Element], requests: &mut Requests)
 /// Reads a line where nothing is asked yet, and asks for what it says. Whether it is a line.
 #[tactic(auto, unfolding(crate::specs::Reading::read))]
 pub(crate) fn read(methods: &[Element], bytes: &[u8], requests: &mut Requests) -> bool
-    requires { spec.HasPlaces methods.now (asking requests.old) }
+    requires { spec.HasPlaces (map outline methods.now) (asking requests.old) }
     ensures read { spec.GivesAll result (asking requests.new)
-        (spec.read methods.now bytes.now (asking requests.old)) }
-    ensures places { spec.HasPlaces methods.now (asking requests.new) }
+        (spec.read (map outline methods.now) bytes.now (asking requests.old)) }
+    ensures places { spec.HasPlaces (map outline methods.now) (asking requests.new) }
 {
     if bytes.len() > 4096 {
         return false;
@@ -60,7 +60,7 @@ pub(crate) fn read(methods: &[Element], bytes: &[u8], requests: &mut Requests) -
 fn methods_of<'a>(elements: &'a [Element], requests: &Requests) -> &'a [Element]
     requires { AskingFits elements.now (asking requests.now) }
     ensures methods { result.now ≡ methods_in elements.now }
-    ensures places { spec.HasPlaces result.now (asking requests.now) }
+    ensures places { spec.HasPlaces (map outline result.now) (asking requests.now) }
 {
     &elements[..requests.asked.len()]
 }
@@ -69,11 +69,12 @@ fn methods_of<'a>(elements: &'a [Element], requests: &Requests) -> &'a [Element]
 /// two. The requests are then those that the line asks for, and nothing is asked where it is no line.
 pub fn line(design: &Design, bytes: &[u8], requests: &mut Requests) -> Result<(), BadLine>
     requires { AskingFits design.now.elements (asking requests.old) }
-    ensures asks { OnOk result (AsksFor design.now.elements bytes.now (asking requests.new)) }
+    ensures asks { OnOk result
+        (AsksFor (map outline design.now.elements) bytes.now (asking requests.new)) }
     ensures only { OnOk result ((other : Asking) →
-        AsksFor design.now.elements bytes.now other → other ≡ asking requests.new) }
+        AsksFor (map outline design.now.elements) bytes.now other → other ≡ asking requests.new) }
     ensures bad { OnErr result ((asked : Asking) →
-        AsksFor design.now.elements bytes.now asked → ⊥) }
+        AsksFor (map outline design.now.elements) bytes.now asked → ⊥) }
     ensures nothing { OnErr result (asking requests.new ≡ nothing_asked design.now.elements) }
     ensures fits { AskingFits design.now.elements (asking requests.new) }
 {

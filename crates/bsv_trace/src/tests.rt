@@ -1,4 +1,5 @@
-ghost use Rattle.std.specs.Prelude.{◌≡◌, length, IfOk};
+ghost use Rattle.std.specs.Prelude.{◌≡◌, length, map, IfOk};
+ghost use Rattle.bsv_design.specs.Schemes.{outline};
 ghost use Rattle.bsv_design.specs.Seen.{asking};
 ghost use Rattle.bsv_trace.specs.Reading.{HasPlaces};
 
@@ -65,7 +66,7 @@ fn zeros(alloc: Global, count: usize) -> Result<Items<Word>, OutOfMemory>
 
 /// Nothing is asked of the methods.
 fn requests(alloc: Global, methods: &[Element]) -> Result<Requests, OutOfMemory>
-    ensures { IfOk result (λ requests. HasPlaces methods.now (asking requests)) }
+    ensures { IfOk result (λ requests. HasPlaces (map outline methods.now) (asking requests)) }
 {
     let mut asked = Items::new(alloc);
     let mut args = Vec::new(alloc);

@@ -1,4 +1,5 @@
-use Rattle.std.proofs.Common.{◌∙◌, length, sym}
+use Rattle.std.proofs.Common.{◌∙◌, length, map, sym}
+use Rattle.bsv_design.specs.Schemes.{outline}
 use Rattle.bsv_design.specs.Seen.{asking}
 use Rattle.bsv_trace.proofs.Turns.{turn_on}
 use Rattle.bsv_trace.proofs.call.calls.Goals as goal
@@ -6,6 +7,6 @@ use Rattle.bsv_trace.proofs.call.calls.Goals as goal
 pub loop-turn-preserved : goal.loop-turn-preserved
 loop-turn-preserved c = record {
   read = c.loop-turn.invariant.read
-      ∙ turn_on c.args.methods.now c.loop-turn.rest.now (asking c.loop-turn.requests) (asking c.call.new.requests) (length c.args.bytes.now) c.loop-turn.turn c.in-Some.next.now c.in-Some-behind.more.now c.loop-turn-test.true c.in-Some.ensures.read (sym c.in-Some-behind.ensures);
+      ∙ turn_on (map outline c.args.methods.now) c.loop-turn.rest.now (asking c.loop-turn.requests) (asking c.call.new.requests) (length c.args.bytes.now) c.loop-turn.turn c.in-Some.next.now c.in-Some-behind.more.now c.loop-turn-test.true c.in-Some.ensures.read (sym c.in-Some-behind.ensures);
   places = c.in-Some.ensures.places;
 }

@@ -1,10 +1,11 @@
-use Rattle.std.proofs.Common.{◌≡◌, ◌-◌, length}
+use Rattle.std.proofs.Common.{◌≡◌, ◌-◌, length, map}
+use Rattle.bsv_design.specs.Schemes.{outline}
 use Rattle.bsv_design.specs.Seen.{asking}
 use Rattle.bsv_trace.specs.Reading as spec
 use Rattle.bsv_trace.proofs.call.calls.Given as goal
 
 abbrev pub invariant-loop-turn : goal.invariant-loop-turn
 invariant-loop-turn l = record {
-  read : spec.calls (length l.bytes) l.methods l.bytes (asking l.fn.requests) ≡ spec.calls (length l.bytes - l.turn) l.methods l.rest (asking l.requests);
-  places : spec.HasPlaces l.methods (asking l.requests);
+  read : spec.calls (length l.bytes) (map outline l.methods) l.bytes (asking l.fn.requests) ≡ spec.calls (length l.bytes - l.turn) (map outline l.methods) l.rest (asking l.requests);
+  places : spec.HasPlaces (map outline l.methods) (asking l.requests);
 }

@@ -1,7 +1,7 @@
 use Rattle.std.proofs.Common.{◌∙◌, ap}
 use Rattle.bsv_design.specs.Seen.{asking}
 use Rattle.bsv_design.specs.States.{methods_in}
-use Rattle.bsv_trace.proofs.Asked.{methods_right, cleared_places, asks, only, bad, fits, cleared_fit}
+use Rattle.bsv_trace.proofs.Asked.{methods_right, cleared_places, asks, only, bad, nothing, fits, cleared_fit}
 use Rattle.bsv_trace.proofs.lines.line.Goals as goal
 
 pub clear-requires-clause-fit : goal.clear-requires-clause-fit
@@ -35,6 +35,10 @@ pub returns-clause-bad : goal.returns-clause-bad
 returns-clause-bad c other =
     bad c.args.design.now c.args.bytes.now c.methods_of-methods.result.now (c.methods_of-methods.ensures.methods ∙ ap methods_in c.as_slice.ensures) (asking c.clear.new.requests) c.clear.ensures
     other c.if-read.ensures.read
+
+pub returns-clause-nothing : goal.returns-clause-nothing
+returns-clause-nothing c =
+    nothing c.args.design.now c.args.bytes.now c.methods_of-methods.result.now (c.methods_of-methods.ensures.methods ∙ ap methods_in c.as_slice.ensures) (asking c.clear-2.new.requests) c.clear-2.ensures
 
 pub returns-clause-fits : goal.returns-clause-fits
 returns-clause-fits c =

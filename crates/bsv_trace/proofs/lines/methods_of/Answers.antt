@@ -1,6 +1,7 @@
-use Rattle.std.proofs.Common.{◌∙◌, ◌≤◌, ℕ, List, length, take, sym, ap, subst, arith}
+use Rattle.std.proofs.Common.{◌∙◌, ◌≤◌, ℕ, List, map, length, take, sym, ap, subst, arith}
 use Rattle.std.proofs.Math.Seq.{length-take-le}
 use Rattle.bsv_design.specs.declared.element.Element.{Element}
+use Rattle.bsv_design.specs.Schemes.{outline}
 use Rattle.bsv_design.specs.Seen.{asking}
 use Rattle.bsv_trace.specs.Reading as spec
 use Rattle.bsv_trace.proofs.Methods.{asking_places, asked_fewer, asked_front}
@@ -18,6 +19,6 @@ returns-clause-methods c =
 pub returns-clause-places : goal.returns-clause-places
 returns-clause-places c =
     let q = asking c.args.requests.now in
-    subst (λ (ms : List Element). spec.HasPlaces ms q)
+    subst (λ (ms : List Element). spec.HasPlaces (map outline ms) q)
     (sym (ap (λ (n : ℕ). take n c.args.elements.now) c.len.ensures ∙ asked_front c.args.elements.now q c.requires))
     (asking_places c.args.elements.now q c.requires)
