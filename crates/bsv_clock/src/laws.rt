@@ -99,7 +99,8 @@ pub fn fed()
 
 /// Value methods stop nothing, and nothing stops them; asking one changes nothing else of the clock.
 pub fn value_methods()
-    ensures quiet { (S : Scheme) (made : Schedule) → IsScheduleOf S made → AreQuiet S made }
+    ensures quiet { (S : Scheme) (made : Schedule) → IsLawful S → IsScheduleOf S made
+        → AreQuiet S made }
     ensures free { (aggressive : Bool) (S : Scheme) (made : Schedule) (q r : Asking) (s : List Part)
         → IsLawful S → IsScheduleOf S made → AskAlike S q r
         → HappenAlike aggressive S made q r s }
