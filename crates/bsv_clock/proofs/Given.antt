@@ -1,7 +1,7 @@
 -- What the parts are given in a clock that has settled and can be run.
-use Rattle.std.proofs.Common.{◌≡◌, ◌∙◌, ℕ, zero, suc, Bool, true, false, cond, not, ◌&&◌, List, [], ◌∷◌, ◌++◌, Option, Some, None, refl, sym, ap, subst}
+use Rattle.std.proofs.Common.{◌≡◌, ◌∙◌, ℕ, Bool, true, false, cond, not, ◌&&◌, List, [], ◌∷◌, Option, Some, None, refl, sym, ap, subst}
 use Rattle.std.specs.Prelude.{slice_get}
-use Rattle.std.specs.List.{AllByRecursion, flat_map}
+use Rattle.std.specs.List.{AllByRecursion}
 use Rattle.std.proofs.lemmas.Bool.{and_parts}
 use Rattle.bsv_prim.specs.Calls as prim
 use Rattle.bsv_prim.specs.Calls.{IsOrderly, IsReady}
@@ -15,17 +15,17 @@ use Rattle.bsv_design.specs.declared.schedule.Schedule.{Schedule}
 use Rattle.bsv_design.specs.Bodies.{Target}
 use Rattle.bsv_design.specs.Kinds.{kind_table, kind_laws}
 use Rattle.bsv_design.specs.Schemes.{Scheme, Asking, Called, is_open, guard_of, ready, calls}
-use Rattle.bsv_design.specs.Serial.{Serial, made, run_whole, by_rank, done, turn}
-use Rattle.bsv_design.specs.States.{FitsKinds, FitLook, emptied, part_at, plain}
+use Rattle.bsv_design.specs.Serial.{Serial, run_whole, by_rank, done, turn}
+use Rattle.bsv_design.specs.States.{FitsKinds, emptied, part_at, plain}
 use Rattle.bsv_design.specs.Traces.{acts, kind_at}
 use Rattle.bsv_guard.specs.ElementLaws.{call_of}
-use Rattle.bsv_guard.specs.Fitting.{IsFitCall, RequestFits}
+use Rattle.bsv_guard.specs.Fitting.{IsFitCall}
 use Rattle.bsv_guard.specs.Turns.{calls_on}
 use Rattle.bsv_guard.proofs.Ranks.{all_by_rank}
 use Rattle.bsv_clock.specs.Clocks.{may_fire}
 use Rattle.bsv_clock.specs.Feeding.{IsFed}
 use Rattle.bsv_clock.specs.Grounds.{Fit, IsLawful}
-use Rattle.bsv_clock.specs.Looks.{calls_in_turn, seen_by, look_after}
+use Rattle.bsv_clock.specs.Looks.{calls_in_turn, look_after}
 use Rattle.bsv_clock.specs.Settling.{Doing, IsSettled, decide, deed, deeds, end_of, fired_in, is_stopped, look_of}
 use Rattle.bsv_clock.specs.Steadiness.{GoInOrder}
 use Rattle.bsv_clock.proofs.CallLists.{all_append, all_map, all_from, all_at, all_on, seen_on}
@@ -65,6 +65,7 @@ module _ (g : Bool) (S : Scheme) (made : Schedule) (q : Asking) (s : List Part) 
     where
       does : List Called
       does = by_rank S.kinds (calls S q n (look_of S made s D))
+
       cases : (b : Bool) → (may_fire S q n && ready g S q n (look_of S made s D) && not (is_stopped made D n)) ≡ b → AllByRecursion P (deed (cond b (Some does) None))
       cases true e =
           let r = (and_parts (may_fire S q n) (ready g S q n (look_of S made s D)) (and_parts (may_fire S q n && ready g S q n (look_of S made s D)) (not (is_stopped made D n)) e).0).1 in

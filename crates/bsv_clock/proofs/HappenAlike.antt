@@ -11,7 +11,6 @@ use Rattle.bsv_design.specs.Schemes.{Scheme, Outline, Asking, Called, AreAlike, 
 use Rattle.bsv_design.specs.Serial.{Serial, by_rank, made, run_whole}
 use Rattle.bsv_design.specs.States.{emptied, plain}
 use Rattle.bsv_graph.specs.Edges.{numbers_below}
-use Rattle.bsv_graph.specs.Orders.{In}
 use Rattle.bsv_graph.specs.Relating.{Relating}
 use Rattle.bsv_graph.specs.Stops.{Stops}
 use Rattle.bsv_guard.specs.ElementLaws.{DoTheSame}

@@ -1,13 +1,13 @@
 -- Elements that are run whole one after the other: on each part, the calls of all of them can be applied one after the
 -- other, and the part behind them is the part behind these calls.
-use Rattle.std.proofs.Common.{◌≡◌, ◌∙◌, ℕ, zero, suc, Bool, true, false, cond, not, ◌&&◌, ◌||◌, List, [], ◌∷◌, ◌++◌, Option, Some, None, refl, sym, ap, subst, inl, inr}
-use Rattle.std.specs.Prelude.{slice_get, ◌==◌}
+use Rattle.std.proofs.Common.{◌≡◌, ◌∙◌, ℕ, zero, suc, Bool, true, not, ◌||◌, List, [], ◌∷◌, Option, Some, refl, sym, ap, subst, inl, inr}
+use Rattle.std.specs.Prelude.{slice_get}
 use Rattle.std.specs.List.{AllByRecursion}
 use Rattle.std.proofs.lemmas.Bool.{and_parts, eq-eqb}
 use Rattle.bsv_prim.specs.Calls.{IsOrderly, MayPrecede}
 use Rattle.bsv_prim.specs.Calls as prim
 use Rattle.bsv_prim.specs.Elements.{EachBefore}
-use Rattle.bsv_prim.specs.Table.{Table, Call, goes_before}
+use Rattle.bsv_prim.specs.Table.{Call, goes_before}
 use Rattle.bsv_prim.specs.declared.part.Part.{Part}
 use Rattle.bsv_prim.proofs.Orderly.{orderly_append}
 use Rattle.bsv_prim.proofs.Orderly as orderly
@@ -17,7 +17,7 @@ use Rattle.bsv_design.specs.Kinds.{kind_table}
 use Rattle.bsv_design.specs.Relations.{goes, for_all, may_precede, may_precede_of}
 use Rattle.bsv_design.specs.Schemes.{Scheme, Asking, Called, ready, calls}
 use Rattle.bsv_design.specs.Serial.{made, run_whole, Serial, done, turn}
-use Rattle.bsv_design.specs.States.{FitsKinds, part_at, plain, after_calls}
+use Rattle.bsv_design.specs.States.{FitsKinds, part_at, plain}
 use Rattle.bsv_design.specs.Traces.{kind_at}
 use Rattle.bsv_graph.specs.Orders.{In}
 use Rattle.bsv_guard.specs.ElementLaws.{ElementLaws, IsUse, call_of}

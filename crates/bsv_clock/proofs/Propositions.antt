@@ -1,22 +1,20 @@
 -- What is asked of a scheme is a proposition: there is at most one proof of it.
-use Rattle.std.proofs.Common.{◌≡◌, ◌∙◌, ℕ, ◌≤◌, ◌<◌, Bool, true, false, List, [], ◌∷◌, Option, Some, None, refl}
+use Rattle.std.proofs.Common.{ℕ, List, [], ◌∷◌, Option, Some, None}
 use Rattle.std.proofs.Math.Bool.{Bool-set}
 use Rattle.std.proofs.Math.Nat.{ℕ_set}
 use Rattle.std.proofs.Math.Bridge.{le_prop}
 use mathlib.Core.Sum.{⊎_set}
 use mathlib.Core.List.{is_set as list_set}
-use Rattle.bsv_bits.specs.Words.{Bits, IsWord}
-use Rattle.bsv_prim.specs.Table.{Table, IsWordOf, CallFits, Call}
-use Rattle.bsv_design.specs.Branches.{AreSameSites, AreSameDemands, IsSameSite, IsSameDemand, AreSameWhereTaken}
+use Rattle.bsv_bits.specs.Words.{Bits}
+use Rattle.bsv_design.specs.Branches.{AreSameSites, AreSameDemands}
 use Rattle.bsv_design.specs.declared.node.Branch.{Branch}
 use Rattle.bsv_design.specs.declared.kind.Kind.{Kind}
 use Rattle.bsv_design.specs.Bodies.{Target}
-use Rattle.bsv_design.specs.Kinds.{kind_table}
 use Rattle.bsv_design.specs.Schemes.{Scheme}
 use Rattle.bsv_design.specs.Traces.{Site, Demand, Trace}
 use Rattle.bsv_guard.specs.Fitting.{IsFitting, IsMethodOf, IsFitCall}
 use Rattle.bsv_guard.specs.Sound.{IsSound, Place}
-use Rattle.bsv_clock.specs.Grounds.{IsLawful, KeepsRules}
+use Rattle.bsv_clock.specs.Grounds.{IsLawful}
 
 option_set : {A : Type 0} → IsSet A → IsSet (Option A)
 option_set set = hlevel (⊎_set, set)

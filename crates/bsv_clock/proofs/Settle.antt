@@ -6,6 +6,7 @@ use Rattle.std.proofs.lemmas.Bool.{both_ways, cases_lt}
 use Rattle.std.proofs.lemmas.Option.{slice_get_past}
 use Rattle.bsv_prim.specs.declared.part.Part.{Part}
 use Rattle.bsv_design.specs.declared.schedule.Schedule.{Schedule}
+use Rattle.bsv_design.specs.Bodies.{Target}
 use Rattle.bsv_design.specs.Schemes.{Scheme, Outline, Asking, Called, ready, calls}
 use Rattle.bsv_design.specs.Serial.{by_rank}
 use Rattle.bsv_design.specs.States.{emptied}

@@ -1,10 +1,10 @@
 -- Where an element looks at parts that give words of their widths wherever they are open, the arguments of all its calls
 -- have their widths, also at those that are closed.
-use Rattle.std.proofs.Common.{◌≡◌, ◌∙◌, ℕ, ◌<◌, ◌≤◌, ◌^◌, Bool, true, false, cond, not, ◌&&◌, List, [], ◌∷◌, Option, Some, None, refl, sym, ap, subst, arith, ltb-true}
-use Rattle.std.specs.Prelude.{slice_get, nat_le, nat_lt, nat_eq, IsTrue}
+use Rattle.std.proofs.Common.{◌≡◌, ◌∙◌, ℕ, ◌≤◌, ◌^◌, Bool, true, false, cond, ◌&&◌, List, Option, Some, None, refl, sym, ap, subst, arith, ltb-true}
+use Rattle.std.specs.Prelude.{slice_get, nat_le, nat_lt, nat_eq}
 use Rattle.std.proofs.lemmas.Bool.{and_parts, and_from, eq-eqb, le-leb, lt-ltb}
 use Rattle.std.proofs.lemmas.Bool.Decides.{nat_tests}
-use Rattle.bsv_bits.specs.Words.{Bits, IsWord, zero_word}
+use Rattle.bsv_bits.specs.Words.{Bits, zero_word}
 use Rattle.bsv_bits.proofs.Modulo.{IsWord_zero}
 use Rattle.bsv_prim.specs.Laws.{Laws}
 use Rattle.bsv_prim.specs.declared.part.Part.{Part}
@@ -119,6 +119,7 @@ module _ (S : Scheme) (ok : IsSound S) (fits : IsFitting S) (q : Asking) (n : �
     where
       some_same : Some own ≡ Some kind → own ≡ kind
       some_same e = cc
+
       cases : (b : Bool) → (kind_table own).guard m p ≡ b → IsWordOf ((kind_table own).result_width m) (cond b ((kind_table own).result m p args) (zero_word ((kind_table own).result_width m)))
       cases true g = h g read
       cases false g = zero_fits (kind_table own) (kind_laws own) (record { method = m; args = args }) f read

@@ -4,21 +4,21 @@ use Rattle.std.specs.Prelude.{slice_get}
 use Rattle.bsv_bits.specs.Words.{Bits}
 use Rattle.bsv_prim.specs.Calls as prim
 use Rattle.bsv_prim.specs.Calls.{IsReady}
-use Rattle.bsv_prim.specs.Table.{Call, CallFits, IsWordOf}
+use Rattle.bsv_prim.specs.Table.{Call, CallFits}
 use Rattle.bsv_prim.specs.declared.part.Part.{Part}
 use Rattle.bsv_design.specs.declared.kind.Kind.{Kind}
 use Rattle.bsv_design.specs.Bodies.{Target}
 use Rattle.bsv_design.specs.Kinds.{kind_table, kind_laws}
 use Rattle.bsv_design.specs.Schemes.{Scheme, Asking, Called, Look, is_open, guard_of, result_of, ready}
 use Rattle.bsv_design.specs.Serial.{Serial}
-use Rattle.bsv_design.specs.States.{FitsKinds, emptied, part_at, plain, after_calls}
+use Rattle.bsv_design.specs.States.{FitsKinds, emptied, part_at, plain}
 use Rattle.bsv_design.specs.Traces.{acts, kind_at}
-use Rattle.bsv_guard.specs.ElementLaws.{ElementLaws, IsUse, ActsAlike}
+use Rattle.bsv_guard.specs.ElementLaws.{IsUse, ActsAlike}
 use Rattle.bsv_guard.specs.Fitting.{FittingLaws, IsFitCall, IsFitAnswer, IsMethodOf, RequestFits, StaysOpenWhereFit}
 use Rattle.bsv_guard.specs.Turns.{calls_on}
 use Rattle.bsv_guard.proofs.Fits.{fitting_keeps}
 use Rattle.bsv_guard.proofs.Keeps.{sound_keeps}
-use Rattle.bsv_clock.specs.Grounds.{Fit, IsLawful}
+use Rattle.bsv_clock.specs.Grounds.{IsLawful}
 use Rattle.bsv_clock.specs.Looks.{look_after, clock_look, calls_in_turn, seen_by}
 use Rattle.bsv_clock.specs.Steadiness.{AllGo, GoInOrder, IsSteady, LooksDecide}
 use Rattle.bsv_clock.proofs.CallLists.{seen_on}

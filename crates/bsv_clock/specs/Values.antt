@@ -1,11 +1,11 @@
 -- Value methods in a clock: asking one changes nothing else.
-use Rattle.std.specs.Prelude.{◌≡◌, ℕ, Bool, true, false, List, slice_get, Some}
+use Rattle.std.specs.Prelude.{◌≡◌, ℕ, Bool, false, List, slice_get, Some}
 use Rattle.bsv_prim.specs.declared.part.Part.{Part}
 use Rattle.bsv_design.specs.declared.element.Role.TheVariants as role
 use Rattle.bsv_design.specs.declared.schedule.Schedule.{Schedule}
-use Rattle.bsv_design.specs.Schemes.{Scheme, Outline, Asking, ready, given}
-use Rattle.bsv_clock.specs.Clocks.{is_asked, may_fire}
-use Rattle.bsv_clock.specs.Settling.{Doing, the_clock, look_of, end_of, deeds, fires, stops_in}
+use Rattle.bsv_design.specs.Schemes.{Scheme, Outline, Asking, given}
+use Rattle.bsv_clock.specs.Clocks.{may_fire}
+use Rattle.bsv_clock.specs.Settling.{the_clock, deeds, stops_in}
 
 abbrev pub IsValueMethod : Scheme → ℕ → Type 0
 IsValueMethod S n = (o : Outline) × (slice_get S.elements n ≡ Some o) × (o.role ≡ role.Value)
