@@ -8,5 +8,7 @@
 #![tactic(auto)]
 
 mod laws;
+#[cfg(test)]
+mod tests;
 
 pub use laws::{attributes, fed, lawful, one_clock, one_run, settled, steady, value_methods};
