@@ -1,0 +1,65 @@
+-- What is known of a design, its schedule and its requests where a clock is run.
+use Rattle.std.proofs.Common.{◌≡◌, ℕ, ◌<◌, ◌≤◌, ◌^◌, true, List, [], ◌∷◌, subst, length}
+use Rattle.std.specs.Prelude.{nat_lt}
+use Rattle.std.specs.List.{AllByRecursion}
+use Rattle.std.proofs.Math.Bool.{Bool-set}
+use Rattle.std.proofs.Math.Nat.{ℕ_set}
+use Rattle.std.proofs.Math.Bridge.{le_prop}
+use Rattle.std.proofs.Math.Logic.{∥∥₁_elim}
+use Rattle.std.proofs.lemmas.Bool.{ltb-true}
+use Rattle.std.proofs.lemmas.List.{length-map}
+use Rattle.bsv_bits.specs.Words.{Bits}
+use Rattle.bsv_prim.specs.declared.part.Part.{Part}
+use Rattle.bsv_design.specs.declared.design.Design.{Design}
+use Rattle.bsv_design.specs.declared.element.Port.{Port}
+use Rattle.bsv_design.specs.declared.schedule.Schedule.{Schedule}
+use Rattle.bsv_design.specs.Designs.{IsDesign}
+use Rattle.bsv_design.specs.Schemes.{Asking, design_scheme, kinds_of, outline}
+use Rattle.bsv_design.specs.Seen.{blueprint}
+use Rattle.bsv_design.specs.States.{AreWordsOf, AskingFits, FitsKinds}
+use Rattle.bsv_graph.specs.Orders.{IsOrderOf}
+use Rattle.bsv_guard.specs.Fitting.{RequestFits}
+use Rattle.bsv_guard.proofs.DesignFits.{request_fits}
+use Rattle.bsv_clock.specs.Grounds.{Fit, IsScheduleOf}
+use Rattle.bsv_clock.proofs.Members.{once_long}
+use Rattle.bsv_clock.proofs.Stopping.{execution_order, urgency_order}
+use Rattle.bsv_serial.proofs.Placed.{all_below}
+
+words_prop : (ps : List Port) (ws : List Bits) → IsProp (AreWordsOf ps ws)
+words_prop [] [] = hlevel
+words_prop [] (w ∷ ws) = hlevel
+words_prop (p ∷ ps) [] = hlevel
+words_prop (p ∷ ps) (w ∷ ws) = hlevel (le_prop, ℕ_set, words_prop ps ws)
+
+pub requests_fit : (d : Design) (q : Asking) → AskingFits d.elements q → (n : ℕ) → RequestFits (design_scheme (blueprint d)) q n
+requests_fit d q asking n =
+    ∥∥₁_elim d.right (words_prop _ _) (λ (right : IsDesign (blueprint d)). request_fits (blueprint d) right q asking n)
+
+pub fits_together : (d : Design) (q : Asking) (s : List Part) → AskingFits d.elements q → FitsKinds (kinds_of (blueprint d)) s → Fit (design_scheme (blueprint d)) q s
+unfolding design_scheme
+fits_together d q s asking parts = record { requests = requests_fit d q asking; parts = parts }
+
+pub few_elements : (d : Design) → length d.elements < 2 ^ 32
+few_elements d =
+    let few : nat_lt (length d.elements) (2 ^ 32) ≡ true = ∥∥₁_elim d.right (Bool-set _ _) (λ (right : IsDesign (blueprint d)). right.few_elements) in
+    ltb-true _ _ few
+
+module _ (d : Design) (made : Schedule) (scheduled : IsScheduleOf (design_scheme (blueprint d)) made) where
+  count : length (design_scheme (blueprint d)).elements ≡ length d.elements
+  unfolding design_scheme
+  count = length-map d.elements outline
+
+  pub executes : IsOrderOf (length d.elements) made.execution
+  executes = subst (λ (c : ℕ). IsOrderOf c made.execution) count (execution_order (design_scheme (blueprint d)) made scheduled)
+
+  pub urges : IsOrderOf (length d.elements) made.urgency
+  urges = subst (λ (c : ℕ). IsOrderOf c made.urgency) count (urgency_order (design_scheme (blueprint d)) made scheduled)
+
+  pub execution_long : length made.execution ≤ length d.elements
+  execution_long = once_long (length d.elements) made.execution executes.once executes.below
+
+  pub urgency_long : length made.urgency ≤ length d.elements
+  urgency_long = once_long (length d.elements) made.urgency urges.once urges.below
+
+  pub execution_below : AllByRecursion (λ n. n < length d.elements) made.execution
+  execution_below = all_below (length d.elements) made.execution executes.below

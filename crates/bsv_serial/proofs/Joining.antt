@@ -1,0 +1,74 @@
+-- What an element adds to the lists of calls made on the parts, part by part.
+use Rattle.std.proofs.Common.{◌≡◌, ◌≢◌, ◌∙◌, ℕ, zero, suc, ◌<◌, Bool, true, false, cond, ◌&&◌, List, [], ◌∷◌, Option, Some, refl, sym, ap, subst, arith, length}
+use Rattle.std.specs.Prelude.{slice_get, slice_set, ◌==◌}
+use Rattle.std.proofs.lemmas.Bool.{eqb-true, eqb-false}
+use Rattle.bsv_design.specs.declared.kind.Kind.{Kind}
+use Rattle.bsv_design.specs.Schemes.{Called, taken_actions}
+use Rattle.bsv_design.specs.Traces.{Site}
+use Rattle.bsv_serial.specs.declared.made.MadeCall.{MadeCall}
+use Rattle.bsv_serial.specs.Made.{added}
+use Rattle.bsv_serial.specs.Making.{made_at, called_at, with_call, with_site, with_sites}
+use Rattle.bsv_serial.specs.Sights.{or_none}
+use Rattle.bsv_serial.proofs.Tagged.{added_on}
+
+-- the calls made on a part
+abbrev pub made_on : List (List MadeCall) → ℕ → List MadeCall
+made_on made i = or_none (slice_get made i)
+
+pub length-set : {X : Type 0} (xs : List X) (j : ℕ) (x : X) → length (slice_set xs j x) ≡ length xs
+length-set [] j x = refl
+length-set (y ∷ xs) zero x = refl
+length-set (y ∷ xs) (suc j) x = ap suc (length-set xs j x)
+
+pub set_there : {X : Type 0} (xs : List X) (i : ℕ) (x : X) → i < length xs → slice_get (slice_set xs i x) i ≡ Some x
+set_there [] i x l = absurd (omega arith)
+set_there (y ∷ xs) zero x l = refl
+set_there (y ∷ xs) (suc i) x l = set_there xs i x (omega arith)
+
+pub set_elsewhere : {X : Type 0} (xs : List X) (j i : ℕ) (x : X) → j ≢ i → slice_get (slice_set xs j x) i ≡ slice_get xs i
+set_elsewhere [] j i x o = refl
+set_elsewhere (y ∷ xs) zero zero x o = absurd (o refl)
+set_elsewhere (y ∷ xs) zero (suc i) x o = refl
+set_elsewhere (y ∷ xs) (suc j) zero x o = refl
+set_elsewhere (y ∷ xs) (suc j) (suc i) x o = set_elsewhere xs j i x (λ e. o (ap suc e))
+
+module _ (ks : List Kind) (place i : ℕ) where
+  call_on : (made : List (List MadeCall)) → i < length made → (c : Called) → (b : Bool) → (c.target.part == i) ≡ b
+      → made_on (with_call ks place made c) i ≡ cond b (added (made_at ks place c) (made_on made i)) (made_on made i)
+  unfolding with_call
+  call_on made l c true e =
+      let same = eqb-true c.target.part i e in
+      subst (λ (j : ℕ). made_on (slice_set made j (added (made_at ks place c) (made_on made j))) i ≡ added (made_at ks place c) (made_on made i)) (sym same)
+      (ap (λ (o : Option (List MadeCall)). or_none o) (set_there made i (added (made_at ks place c) (made_on made i)) l))
+  call_on made l c false e =
+      ap (λ (o : Option (List MadeCall)). or_none o) (set_elsewhere made c.target.part i (added (made_at ks place c) (made_on made c.target.part)) (eqb-false c.target.part i e))
+
+  length-call : (made : List (List MadeCall)) (c : Called) → length (with_call ks place made c) ≡ length made
+  unfolding with_call
+  length-call made c = length-set made c.target.part (added (made_at ks place c) (made_on made c.target.part))
+
+  pub length-sites : (ss : List Site) (made : List (List MadeCall)) → length (with_sites ks place made ss) ≡ length made
+  unfolding with_sites
+  length-sites [] made = refl
+  length-sites (s ∷ ss) made = length-sites ss (with_site ks place made s) ∙ one (s.action && s.taken)
+    where
+      one : (b : Bool) → length (cond b (with_call ks place made (called_at s)) made) ≡ length made
+      one true = length-call made (called_at s)
+      one false = refl
+
+  -- on a part, an element adds the calls that it makes there, one after the other
+  pub sites_on : (ss : List Site) (made : List (List MadeCall)) → i < length made → made_on (with_sites ks place made ss) i ≡ added_on ks i place (taken_actions ss) (made_on made i)
+  unfolding with_sites
+  sites_on [] made l = refl
+  sites_on (s ∷ ss) made l = cases (s.action && s.taken) (sites_on ss)
+    where
+      more : made_on (with_call ks place made (called_at s)) i ≡ cond (s.target.part == i) (added (made_at ks place (called_at s)) (made_on made i)) (made_on made i)
+      more = call_on made l (called_at s) (s.target.part == i) refl
+
+      cases : (b : Bool) → ((next : List (List MadeCall)) → i < length next → made_on (with_sites ks place next ss) i ≡ added_on ks i place (taken_actions ss) (made_on next i))
+          → made_on (with_sites ks place (cond b (with_call ks place made (called_at s)) made) ss) i
+          ≡ added_on ks i place (cond b (record { target = s.target; arguments = s.arguments } ∷ taken_actions ss) (taken_actions ss)) (made_on made i)
+      cases true ih =
+          ih (with_call ks place made (called_at s)) (subst (λ (n : ℕ). i < n) (sym (length-call made (called_at s))) l)
+          ∙ ap (added_on ks i place (taken_actions ss)) more
+      cases false ih = ih made l

@@ -1,0 +1,306 @@
+-- An element that is run on its own: where no calls are made yet, it looks at the parts as they are, and what it makes of them
+-- is its run.
+use Rattle.std.proofs.Common.{◌≡◌, ◌∙◌, ℕ, zero, suc, ◌<◌, Bool, true, false, List, [], ◌∷◌, Option, Some, None, refl, sym, ap, ap₂, subst, arith, length, replicate}
+use Rattle.std.proofs.Math.Nat.{ℕ_set}
+use Rattle.std.proofs.Math.Bridge.{le_prop}
+use Rattle.std.proofs.Math.Logic.{∥∥₁_elim}
+use Rattle.std.specs.Prelude.{slice_get}
+use Rattle.std.specs.List.{AllByRecursion}
+use Rattle.std.proofs.lemmas.List.{length-map, length-replicate}
+use Rattle.std.proofs.lemmas.Option.{slice_get_within}
+use Rattle.bsv_bits.specs.Words.{Bits}
+use Rattle.bsv_prim.specs.Calls as prim
+use Rattle.bsv_prim.specs.declared.part.Part.{Part}
+use Rattle.bsv_design.specs.declared.design.Design.{Design}
+use Rattle.bsv_design.specs.declared.design.NamedPart.{NamedPart}
+use Rattle.bsv_design.specs.declared.element.Element.{Element}
+use Rattle.bsv_design.specs.declared.element.Port.{Port}
+use Rattle.bsv_design.specs.declared.kind.Kind.{Kind}
+use Rattle.bsv_design.specs.declared.schedule.Need.{Need}
+use Rattle.bsv_design.specs.Bodies.{Target, target}
+use Rattle.bsv_design.specs.Designs.{IsDesign}
+use Rattle.bsv_design.specs.Guards.{needs_from}
+use Rattle.bsv_design.specs.Kinds.{kind_table}
+use Rattle.bsv_design.specs.Schemes.{Scheme, Outline, Asking, Called, Look, calls, design_scheme, filled, given, if_asked, kinds_of, ports_of, ready, taken_actions, value}
+use Rattle.bsv_design.specs.Seen.{blueprint}
+use Rattle.bsv_design.specs.Serial.{by_rank, made, run_whole}
+use Rattle.bsv_design.specs.States.{AreWordsOf, FitsKinds, part_at, plain}
+use Rattle.bsv_design.specs.Traces.{acts, kind_at}
+use Rattle.bsv_guard.specs.ElementLaws.{ActsAlike, IsUse}
+use Rattle.bsv_guard.specs.Fitting.{IsMethodOf, RequestFits}
+use Rattle.bsv_guard.specs.Turns.{IsTurn, TurnLaws, calls_on}
+use Rattle.bsv_guard.proofs.DesignFits.{request_fits}
+use Rattle.bsv_guard.proofs.Keeps.{sound_keeps}
+use Rattle.bsv_guard.proofs.Ranks.{all_by_rank}
+use Rattle.bsv_guard.proofs.Turns.{sound_turns}
+use Rattle.bsv_guard.proofs.Whole.{named_in}
+use Rattle.bsv_clock.specs.Grounds.{IsLawful}
+use Rattle.bsv_clock.proofs.Belonging.{lawful_design}
+use Rattle.bsv_clock.proofs.CallLists.{all_from, all_map, all_on}
+use Rattle.bsv_clock.proofs.Steadily.{looks_decide, part_fits}
+use Rattle.bsv_serial.specs.declared.made.MadeCall.{MadeCall}
+use Rattle.bsv_serial.specs.Applying.{AllCanTake, CanTake, all_behind, behind}
+use Rattle.bsv_serial.specs.AtHand.{kinds}
+use Rattle.bsv_serial.specs.Bodies.{CanBeComputed, holds, words_under}
+use Rattle.bsv_serial.specs.Made.{as_calls}
+use Rattle.bsv_serial.specs.Making.{with_sites}
+use Rattle.bsv_serial.specs.Settings.{Ground, CanRun, is_ready, sites_of, value_of, words_at}
+use Rattle.bsv_serial.specs.Sights.{CanBeApplied, CanLook, CanLookAt, MayLook, behind_seen, look_behind, or_none, part_behind}
+use Rattle.bsv_serial.specs.Turning.{CanTurn}
+use Rattle.bsv_serial.proofs.AppliedClock.{behind_all, parts_long, take_all}
+use Rattle.bsv_serial.proofs.CanRunHere.{has_widths}
+use Rattle.bsv_serial.proofs.Joining.{length-sites, made_on, sites_on}
+use Rattle.bsv_serial.proofs.LookingSoFar.{orderly_applied}
+use Rattle.bsv_serial.proofs.ReadyHere.{calls_here, given_here, mapped_get, outline_there, ready_here, use_of, value_here}
+use Rattle.bsv_serial.proofs.Tagged.{added_all, added_on, as_calls_on}
+
+-- ---- lists
+
+pub item_there : {X : Type 0} (xs : List X) (n : ℕ) → n < length xs → (x : X) × (slice_get xs n ≡ Some x)
+item_there [] n l = absurd (omega arith)
+item_there (x ∷ xs) zero l = (x, refl)
+item_there (x ∷ xs) (suc n) l = item_there xs n (omega arith)
+
+none_there : (m i : ℕ) → made_on (replicate m []) i ≡ []
+none_there zero i = refl
+none_there (suc m) zero = refl
+none_there (suc m) (suc i) = none_there m i
+
+-- ---- requests
+
+words_prop : (ps : List Port) (ws : List Bits) → IsProp (AreWordsOf ps ws)
+words_prop [] [] = hlevel
+words_prop [] (w ∷ ws) = hlevel
+words_prop (p ∷ ps) [] = hlevel
+words_prop (p ∷ ps) (w ∷ ws) = hlevel (ℕ_set, le_prop, words_prop ps ws)
+
+-- ---- one element
+
+module _ (d : Design) (guards : List (List Need)) (n : ℕ) (s : List Part) (q : Asking) (can : CanTurn d guards n s q)
+    (lists : List (List MadeCall)) (none : lists ≡ replicate (length d.parts) [])
+    (e : Element) (is : slice_get d.elements n ≡ Some e) where
+  abbrev ks : List Kind
+  ks = kinds_of (blueprint d)
+
+  abbrev S : Scheme
+  S = design_scheme (blueprint d)
+
+  abbrev pub ground : Ground
+  ground = record { kinds = ks; elements = d.elements; needs = guards; asking = q; state = s }
+
+  lawful : IsLawful S
+  lawful = lawful_design d can.rules
+
+  turns : TurnLaws S
+  turns = sound_turns S lawful.sound lawful.fitting
+
+  parts : FitsKinds S.kinds s
+  unfolding design_scheme
+  parts = can.parts
+
+  long : length s ≡ length ks
+  long = parts_long ks s can.parts
+
+  count : length lists ≡ length ks
+  count = ap (λ (ms : List (List MadeCall)). length ms) none ∙ length-replicate (length d.parts) [] ∙ sym (length-map d.parts (λ (p : NamedPart). p.kind))
+
+  request : RequestFits S q n
+  request = ∥∥₁_elim d.right (words_prop (ports_of (slice_get S.elements n)) (given S q n)) (λ (right : IsDesign (blueprint d)). request_fits (blueprint d) right q can.requests n)
+
+  -- ---- its looks
+
+  none_on : (i : ℕ) → made_on lists i ≡ []
+  none_on i = ap (λ (ms : List (List MadeCall)). made_on ms i) none ∙ none_there (length d.parts) i
+
+  abbrev here : Look
+  here = look_behind ks s lists
+
+  same_look : (t : Target) → here t ≡ plain s t
+  unfolding look_behind behind_seen
+  same_look t = ap (part_behind (kind_at ks t) t.method (part_at s t.part)) (none_on t.part) ∙ unmoved (kind_at ks t)
+    where
+      unmoved : (o : Option Kind) → part_behind o t.method (part_at s t.part) [] ≡ part_at s t.part
+      unmoved None = refl
+      unmoved (Some k) = refl
+
+  alike : ActsAlike false S q n here (plain s)
+  alike = looks_decide false S lawful q n here (plain s) (λ t u. same_look t)
+
+  kind_there : (t : Target) → IsUse S n t → (kind : Kind) × (kind_at ks t ≡ Some kind) × (t.method < (kind_table kind).methods)
+  unfolding design_scheme
+  kind_there t u = cases (kind_at ks t) refl (lawful.fitting.methods n t u)
+    where
+      cases : (o : Option Kind) → kind_at ks t ≡ o → IsMethodOf o t.method → (kind : Kind) × (kind_at ks t ≡ Some kind) × (t.method < (kind_table kind).methods)
+      cases None e m = absurd m
+      cases (Some kind) e m = (kind, e, m)
+
+  can_look : (t : Target) → IsUse S n t → CanLookAt ks s lists t
+  can_look t u =
+      let k = kind_there t u in
+      record {
+        there = subst (λ (m : ℕ). t.part < m) (sym long) (slice_get_within ks t.part k.0 k.1);
+        may = subst (λ (o : Option Kind). MayLook o t.method (part_at s t.part) (made_on lists t.part)) (sym k.1)
+            (subst (CanLook k.0 t.method (part_at s t.part)) (sym (none_on t.part))
+            (record { method = k.2; part = part_fits ks s can.parts t.part k.0 k.1; methods = tt; calls = tt }));
+      }
+
+  -- ---- it can be computed
+
+  abbrev arguments : List Bits
+  arguments = filled e.arguments (if_asked (slice_get q.asked n) (slice_get q.args n))
+
+  given_fits : AreWordsOf e.arguments arguments
+  given_fits =
+      subst (AreWordsOf e.arguments) (given_here d q n e is)
+      (subst (λ (o : Option Outline). AreWordsOf (ports_of o) (given S q n)) (outline_there d q n e is) request)
+
+  computed : CanBeComputed ks s lists e arguments
+  unfolding design_scheme
+  computed = record {
+    widths = has_widths d n e is;
+    given = given_fits;
+    looks = λ k c at_k. can_look (target c) (use_of d q n e is k c at_k);
+    seen = plain s;
+    fits = turns.plain_fits s parts;
+    same = λ k c at_k. same_look (target c);
+  }
+
+  needs_now : slice_get guards n ≡ Some (needs_from ks 0 e.calls)
+  needs_now = ap (λ (ns : List (List Need)). slice_get ns n) can.needs ∙ mapped_get (λ (x : Element). needs_from ks 0 x.calls) d.elements n e is
+
+  pub can_run : CanRun ground lists n
+  can_run = record {
+    element = e;
+    is = is;
+    body = computed;
+    needs = needs_now;
+    named = named_in d n e ks e.calls is refl refl;
+  }
+
+  pub ready_now : is_ready ground lists n ≡ ready false S q n (plain s)
+  unfolding is_ready
+  ready_now =
+      ap (λ (o : Option Element). ready_in o) is
+      ∙ ap (λ (o : Option (List Need)). holds ks here e (or_none o) arguments) needs_now
+      ∙ ready_here d q n e is guards can.needs here ∙ alike.same_ready
+    where
+      ready_in : Option Element → Bool
+      ready_in None = false
+      ready_in (Some e) = holds ks here e (or_none (slice_get guards n)) (filled e.arguments (if_asked (slice_get q.asked n) (slice_get q.args n)))
+
+  words_now : words_at ground lists n ≡ words_under ks here e arguments
+  unfolding words_at
+  words_now = ap (λ (o : Option Element). words_in o) is
+    where
+      words_in : Option Element → List Bits
+      words_in None = []
+      words_in (Some e) = words_under ks here e (filled e.arguments (if_asked (slice_get q.asked n) (slice_get q.args n)))
+
+  -- ---- it is run
+
+  module _ (is_open : ready false S q n (plain s) ≡ true) where
+    is_turn : IsTurn false S q n s
+    is_turn = record { rule = can.rules n; request = request; parts = parts; is_ready = is_open }
+
+    pub fits_behind : FitsKinds ks (run_whole S q n s)
+    unfolding design_scheme
+    fits_behind = turns.still_fits false q n s is_turn
+
+  module _ (ws : List Bits) (words : ws ≡ words_at ground lists n) where
+    pub value_now : value_of ws (slice_get d.elements n) ≡ value S q n (plain s)
+    value_now =
+        ap₂ (λ (vs : List Bits) (o : Option Element). value_of vs o) (words ∙ words_now) is
+        ∙ value_here d q n e is here ∙ alike.same_value
+
+    calls_now : taken_actions (sites_of ks ws (slice_get d.elements n)) ≡ calls S q n (plain s)
+    calls_now =
+        ap₂ (λ (vs : List Bits) (o : Option Element). taken_actions (sites_of ks vs o)) (words ∙ words_now) is
+        ∙ calls_here d q n e is here ∙ alike.same_calls
+
+    abbrev next : List (List MadeCall)
+    next = with_sites ks 0 lists (sites_of ks ws (slice_get d.elements n))
+
+    next_long : length next ≡ length ks
+    next_long = length-sites ks 0 0 (sites_of ks ws (slice_get d.elements n)) lists ∙ count
+
+    next_on : (i : ℕ) → i < length ks → as_calls (made_on next i) ≡ calls_on i (made S q n s)
+    unfolding design_scheme
+    next_on i l =
+        ap (λ (ms : List MadeCall). as_calls ms)
+        (sites_on ks 0 i (sites_of ks ws (slice_get d.elements n)) lists (subst (λ (k : ℕ). i < k) (sym count) l)
+        ∙ ap₂ (λ (cs : List Called) (ms : List MadeCall). added_on ks i 0 cs ms) calls_now (none_on i)
+        ∙ added_all ks i 0 (calls S q n (plain s)))
+        ∙ as_calls_on ks i 0 (by_rank ks (calls S q n (plain s)))
+
+    module _ (i : ℕ) (kind : Kind) (at_i : slice_get ks i ≡ Some kind) where
+      acting : AllByRecursion (λ c. (kind_table kind).is_action c.method ≡ true) (calls_on i (made S q n s))
+      unfolding design_scheme
+      acting =
+          all_on (λ c. (kind_table kind).is_action c.method ≡ true) i (made S q n s)
+          (all_by_rank ks (λ c. c.target.part ≡ i → (kind_table kind).is_action c.target.method ≡ true) (calls S q n (plain s))
+          (all_map (λ c. acts (kind_at ks c.target) c.target.method ≡ true) (λ c. c.target.part ≡ i → (kind_table kind).is_action c.target.method ≡ true)
+          (λ c a p. sym (ap (λ (o : Option Kind). acts o c.target.method) (ap (slice_get ks) p ∙ at_i)) ∙ a) (calls S q n (plain s))
+          (all_from (λ c. acts (kind_at ks c.target) c.target.method ≡ true) (calls S q n (plain s))
+          (λ k c x. ((sound_keeps S lawful.sound).within q n (plain s) k c x).1))))
+
+      one_behind : behind kind (part_at s i) (made_on next i) ≡ part_at (run_whole S q n s) i
+      unfolding design_scheme run_whole
+      one_behind =
+          ap (prim.after_calls (kind_table kind) (part_at s i)) (next_on i (slice_get_within ks i kind at_i))
+          ∙ sym (turns.each_part s parts (made S q n s) i kind at_i)
+
+    module _ (is_open : ready false S q n (plain s) ≡ true) where
+      one_takes : (i : ℕ) (kind : Kind) → slice_get ks i ≡ Some kind → CanTake kind (part_at s i) (made_on next i)
+      unfolding design_scheme
+      one_takes i kind at_i = record {
+        part = part_fits ks s can.parts i kind at_i;
+        calls = subst (CanBeApplied (kind_table kind) (part_at s i)) (sym (next_on i (slice_get_within ks i kind at_i)))
+            (orderly_applied (kind_table kind) (part_at s i) (calls_on i (made S q n s)) (turns.in_turn false q n s (is_turn is_open) i kind at_i) (acting i kind at_i));
+      }
+
+      pub takes : AllCanTake ks s next
+      takes = take_all ks s next long next_long one_takes
+
+      pub behind_is : all_behind ks s next ≡ run_whole S q n s
+      behind_is = behind_all ks s (run_whole S q n s) next long (parts_long ks (run_whole S q n s) (fits_behind is_open)) next_long one_behind
+
+-- ---- as the code has it: the element is found, and these are the parts
+
+module _ (d : Design) (guards : List (List Need)) (n : ℕ) (s : List Part) (q : Asking) (can : CanTurn d guards n s q)
+    (lists : List (List MadeCall)) (none : lists ≡ replicate (length d.parts) []) (ps : List Part) (same : ps ≡ s) where
+  found : (e : Element) × (slice_get d.elements n ≡ Some e)
+  found = item_there d.elements n can.element
+
+  abbrev on : List Part → Ground
+  on xs = record { kinds = kinds_of (blueprint d); elements = d.elements; needs = guards; asking = q; state = xs }
+
+  pub can_run_on : CanRun (on ps) lists n
+  can_run_on = subst (λ (xs : List Part). CanRun (on xs) lists n) (sym same) (can_run d guards n s q can lists none found.0 found.1)
+
+  pub ready_on : is_ready (on ps) lists n ≡ ready false (design_scheme (blueprint d)) q n (plain s)
+  ready_on = ap (λ (xs : List Part). is_ready (on xs) lists n) same ∙ ready_now d guards n s q can lists none found.0 found.1
+
+  pub fits_on : ready false (design_scheme (blueprint d)) q n (plain s) ≡ true → FitsKinds (kinds_of (blueprint d)) (run_whole (design_scheme (blueprint d)) q n s)
+  fits_on is_open = fits_behind d guards n s q can lists none found.0 found.1 is_open
+
+  module _ (ws : List Bits) (words : ws ≡ words_at (on ps) lists n) where
+    words_on : ws ≡ words_at (on s) lists n
+    words_on = words ∙ ap (λ (xs : List Part). words_at (on xs) lists n) same
+
+    pub value_on : value_of ws (slice_get d.elements n) ≡ value (design_scheme (blueprint d)) q n (plain s)
+    value_on = value_now d guards n s q can lists none found.0 found.1 ws words_on
+
+    module _ (is_open : ready false (design_scheme (blueprint d)) q n (plain s) ≡ true) (parts : List Part) (are : parts ≡ s)
+        (named : List NamedPart) (are_named : named ≡ d.parts) (made : List (List MadeCall))
+        (are_made : made ≡ with_sites (kinds_of (blueprint d)) 0 lists (sites_of (kinds_of (blueprint d)) ws (slice_get d.elements n))) where
+      pub takes_on : AllCanTake (kinds named) parts made
+      takes_on =
+          subst (λ (xs : List NamedPart). AllCanTake (kinds xs) parts made) (sym are_named)
+          (subst (λ (xs : List Part). AllCanTake (kinds d.parts) xs made) (sym are)
+          (subst (AllCanTake (kinds d.parts) s) (sym are_made) (takes d guards n s q can lists none found.0 found.1 ws words_on is_open)))
+
+      pub behind_on : all_behind (kinds named) parts made ≡ run_whole (design_scheme (blueprint d)) q n s
+      behind_on =
+          ap (λ (xs : List NamedPart). all_behind (kinds xs) parts made) are_named
+          ∙ ap₂ (λ (xs : List Part) (ms : List (List MadeCall)). all_behind (kinds d.parts) xs ms) are are_made
+          ∙ behind_is d guards n s q can lists none found.0 found.1 ws words_on is_open

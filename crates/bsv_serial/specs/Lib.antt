@@ -1,0 +1,12 @@
+pub mod Made
+pub mod Sights
+pub mod Bodies
+pub mod Making
+pub mod Settings
+pub mod Applying
+pub mod Deciding
+pub mod AtHand
+pub mod Telling
+pub mod Rooms
+pub mod Placing
+pub mod Turning
