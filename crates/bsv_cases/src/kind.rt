@@ -27,10 +27,9 @@ pub(crate) enum Kind {
     MethodBehindRule,
     NoImplicit,
     FireWhenEnabled,
-    NotYet,
 }
 
-const KINDS: [Kind; 27] = [
+const KINDS: [Kind; 26] = [
     Kind::Limit,
     Kind::BadByte,
     Kind::OpenComment,
@@ -57,7 +56,6 @@ const KINDS: [Kind; 27] = [
     Kind::MethodBehindRule,
     Kind::NoImplicit,
     Kind::FireWhenEnabled,
-    Kind::NotYet,
 ];
 
 impl Kind {
@@ -90,7 +88,6 @@ impl Kind {
             Kind::MethodBehindRule => "MethodBehindRule",
             Kind::NoImplicit => "NoImplicit",
             Kind::FireWhenEnabled => "FireWhenEnabled",
-            Kind::NotYet => "NotYet",
         }
     }
 
@@ -123,7 +120,6 @@ impl Kind {
             Kind::MethodBehindRule => 25,
             Kind::NoImplicit => 20,
             Kind::FireWhenEnabled => 19,
-            Kind::NotYet => 0,
         }
     }
 

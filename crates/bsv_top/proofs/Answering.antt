@@ -1,76 +1,115 @@
--- All words and contents have an answer, and all their answers have one status.
-use Rattle.std.proofs.Common.{◌≡◌, ℕ, ◌+◌, Bool, true, false, List, [], ◌∷◌, codes, refl, sym, ap, ◌∙◌}
-use Rattle.std.specs.Str.{bytes_eq}
-use Rattle.std.proofs.lemmas.Slice.Eq.{bytes_eq-Decides}
-use Rattle.bsv_flow.specs.Refusals.{refusal_line}
+-- What a run over a trace answers.
+use Rattle.std.proofs.Common.{◌≡◌, ℕ, ◌+◌, false, List, [], ◌++◌, length, refl, sym, subst, arith}
+use Rattle.bsv_prim.specs.declared.part.Part.{Part}
+use Rattle.bsv_design.specs.declared.schedule.Schedule.{Schedule}
+use Rattle.bsv_design.specs.Schemes.{Scheme, Asking, tree_scheme}
+use Rattle.bsv_design.specs.States.{FitsKinds, opening}
+use Rattle.bsv_design.specs.Trees.{Hierarchy}
+use Rattle.bsv_io.specs.Writing.{Writing}
+use Rattle.bsv_clock.specs.Grounds.{IsLawful, IsScheduleOf}
+use Rattle.bsv_clock.specs.Runs.{AllFit, Row, Continues, Runs}
+use Rattle.bsv_clock.proofs.OneRun.{opening_fits}
+use Rattle.bsv_flow.specs.Compilings.{IsPlanned}
+use Rattle.bsv_flow.specs.Schedulings.{subject}
 use Rattle.bsv_top.specs.declared.status.Status.{Status}
 use Rattle.bsv_top.specs.declared.status.Status.TheVariants as status
 use Rattle.bsv_top.specs.Answers as a
-use Rattle.bsv_top.specs.Answers.{Answer, Asks, HasAnswer, HasNoForm, schedule_words, sim_words, usage_line, not_yet_line, trace_fault_line}
-use Rattle.bsv_top.specs.Running.{report_so_far}
-use Rattle.bsv_top.specs.Traces.{clocks_of}
-use Rattle.bsv_top.proofs.Plains.{Decides, decide}
-use Rattle.bsv_top.proofs.Scheduled.{no_form, plan_answer, plan_status}
-use Rattle.bsv_top.proofs.Decided.{Verdict, verdict, done_answer, bad_answer, status_of_usage, status_once}
+use Rattle.bsv_top.specs.Answers.{Answer, HasAnswer, sim_words, trace_fault_line}
+use Rattle.bsv_top.specs.LaidOut.{IsLaidOut}
+use Rattle.bsv_top.specs.Outcomes.{OutputBegun, begun}
+use Rattle.bsv_top.specs.Reports.{report}
+use Rattle.bsv_top.specs.Running.{IsBegun, state_behind}
+use Rattle.bsv_top.specs.Traces.{AreAsked, AreAskedToBad, IsClean, lines_of}
+use Rattle.bsv_top.proofs.Asked.{Verdict, asked_append, bad_append, total, verdict}
+use Rattle.bsv_top.proofs.Grounds as grounds
+use Rattle.bsv_top.proofs.Happening.{Goes, rows_fit, some_run}
+use Rattle.bsv_top.proofs.Runs.{begun_further, continues_append}
 
--- words have a form or none
-data Spells (words : List (List ℕ)) : Type 0 where
-  plan : (file top : List ℕ) → words ≡ schedule_words file top → Spells words
-  form : (file top trace : List ℕ) → words ≡ sim_words file top trace → Spells words
-  none : HasNoForm words → Spells words
+module _ (words : List (List ℕ)) (contents : List ℕ → List ℕ) (file top trace : List ℕ) (spelled : words ≡ sim_words file top trace)
+    (tree : Hierarchy) (made : Schedule) (planned : IsPlanned file contents top tree made) (laid : IsLaidOut tree) where
+  abbrev S : Scheme
+  S = tree_scheme tree
 
-neither : (words : List (List ℕ)) → ((file top : List ℕ) → words ≡ schedule_words file top → ⊥) → ((file top trace : List ℕ) → words ≡ sim_words file top trace → ⊥)
-    → Spells words
-neither words no_plan no_sim = none (no_form words no_plan no_sim)
+  abbrev from : List Part
+  from = opening S.kinds
 
-plans_by : (command file top : List ℕ) (b : Bool) → bytes_eq command (codes "schedule") ≡ b → Spells (command ∷ file ∷ top ∷ [])
-plans_by command file top true same =
-    plan file top (ap (λ (first : List ℕ). first ∷ file ∷ top ∷ []) ((bytes_eq-Decides command (codes "schedule")).0 same))
-plans_by command file top false other = neither (command ∷ file ∷ top ∷ [])
-    (λ f t h.
-    let first : command ≡ codes "schedule" = cc in
-    let same = (bytes_eq-Decides command (codes "schedule")).1 first in
-    let no_value : ⊥ = cc in no_value)
-    (λ f t r h. let no_value : ⊥ = cc in no_value)
+  lawful : IsLawful S
+  lawful = grounds.lawful_here tree made laid.design laid.alike planned.planned.scheduled
 
-spells_by : (command file top trace : List ℕ) (b : Bool) → bytes_eq command (codes "sim") ≡ b → Spells (command ∷ file ∷ top ∷ trace ∷ [])
-spells_by command file top trace true same =
-    form file top trace (ap (λ (first : List ℕ). first ∷ file ∷ top ∷ trace ∷ []) ((bytes_eq-Decides command (codes "sim")).0 same))
-spells_by command file top trace false other = neither (command ∷ file ∷ top ∷ trace ∷ [])
-    (λ f t h. let no_value : ⊥ = cc in no_value)
-    (λ f t r h.
-    let first : command ≡ codes "sim" = cc in
-    let same = (bytes_eq-Decides command (codes "sim")).1 first in
-    let no_value : ⊥ = cc in no_value)
+  scheduled : IsScheduleOf S made
+  scheduled = grounds.scheduled_here tree made laid.design laid.alike planned.planned.scheduled
 
-spells : (words : List (List ℕ)) → Spells words
-spells [] = neither [] (λ f t h. let no_value : ⊥ = cc in no_value) (λ f t r h. let no_value : ⊥ = cc in no_value)
-spells (command ∷ []) = neither (command ∷ []) (λ f t h. let no_value : ⊥ = cc in no_value) (λ f t r h. let no_value : ⊥ = cc in no_value)
-spells (command ∷ file ∷ []) = neither (command ∷ file ∷ []) (λ f t h. let no_value : ⊥ = cc in no_value) (λ f t r h. let no_value : ⊥ = cc in no_value)
-spells (command ∷ file ∷ top ∷ []) = plans_by command file top (bytes_eq command (codes "schedule")) refl
-spells (command ∷ file ∷ top ∷ trace ∷ []) = spells_by command file top trace (bytes_eq command (codes "sim")) refl
-spells (command ∷ file ∷ top ∷ trace ∷ more ∷ rest) = neither (command ∷ file ∷ top ∷ trace ∷ more ∷ rest)
-    (λ f t h. let no_value : ⊥ = cc in no_value) (λ f t r h. let no_value : ⊥ = cc in no_value)
+  all_fit : (start : ℕ) (lines : List (List ℕ)) (qs : List Asking) → AreAsked S.elements start lines qs → AllFit S qs
+  all_fit = grounds.all_fit tree made laid.design laid.alike planned.planned.scheduled
 
-pub an_answer : (words : List (List ℕ)) (contents : List ℕ → List ℕ) → HasAnswer words contents
-an_answer words contents =
-    elim (spells words) [
-      | none h ↦ record { decided = status.Usage; output = []; text = usage_line; answer = a.Answer.usage h }
-      | plan file top spelled ↦ (let x = plan_answer words contents file top spelled in record { decided = x.0; output = x.1; text = x.2; answer = x.3 })
-      | form file top trace spelled ↦ elim (decide file top contents) [
-        | Decides.refused r h ↦ record { decided = status.Refused; output = []; text = refusal_line r; answer = a.Answer.refused r (Asks.sim trace spelled) h }
-        | Decides.not_yet l loaded other ↦ record { decided = status.Refused; output = []; text = not_yet_line; answer = a.Answer.not_yet l spelled loaded other }
-        | Decides.is m is_plain ↦ elim (verdict (contents trace)) [
-          | Verdict.clean whole ↦ record { decided = status.Done; output = report_so_far m (clocks_of (contents trace)); text = []; answer = done_answer words contents file top trace spelled m is_plain whole }
-          | Verdict.bad wrong ↦ record { decided = status.TraceFault; output = report_so_far m (clocks_of (contents trace)); text = trace_fault_line (clocks_of (contents trace) + 1); answer = bad_answer words contents file top trace spelled m is_plain wrong }
-        ]
-      ]
-    ]
+  all_fit_to_bad : (start : ℕ) (lines : List (List ℕ)) (qs : List Asking) → AreAskedToBad S.elements start lines qs → AllFit S qs
+  all_fit_to_bad = grounds.all_fit_to_bad tree made laid.design laid.alike planned.planned.scheduled
 
-pub one_status : (words : List (List ℕ)) (contents : List ℕ → List ℕ) (s s' : Status) (output text output' text' : List ℕ) → Answer words contents s output text → Answer words contents s' output' text' → s ≡ s'
-one_status words contents s s' output text output' text' answer other =
-    elim (spells words) [
-      | none h ↦ status_of_usage words contents s output text h answer ∙ sym (status_of_usage words contents s' output' text' h other)
-      | plan file top spelled ↦ plan_status words contents file top spelled s s' output output' text text' answer other
-      | form file top trace spelled ↦ status_once words contents file top trace s s' output text output' text' spelled answer other
-    ]
+  -- from each state that fits the run goes on
+  goes : (s : List Part) (qs : List Asking) → FitsKinds S.kinds s → AllFit S qs → Goes false S made s qs
+  goes = some_run false S made lawful scheduled (grounds.few_here tree made laid.design laid.alike planned.planned.scheduled)
+
+  -- ---- a run that goes on to the end of the trace
+
+  pub record Ends (rows : List Row) : Type 0 where
+    pub decided : Status
+    pub more : List Row
+    pub text : List ℕ
+    pub answer : Answer words contents decided (report (subject tree) (rows ++ more)) text
+
+  module _ (front rest : List (List ℕ)) (qs : List Asking) (rows : List Row) (lines : lines_of (contents trace) ≡ front ++ rest) (asked : AreAsked S.elements 0 front qs)
+      (runs : Runs false S made qs rows) where
+    abbrev end : ℕ
+    end = total front
+
+    there : end ≡ 0 + total front
+    there = omega arith
+
+    behind : (rs : List Asking) → AllFit S rs → Goes false S made (state_behind from rows) rs
+    behind rs all = goes (state_behind from rows) rs (rows_fit false S made lawful scheduled from qs rows (opening_fits S.kinds) (all_fit 0 front qs asked) runs) all
+
+    whole : (rs : List Asking) (more : List Row) → Continues false S made (state_behind from rows) rs more → Runs false S made (qs ++ rs) (rows ++ more)
+    whole rs more h = continues_append false S made from qs rs rows more runs h
+
+    ends_by : Verdict S.elements (grounds.methods_here tree made laid.design laid.alike planned.planned.scheduled) end rest → Ends rows
+    ends_by (Verdict.clean rs h) =
+        let further = behind rs (all_fit end rest rs h) in
+        record {
+          decided = status.Done;
+          more = further.rows;
+          text = [];
+          answer = a.Answer.done tree made (qs ++ rs) (rows ++ further.rows) spelled planned laid
+              (subst (λ (ls : List (List ℕ)). AreAsked S.elements 0 ls (qs ++ rs)) (sym lines) (asked_append S.elements 0 end front rest qs rs there asked h))
+              (whole rs further.rows further.continues);
+        }
+    ends_by (Verdict.bad rs h) =
+        let further = behind rs (all_fit_to_bad end rest rs h) in
+        record {
+          decided = status.TraceFault;
+          more = further.rows;
+          text = trace_fault_line (length (qs ++ rs) + 1);
+          answer = a.Answer.trace_fault tree made (qs ++ rs) (rows ++ further.rows) spelled planned laid
+              (subst (λ (ls : List (List ℕ)). AreAskedToBad S.elements 0 ls (qs ++ rs)) (sym lines) (bad_append S.elements 0 end front rest qs rs there asked h))
+              (whole rs further.rows further.continues);
+        }
+
+    pub ends : Ends rows
+    ends = ends_by (verdict S.elements (grounds.methods_here tree made laid.design laid.alike planned.planned.scheduled) end rest)
+
+  -- what was put of its report
+  pub begun_output : (start w : Writing) → IsBegun (subject tree) made start (contents trace) w → OutputBegun words contents start w
+  begun_output start w h =
+      let all = ends h.front h.rest h.qs h.rows h.lines h.asked h.runs in
+      begun all.text all.answer (begun_further (subject tree) h.rows all.more start w h.prefix)
+
+  -- there is an answer
+  pub some_answer : HasAnswer words contents
+  some_answer =
+      let all = ends [] (lines_of (contents trace)) [] [] refl tt tt in
+      record { decided = all.decided; output = report (subject tree) all.more; text = all.text; answer = all.answer }
+
+  -- a trace whose lines ask for requests has a report
+  pub clean_answer : (qs : List Asking) → IsClean S.elements (contents trace) qs → (output : List ℕ) × Answer words contents status.Done output []
+  clean_answer qs clean =
+      let run = goes from qs (opening_fits S.kinds) (all_fit 0 (lines_of (contents trace)) qs clean) in
+      (report (subject tree) run.rows, a.Answer.done tree made qs run.rows spelled planned laid clean run.continues)

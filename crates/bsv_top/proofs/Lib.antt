@@ -1,22 +1,22 @@
-pub mod Answering
-pub mod Clocked
-pub mod Decided
-pub mod Scheduled
-pub mod Fired
-pub mod Fitting
-pub mod Following
-pub mod Fronts
-pub mod Items
-pub mod OneAnswer
-pub mod OneRun
-pub mod PlainMachines
-pub mod Plains
-pub mod Printed
-pub mod Reading
-pub mod Reported
-pub mod Scanned
-pub mod StateLines
-pub mod Stopped
-pub mod Tools
-pub mod Words
-pub mod Within
+mod Listed
+mod Asked
+mod Runs
+mod Stepping
+mod Named
+mod Opening
+mod Happening
+mod Items
+mod Grounds
+mod Lifting
+mod Answering
+mod Decides
+mod Spelled
+mod OneAnswer
+mod AllAnswers
+mod Printed
+mod Stopped
+mod Opened
+mod Halted
+mod Ready
+mod Simulated
+mod Told

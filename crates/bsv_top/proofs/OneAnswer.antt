@@ -1,128 +1,267 @@
--- Two answers to one input are one: they have one output, and one fault text but for the place of a `Syntax`.
-use Rattle.std.proofs.Common.{◌≡◌, ℕ, ◌+◌, List, [], length, refl, sym, ◌∙◌, subst, arith}
+-- Two answers to one input are one: they have one status, one output, and one fault text but for the place of a `Syntax`.
+use Rattle.std.proofs.Common.{◌≡◌, ◌∙◌, ◌⊎◌, inl, inr, ℕ, ◌+◌, false, List, [], ◌∷◌, ◌++◌, length, refl, sym, ap, ap₂, subst}
+use Rattle.std.specs.Prelude.{codes}
+use Rattle.std.specs.List.{flat_map}
+use Rattle.bsv_bits.specs.Words.{Bits}
+use Rattle.bsv_prim.specs.declared.part.Part.{Part}
+use Rattle.bsv_design.specs.declared.fired.Fired.{Fired}
+use Rattle.bsv_design.specs.declared.schedule.Schedule.{Schedule}
+use Rattle.bsv_design.specs.Schemes.{Asking, tree_scheme}
+use Rattle.bsv_design.specs.States.{opening}
+use Rattle.bsv_design.specs.Trees.{Hierarchy}
+use Rattle.bsv_trace.specs.Lines.{AreMethods}
+use Rattle.bsv_trace.specs.Texts.{blocked_line, clock_text, event_lines, list_line, number_line, opening_text, result_line, state_lines, stopped_line}
+use Rattle.bsv_clock.specs.Events.{TellAlike}
+use Rattle.bsv_clock.specs.Runs.{AllFit, Row, Runs, TellRunsAlike}
+use Rattle.bsv_clock.proofs.Clocks.{clock_fed}
+use Rattle.bsv_clock.proofs.OneRun.{same_runs}
+use Rattle.bsv_clock.proofs.Steadily.{steady_scheme}
 use Rattle.bsv_flow.specs.declared.loading.Loaded.{Loaded}
 use Rattle.bsv_flow.specs.declared.refusal.Refusal.{Refusal}
-use Rattle.bsv_flow.specs.OneAnswer.{IsSameRefusal}
-use Rattle.bsv_flow.specs.Refusals.{refusal_line}
+use Rattle.bsv_flow.specs.Breaches.{element_name}
 use Rattle.bsv_flow.specs.Buildings.{IsBuilt, Rejects}
+use Rattle.bsv_flow.specs.Compilings.{IsPlanned}
+use Rattle.bsv_flow.specs.Refusals.{refusal_line}
+use Rattle.bsv_flow.specs.Schedulings.{Subject, subject}
+use Rattle.bsv_flow.proofs.Planned.{one_tree_planned, one_made_planned}
 use Rattle.bsv_flow.proofs.Trees as trees
-use Rattle.bsv_top.specs.declared.machine.Machine.{Machine}
 use Rattle.bsv_top.specs.declared.status.Status.{Status}
+use Rattle.bsv_top.specs.declared.status.Status.TheVariants as status
 use Rattle.bsv_top.specs.Answers as a
-use Rattle.bsv_top.specs.Answers.{Answer, Asks, HasNoForm, schedule_words, sim_words, usage_line, not_yet_line, trace_fault_line}
-use Rattle.bsv_top.specs.Clocks.{Row, Runs}
+use Rattle.bsv_top.specs.Answers.{Answer, Asks, HasNoForm, IsNoProgram, schedule_words, sim_words, printed, no_memory_line, trace_fault_line, usage_line}
+use Rattle.bsv_top.specs.LaidOut.{IsLaidOut}
 use Rattle.bsv_top.specs.OneAnswer.{IsSameText}
-use Rattle.bsv_top.specs.PlainPackages.{PlainLoaded, IsPlain}
-use Rattle.bsv_top.specs.Reports.{report}
-use Rattle.bsv_top.specs.Traces.{clocks_of, IsClean, HasBadLine}
-use Rattle.bsv_top.proofs.Decided.{SameParts, same_parts}
-use Rattle.bsv_top.proofs.Scheduled.{plan_output, plan_text}
-use Rattle.bsv_top.proofs.OneRun.{same_report}
-use Rattle.bsv_top.proofs.Plains.{plain_once, not_refused, not_other}
+use Rattle.bsv_top.specs.Reports.{clocks_text, report}
+use Rattle.bsv_top.specs.Traces.{IsClean, HasBadLine, lines_of}
+use Rattle.bsv_top.proofs.Asked.{asked_once, bad_once, not_both}
+use Rattle.bsv_top.proofs.Decides.{not_refused, not_other}
+use Rattle.bsv_top.proofs.Grounds as grounds
+use Rattle.bsv_top.proofs.Spelled.{forms_apart, same_asked, same_sim}
 
-same_text : (text said : List ℕ) → text ≡ said → IsSameText text said
-same_text text said e = subst (λ (t : List ℕ). IsSameText text t) e IsSameText.equal
+-- ---- reports of runs that tell the same
 
-same_line : (text said : List ℕ) (r s : Refusal) → text ≡ refusal_line r → said ≡ refusal_line s → IsSameRefusal r s → IsSameText text said
-same_line text said r s e f same =
-    subst (λ (t : List ℕ). IsSameText t said) (sym e) (subst (λ (t : List ℕ). IsSameText (refusal_line r) t) (sym f) (IsSameText.refused same))
+-- the lines of what happened, by the lists of it
+abbrev lines_by : (ℕ → List ℕ) → List ℕ → List (ℕ × ℕ) → List ℕ → List (ℕ × Bits) → List ℕ
+lines_by named list stopped blocked results =
+    list_line (codes "fired") named list ++ flat_map (stopped_line named) stopped ++ flat_map (blocked_line named) blocked ++ flat_map (result_line named) results
 
--- the fault text of a machine that runs over a trace
-data EndText (trace text : List ℕ) : Type 0 where
-  clean : IsClean trace → text ≡ [] → EndText trace text
-  bad : HasBadLine trace → text ≡ trace_fault_line (clocks_of trace + 1) → EndText trace text
+fired_same : (named : ℕ → List ℕ) (f e : Fired) → TellAlike f e → event_lines named f ≡ event_lines named e
+unfolding event_lines
+fired_same named f e h =
+    ap (λ (xs : List ℕ). lines_by named xs f.stopped.items f.blocked.items f.results.items) h.list
+    ∙ ap (λ (xs : List (ℕ × ℕ)). lines_by named e.list.items xs f.blocked.items f.results.items) h.stopped
+    ∙ ap (λ (xs : List ℕ). lines_by named e.list.items e.stopped.items xs f.results.items) h.blocked
+    ∙ ap (λ (xs : List (ℕ × Bits)). lines_by named e.list.items e.stopped.items e.blocked.items xs) h.results
 
-one_end : (trace text said : List ℕ) → EndText trace text → EndText trace said → text ≡ said
-one_end trace text said (clean whole e) (clean also f) = e ∙ sym f
-one_end trace text said (clean whole e) (bad wrong f) = absurd (omega (arith, whole, wrong))
-one_end trace text said (bad wrong e) (clean whole f) = absurd (omega (arith, whole, wrong))
-one_end trace text said (bad wrong e) (bad also f) = e ∙ sym f
+clock_same : (s : Subject) (number : ℕ) (row other : Row) → TellAlike row.fired other.fired → row.after ≡ other.after
+    → clock_text (element_name s.scheme) number row.fired s.parts row.after ≡ clock_text (element_name s.scheme) number other.fired s.parts other.after
+unfolding clock_text
+clock_same s number row other told after =
+    ap₂ (λ (events : List ℕ) (parts : List Part). number_line number ++ events ++ state_lines s.parts parts) (fired_same (element_name s.scheme) row.fired other.fired told) after
 
-module _ (contents : List ℕ → List ℕ) where
-  -- what is told where the words have a form
-  data Tells (file top trace output text : List ℕ) : Type 0 where
-    refused : (r : Refusal) → Rejects file contents top r → output ≡ [] → text ≡ refusal_line r → Tells file top trace output text
-    not_yet : (l : Loaded) → IsBuilt file contents top l → ((m : Machine) → PlainLoaded top l m → ⊥) → output ≡ [] → text ≡ not_yet_line → Tells file top trace output text
-    runs : (m : Machine) (rows : List Row) → IsPlain file top contents m → Runs m rows → length rows ≡ clocks_of (contents trace) → output ≡ report m rows → EndText (contents trace) text → Tells file top trace output text
+rows_same : (s : Subject) (number : ℕ) (rows others : List Row) → TellRunsAlike rows others → clocks_text s number rows ≡ clocks_text s number others
+rows_same s number [] [] h = refl
+rows_same s number [] (other ∷ others) h = absurd h
+rows_same s number (row ∷ rows) [] h = absurd h
+rows_same s number (row ∷ rows) (other ∷ others) h =
+    ap₂ (λ (x y : List ℕ). x ++ y) (clock_same s number row other h.0 h.1) (rows_same s (number + 1) rows others h.2)
 
-  tells_at : (file top trace file' top' trace' output text : List ℕ) → SameParts file top trace file' top' trace' → Tells file' top' trace' output text → Tells file top trace output text
-  tells_at file top trace file' top' trace' output text same told =
-      subst (λ (r : List ℕ). Tells file top r output text) same.trace_is
-      (subst (λ (t : List ℕ). Tells file t trace' output text) same.top_is
-      (subst (λ (f : List ℕ). Tells f top' trace' output text) same.file_is told))
+report_same : (s : Subject) (rows others : List Row) → TellRunsAlike rows others → report s rows ≡ report s others
+unfolding report
+report_same s rows others h = ap (λ (t : List ℕ). opening_text s.parts (opening s.scheme.kinds) ++ t) (rows_same s 1 rows others h)
 
-  module _ (file top trace output more text said : List ℕ) where
-    form_output : Tells file top trace output text → Tells file top trace more said → output ≡ more
-    form_output (refused r h e f) (refused s g d b) = e ∙ sym d
-    form_output (refused r h e f) (not_yet l loaded other d b) = e ∙ sym d
-    form_output (refused r h e f) (runs m rows is_plain run count d b) = absurd (not_refused file top contents r h m is_plain)
-    form_output (not_yet l loaded other e f) (refused s g d b) = e ∙ sym d
-    form_output (not_yet l loaded other e f) (not_yet k also none d b) = e ∙ sym d
-    form_output (not_yet l loaded other e f) (runs m rows is_plain run count d b) = absurd (not_other file top contents l loaded other m is_plain)
-    form_output (runs m rows is_plain run count e f) (refused s g d b) = absurd (not_refused file top contents s g m is_plain)
-    form_output (runs m rows is_plain run count e f) (not_yet l loaded other d b) = absurd (not_other file top contents l loaded other m is_plain)
-    form_output (runs m rows is_plain run count e f) (runs n others also again length_is d b) =
-        e ∙ same_report m n rows others (plain_once file top contents m n is_plain also) run again (count ∙ sym length_is) ∙ sym d
+-- ---- two answers say the same
 
-    form_text : Tells file top trace output text → Tells file top trace more said → IsSameText text said
-    form_text (refused r h e f) (refused s g d b) = same_line text said r s f b (trees.of_building file contents top r s h g)
-    form_text (refused r h e f) (not_yet l loaded other d b) = absurd (trees.apart file contents top l r loaded h)
-    form_text (refused r h e f) (runs m rows is_plain run count d b) = absurd (not_refused file top contents r h m is_plain)
-    form_text (not_yet l loaded other e f) (refused s g d b) = absurd (trees.apart file contents top l s loaded g)
-    form_text (not_yet l loaded other e f) (not_yet k also none d b) = same_text text said (f ∙ sym b)
-    form_text (not_yet l loaded other e f) (runs m rows is_plain run count d b) = absurd (not_other file top contents l loaded other m is_plain)
-    form_text (runs m rows is_plain run count e f) (refused s g d b) = absurd (not_refused file top contents s g m is_plain)
-    form_text (runs m rows is_plain run count e f) (not_yet l loaded other d b) = absurd (not_other file top contents l loaded other m is_plain)
-    form_text (runs m rows is_plain run count e f) (runs n others also again length_is d b) = same_text text said (one_end (contents trace) text said f b)
+pub record SameAnswer (s s' : Status) (output more text said : List ℕ) : Type 0 where
+  pub status_is : s ≡ s'
+  pub output_is : output ≡ more
+  pub text_is : IsSameText text said
+
+equal_text : (text said : List ℕ) → text ≡ said → IsSameText text said
+equal_text text said e = subst (λ (t : List ℕ). IsSameText text t) e IsSameText.equal
+
+-- ---- what an answer tells of a form
+
+module _ (words : List (List ℕ)) (contents : List ℕ → List ℕ) (file top : List ℕ) where
+  abbrev Accepted : Hierarchy → Schedule → Type 0
+  Accepted tree made = IsPlanned file contents top tree made
+
+  abbrev Clean : Hierarchy → List ℕ → List Asking → Type 0
+  Clean tree trace qs = IsClean (tree_scheme tree).elements (contents trace) qs
+
+  abbrev Bad : Hierarchy → List ℕ → List Asking → Type 0
+  Bad tree trace qs = HasBadLine (tree_scheme tree).elements (contents trace) qs
+
+  data Tells : Status → List ℕ → List ℕ → Type 0 where
+    refused : (r : Refusal) → Rejects file contents top r → Tells status.Refused [] (refusal_line r)
+    no_program : (l : Loaded) → IsBuilt file contents top l → IsNoProgram l → Tells status.OutOfMemory [] no_memory_line
+    scheduled : (tree : Hierarchy) (made : Schedule) → words ≡ schedule_words file top → Accepted tree made → Tells status.Done (printed tree made) []
+    done : (trace : List ℕ) (tree : Hierarchy) (made : Schedule) (qs : List Asking) (rows : List Row) → words ≡ sim_words file top trace → Accepted tree made → IsLaidOut tree
+        → Clean tree trace qs → Runs false (tree_scheme tree) made qs rows → Tells status.Done (report (subject tree) rows) []
+    trace_fault : (trace : List ℕ) (tree : Hierarchy) (made : Schedule) (qs : List Asking) (rows : List Row) → words ≡ sim_words file top trace → Accepted tree made → IsLaidOut tree
+        → Bad tree trace qs → Runs false (tree_scheme tree) made qs rows → Tells status.TraceFault (report (subject tree) rows) (trace_fault_line (length qs + 1))
+
+  apart : {A : Type 0} (r : Refusal) (l : Loaded) → Rejects file contents top r → IsBuilt file contents top l → A
+  apart r l h built = absurd (trees.apart file contents top l r built h)
+
+  -- two runs of one tree
+  module _ (tree : Hierarchy) (made : Schedule) (planned : Accepted tree made) (laid : IsLaidOut tree) where
+    runs_same : (qs : List Asking) (rows others : List Row) → AllFit (tree_scheme tree) qs → Runs false (tree_scheme tree) made qs rows → Runs false (tree_scheme tree) made qs others
+        → report (subject tree) rows ≡ report (subject tree) others
+    runs_same qs rows others all one two =
+        let lawful = grounds.lawful_here tree made laid.design laid.alike planned.planned.scheduled in
+        let scheduled = grounds.scheduled_here tree made laid.design laid.alike planned.planned.scheduled in
+        report_same (subject tree) rows others
+        (same_runs false (tree_scheme tree) made (steady_scheme false (tree_scheme tree) lawful) lawful scheduled
+        (λ q s together. clock_fed false (tree_scheme tree) made q s together (steady_scheme false (tree_scheme tree) lawful)) qs rows others all one two)
+
+    methods : AreMethods (tree_scheme tree).elements
+    methods = grounds.methods_here tree made laid.design laid.alike planned.planned.scheduled
+
+    done_same : (trace : List ℕ) (qs rs : List Asking) (rows others : List Row) → Clean tree trace qs → Clean tree trace rs
+        → Runs false (tree_scheme tree) made qs rows → Runs false (tree_scheme tree) made rs others → report (subject tree) rows ≡ report (subject tree) others
+    done_same trace qs rs rows others h k one two =
+        let same = asked_once (tree_scheme tree).elements methods 0 (lines_of (contents trace)) rs qs k h in
+        runs_same qs rows others (grounds.all_fit tree made laid.design laid.alike planned.planned.scheduled 0 (lines_of (contents trace)) qs h) one
+        (subst (λ (xs : List Asking). Runs false (tree_scheme tree) made xs others) same two)
+
+    fault_same : (trace : List ℕ) (qs rs : List Asking) (rows others : List Row) → Bad tree trace qs → Bad tree trace rs
+        → Runs false (tree_scheme tree) made qs rows → Runs false (tree_scheme tree) made rs others → (report (subject tree) rows ≡ report (subject tree) others) × (qs ≡ rs)
+    fault_same trace qs rs rows others h k one two =
+        let same = bad_once (tree_scheme tree).elements methods 0 (lines_of (contents trace)) rs qs k h in (
+          runs_same qs rows others (grounds.all_fit_to_bad tree made laid.design laid.alike planned.planned.scheduled 0 (lines_of (contents trace)) qs h) one
+              (subst (λ (xs : List Asking). Runs false (tree_scheme tree) made xs others) same two),
+          sym same,
+        )
+
+  -- what is told of one accepted tree, carried over to another, which is the same
+  same_trace : (trace other : List ℕ) → words ≡ sim_words file top trace → words ≡ sim_words file top other → other ≡ trace
+  same_trace trace other h k = (same_sim file top other file top trace (sym k ∙ h)).2
+
+  module _ (tree u : Hierarchy) (made other : Schedule) (p : Accepted tree made) (q : Accepted u other) where
+    tree_is : u ≡ tree
+    tree_is = one_tree_planned file contents top u tree other made q p
+
+    made_is : other ≡ made
+    made_is = one_made_planned file contents top u tree other made q p
+
+    abbrev RunsHere : Hierarchy → Schedule → List Asking → List Row → Type 0
+    RunsHere t m rs rows = Runs false (tree_scheme t) m rs rows
+
+    runs_here : (rs : List Asking) (rows : List Row) → RunsHere u other rs rows → RunsHere tree made rs rows
+    runs_here rs rows h = subst (λ (m : Schedule). RunsHere tree m rs rows) made_is (subst (λ (t : Hierarchy). RunsHere t other rs rows) tree_is h)
+
+    clean_here : (trace r : List ℕ) (rs : List Asking) → r ≡ trace → Clean u r rs → Clean tree trace rs
+    clean_here trace r rs e h = subst (λ (x : List ℕ). Clean tree x rs) e (subst (λ (t : Hierarchy). Clean t r rs) tree_is h)
+
+    bad_here : (trace r : List ℕ) (rs : List Asking) → r ≡ trace → Bad u r rs → Bad tree trace rs
+    bad_here trace r rs e h = subst (λ (x : List ℕ). Bad tree x rs) e (subst (λ (t : Hierarchy). Bad t r rs) tree_is h)
+
+    report_there : (rows : List Row) → report (subject tree) rows ≡ report (subject u) rows
+    report_there rows = ap (λ (t : Hierarchy). report (subject t) rows) (sym tree_is)
+
+  same : (s s' : Status) (output more text said : List ℕ) → Tells s output text → Tells s' more said → SameAnswer s s' output more text said
+  same s s' output more text said (refused r h) (refused e g) =
+      record { status_is = refl; output_is = refl; text_is = IsSameText.refused (trees.of_building file contents top r e h g) }
+  same s s' output more text said (refused r h) (no_program l built none) = apart r l h built
+  same s s' output more text said (refused r h) (scheduled tree made is p) = absurd (not_refused file top contents r h tree made p)
+  same s s' output more text said (refused r h) (done trace tree made qs rows is p laid clean runs) = absurd (not_refused file top contents r h tree made p)
+  same s s' output more text said (refused r h) (trace_fault trace tree made qs rows is p laid bad runs) = absurd (not_refused file top contents r h tree made p)
+  same s s' output more text said (no_program l built none) (refused r h) = apart r l h built
+  same s s' output more text said (no_program l built none) (no_program k also n) = record { status_is = refl; output_is = refl; text_is = IsSameText.equal }
+  same s s' output more text said (no_program l built none) (scheduled tree made is p) = absurd (not_other file top contents l built none tree made p)
+  same s s' output more text said (no_program l built none) (done trace tree made qs rows is p laid clean runs) = absurd (not_other file top contents l built none tree made p)
+  same s s' output more text said (no_program l built none) (trace_fault trace tree made qs rows is p laid bad runs) = absurd (not_other file top contents l built none tree made p)
+  same s s' output more text said (scheduled tree made is p) (refused r h) = absurd (not_refused file top contents r h tree made p)
+  same s s' output more text said (scheduled tree made is p) (no_program l built none) = absurd (not_other file top contents l built none tree made p)
+  same s s' output more text said (scheduled tree made is p) (scheduled u other k q) = record {
+    status_is = refl;
+    output_is = sym (ap (λ (t : Hierarchy). printed t other) (tree_is tree u made other p q) ∙ ap (printed tree) (made_is tree u made other p q));
+    text_is = IsSameText.equal;
+  }
+  same s s' output more text said (scheduled tree made is p) (done trace u other qs rows k q laid clean runs) = absurd (forms_apart file top trace file top (sym k ∙ is))
+  same s s' output more text said (scheduled tree made is p) (trace_fault trace u other qs rows k q laid bad runs) = absurd (forms_apart file top trace file top (sym k ∙ is))
+  same s s' output more text said (done trace tree made qs rows is p laid clean runs) (refused r h) = absurd (not_refused file top contents r h tree made p)
+  same s s' output more text said (done trace tree made qs rows is p laid clean runs) (no_program l built none) = absurd (not_other file top contents l built none tree made p)
+  same s s' output more text said (done trace tree made qs rows is p laid clean runs) (scheduled u other k q) = absurd (forms_apart file top trace file top (sym is ∙ k))
+  same s s' output more text said (done trace tree made qs rows is p laid clean runs) (done r u other rs others k q again clear run) = record {
+    status_is = refl;
+    output_is = done_same tree made p laid trace qs rs rows others clean (clean_here tree u made other p q trace r rs (same_trace trace r is k) clear) runs (runs_here tree u made other p q rs others run)
+        ∙ report_there tree u made other p q others;
+    text_is = IsSameText.equal;
+  }
+  same s s' output more text said (done trace tree made qs rows is p laid clean runs) (trace_fault r u other rs others k q again bad run) =
+      absurd (not_both (tree_scheme tree).elements 0 (lines_of (contents trace)) qs rs clean (bad_here tree u made other p q trace r rs (same_trace trace r is k) bad))
+  same s s' output more text said (trace_fault trace tree made qs rows is p laid bad runs) (refused r h) = absurd (not_refused file top contents r h tree made p)
+  same s s' output more text said (trace_fault trace tree made qs rows is p laid bad runs) (no_program l built none) = absurd (not_other file top contents l built none tree made p)
+  same s s' output more text said (trace_fault trace tree made qs rows is p laid bad runs) (scheduled u other k q) = absurd (forms_apart file top trace file top (sym is ∙ k))
+  same s s' output more text said (trace_fault trace tree made qs rows is p laid bad runs) (done r u other rs others k q again clear run) =
+      absurd (not_both (tree_scheme tree).elements 0 (lines_of (contents trace)) rs qs (clean_here tree u made other p q trace r rs (same_trace trace r is k) clear) bad)
+  same s s' output more text said (trace_fault trace tree made qs rows is p laid bad runs) (trace_fault r u other rs others k q again wrong run) =
+      let both = fault_same tree made p laid trace qs rs rows others bad (bad_here tree u made other p q trace r rs (same_trace trace r is k) wrong) runs (runs_here tree u made other p q rs others run) in
+      record {
+        status_is = refl;
+        output_is = both.0 ∙ report_there tree u made other p q others;
+        text_is = equal_text (trace_fault_line (length qs + 1)) (trace_fault_line (length rs + 1)) (ap (λ (xs : List Asking). trace_fault_line (length xs + 1)) both.1);
+      }
+
+-- ---- whatever the words are
 
 module _ (words : List (List ℕ)) (contents : List ℕ → List ℕ) where
-  -- what an answer tells
-  data Told (output text : List ℕ) : Type 0 where
-    usage : HasNoForm words → output ≡ [] → text ≡ usage_line → Told output text
-    plan : (file top : List ℕ) → words ≡ schedule_words file top → Told output text
-    form : (file top trace : List ℕ) → words ≡ sim_words file top trace → Tells contents file top trace output text → Told output text
+  tells_at : (f t file top : List ℕ) (s : Status) (output text : List ℕ) → (f ≡ file) × (t ≡ top) → Tells words contents f t s output text → Tells words contents file top s output text
+  tells_at f t file top s output text same h =
+      subst (λ (x : List ℕ). Tells words contents file x s output text) same.1 (subst (λ (x : List ℕ). Tells words contents x t s output text) same.0 h)
 
-  refused_told : (file top : List ℕ) (r : Refusal) → Asks words file top → Rejects file contents top r → Told [] (refusal_line r)
-  refused_told file top r (Asks.schedule spelled) h = plan file top spelled
-  refused_told file top r (Asks.sim trace spelled) h = form file top trace spelled (Tells.refused r h refl refl)
+  told : (file top : List ℕ) (s : Status) (output text : List ℕ) → Asks words file top → Answer words contents s output text → Tells words contents file top s output text
+  told file top s output text asks (a.Answer.usage none) = absurd (none file top asks)
+  told file top s output text asks (a.Answer.refused {file = f} {top = t} r k h) = tells_at f t file top s output text (same_asked words f t file top k asks) (Tells.refused r h)
+  told file top s output text asks (a.Answer.no_program {file = f} {top = t} l k built none) =
+      tells_at f t file top s output text (same_asked words f t file top k asks) (Tells.no_program l built none)
+  told file top s output text asks (a.Answer.scheduled {file = f} {top = t} tree made is p) =
+      tells_at f t file top s output text (same_asked words f t file top (Asks.schedule is) asks) (Tells.scheduled tree made is p)
+  told file top s output text asks (a.Answer.done {file = f} {top = t} {trace = r} tree made qs rows is p laid clean runs) =
+      tells_at f t file top s output text (same_asked words f t file top (Asks.sim r is) asks) (Tells.done r tree made qs rows is p laid clean runs)
+  told file top s output text asks (a.Answer.trace_fault {file = f} {top = t} {trace = r} tree made qs rows is p laid bad runs) =
+      tells_at f t file top s output text (same_asked words f t file top (Asks.sim r is) asks) (Tells.trace_fault r tree made qs rows is p laid bad runs)
 
-  told : (s : Status) (output text : List ℕ) → Answer words contents s output text → Told output text
-  told s output text (a.Answer.usage none) = usage none refl refl
-  told s output text (a.Answer.refused {file = file} {top = top} r asks h) = refused_told file top r asks h
-  told s output text (a.Answer.scheduled {file = file} {top = top} tree made spelled h) = plan file top spelled
-  told s output text (a.Answer.no_program {file = file} {top = top} l spelled loaded none) = plan file top spelled
-  told s output text (a.Answer.not_yet {file = file} {top = top} {trace = trace} l spelled loaded other) = form file top trace spelled (Tells.not_yet l loaded other refl refl)
-  told s output text (a.Answer.done {file = file} {top = top} {trace = trace} m rows spelled is_plain whole run count) =
-      form file top trace spelled (Tells.runs m rows is_plain run count refl (EndText.clean whole refl))
-  told s output text (a.Answer.trace_fault {file = file} {top = top} {trace = trace} m rows spelled is_plain wrong run count) =
-      form file top trace spelled (Tells.runs m rows is_plain run count refl (EndText.bad wrong refl))
+  -- an answer to words without a form is how the program is called
+  record IsUsage (s : Status) (output text : List ℕ) : Type 0 where
+    status_is : status.Usage ≡ s
+    output_is : [] ≡ output
+    text_is : usage_line ≡ text
 
-  -- two forms of the words are one
-  told_at : (file top trace file' top' trace' output text : List ℕ) → words ≡ sim_words file top trace → words ≡ sim_words file' top' trace' → Tells contents file' top' trace' output text → Tells contents file top trace output text
-  told_at file top trace file' top' trace' output text spelled other h =
-      tells_at contents file top trace file' top' trace' output text (same_parts file top trace file' top' trace' (sym other ∙ spelled)) h
+  same_usage : (s : Status) (output text : List ℕ) → HasNoForm words → Answer words contents s output text → IsUsage s output text
+  same_usage s output text none (a.Answer.usage h) = record { status_is = refl; output_is = refl; text_is = refl }
+  same_usage s output text none (a.Answer.refused r k h) = absurd (none _ _ k)
+  same_usage s output text none (a.Answer.no_program l k built other) = absurd (none _ _ k)
+  same_usage s output text none (a.Answer.scheduled tree made is p) = absurd (none _ _ (Asks.schedule is))
+  same_usage s output text none (a.Answer.done tree made qs rows is p laid clean runs) = absurd (none _ _ (Asks.sim _ is))
+  same_usage s output text none (a.Answer.trace_fault tree made qs rows is p laid bad runs) = absurd (none _ _ (Asks.sim _ is))
 
-  module _ (s s' : Status) (output text more said : List ℕ) (answer : Answer words contents s output text) (other : Answer words contents s' more said) where
-    told_output : Told output text → Told more said → output ≡ more
-    told_output (plan file top spelled) _ = plan_output words contents file top spelled s s' output more text said answer other
-    told_output _ (plan file top spelled) = plan_output words contents file top spelled s s' output more text said answer other
-    told_output (usage none e f) (usage also d b) = e ∙ sym d
-    told_output (usage none e f) (form file top trace spelled h) = absurd (none file top (Asks.sim trace spelled))
-    told_output (form file top trace spelled h) (usage none d b) = absurd (none file top (Asks.sim trace spelled))
-    told_output (form file top trace spelled h) (form file' top' trace' again g) =
-        form_output contents file top trace output more text said h (told_at file top trace file' top' trace' more said spelled again g)
+  same_form : (s s' : Status) (output more text said : List ℕ) (file top : List ℕ) → Asks words file top → Answer words contents s output text → Answer words contents s' more said
+      → SameAnswer s s' output more text said
+  same_form s s' output more text said file top asks answer other =
+      same words contents file top s s' output more text said (told file top s output text asks answer) (told file top s' more said asks other)
 
-    told_text : Told output text → Told more said → IsSameText text said
-    told_text (plan file top spelled) _ = plan_text words contents file top spelled s s' output more text said answer other
-    told_text _ (plan file top spelled) = plan_text words contents file top spelled s s' output more text said answer other
-    told_text (usage none e f) (usage also d b) = same_text text said (f ∙ sym b)
-    told_text (usage none e f) (form file top trace spelled h) = absurd (none file top (Asks.sim trace spelled))
-    told_text (form file top trace spelled h) (usage none d b) = absurd (none file top (Asks.sim trace spelled))
-    told_text (form file top trace spelled h) (form file' top' trace' again g) =
-        form_text contents file top trace output more text said h (told_at file top trace file' top' trace' more said spelled again g)
+  -- the words of an answer have a form or none
+  asked : (s : Status) (output text : List ℕ) → Answer words contents s output text → ((file : List ℕ) × (top : List ℕ) × Asks words file top) ⊎ HasNoForm words
+  asked s output text (a.Answer.usage none) = inr none
+  asked s output text (a.Answer.refused {file = f} {top = t} r k h) = inl (f, t, k)
+  asked s output text (a.Answer.no_program {file = f} {top = t} l k built none) = inl (f, t, k)
+  asked s output text (a.Answer.scheduled {file = f} {top = t} tree made is p) = inl (f, t, Asks.schedule is)
+  asked s output text (a.Answer.done {file = f} {top = t} {trace = r} tree made qs rows is p laid clean runs) = inl (f, t, Asks.sim r is)
+  asked s output text (a.Answer.trace_fault {file = f} {top = t} {trace = r} tree made qs rows is p laid bad runs) = inl (f, t, Asks.sim r is)
 
-  pub one_output : (s s' : Status) (output text more said : List ℕ) → Answer words contents s output text → Answer words contents s' more said → output ≡ more
-  one_output s s' output text more said answer other = told_output s s' output text more said answer other (told s output text answer) (told s' more said other)
-
-  pub one_text : (s s' : Status) (output text more said : List ℕ) → Answer words contents s output text → Answer words contents s' more said → IsSameText text said
-  one_text s s' output text more said answer other = told_text s s' output text more said answer other (told s output text answer) (told s' more said other)
+  pub one_answer : (s s' : Status) (output more text said : List ℕ) → Answer words contents s output text → Answer words contents s' more said → SameAnswer s s' output more text said
+  one_answer s s' output more text said answer other =
+      elim (asked s output text answer) [
+        | inl form ↦ same_form s s' output more text said form.0 form.1 form.2 answer other
+        | inr none ↦ (
+        let one = same_usage s output text none answer in
+        let two = same_usage s' more said none other in
+        record {
+          status_is = sym one.status_is ∙ two.status_is;
+          output_is = sym one.output_is ∙ two.output_is;
+          text_is = equal_text text said (sym one.text_is ∙ two.text_is);
+        })
+      ]

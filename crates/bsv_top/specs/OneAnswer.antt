@@ -1,8 +1,19 @@
--- When two fault texts of one input are one: they differ at most in the place of a `Syntax`.
-use Rattle.std.specs.Prelude.{ℕ, List}
+-- When there is an answer, and when two fault texts of one input are one: they differ at most in the place of a `Syntax`.
+use Rattle.std.specs.Prelude.{◌≡◌, ℕ, List}
+use Rattle.bsv_design.specs.declared.schedule.Schedule.{Schedule}
+use Rattle.bsv_design.specs.Trees.{Hierarchy}
+use Rattle.bsv_flow.specs.Compilings.{IsPlanned}
 use Rattle.bsv_flow.specs.declared.refusal.Refusal.{Refusal}
 use Rattle.bsv_flow.specs.OneAnswer.{IsSameRefusal}
 use Rattle.bsv_flow.specs.Refusals.{refusal_line}
+use Rattle.bsv_top.specs.Answers.{sim_words}
+use Rattle.bsv_top.specs.LaidOut.{IsLaidOut}
+
+-- where the words ask for a simulation, what is accepted can be laid out
+abbrev pub LayOut : List (List ℕ) → (List ℕ → List ℕ) → Type 0
+LayOut words contents =
+    (file top trace : List ℕ) (tree : Hierarchy) (made : Schedule) → words ≡ sim_words file top trace
+    → IsPlanned file contents top tree made → IsLaidOut tree
 
 -- the texts are equal, or the lines of two refusals that are one
 pub data IsSameText : List ℕ → List ℕ → Type 0 where

@@ -1,14 +1,15 @@
 -- What a run leaves, whatever its sources and sinks do.
-use Rattle.std.specs.Prelude.{◌≡◌, ℕ, List, Some}
+use Rattle.std.specs.Prelude.{◌≡◌, ℕ, List, [], Some}
 use Rattle.bsv_io.specs.Faults.{MayFault}
 use Rattle.bsv_io.specs.Reading.{Reading}
 use Rattle.bsv_io.specs.Writing.{Writing, appended, AppendsPrefix}
+use Rattle.bsv_design.specs.declared.schedule.Schedule.{Schedule}
+use Rattle.bsv_design.specs.Trees.{Hierarchy}
+use Rattle.bsv_flow.specs.Compilings.{IsPlanned}
 use Rattle.bsv_flow.specs.Loads.{Reaches}
-use Rattle.bsv_top.specs.declared.machine.Machine.{Machine}
 use Rattle.bsv_top.specs.declared.status.Status.{Status}
 use Rattle.bsv_top.specs.declared.status.Status.TheVariants as status
 use Rattle.bsv_top.specs.Answers.{Answer, Asks, sim_words, cannot_read_line, no_memory_line}
-use Rattle.bsv_top.specs.PlainPackages.{IsPlain}
 
 -- the statuses that the words and the contents decide
 abbrev pub IsDecided : Status → Type 0
@@ -38,19 +39,22 @@ pub record Answered (words : List (List ℕ)) (contents : List ℕ → List ℕ)
   pub put : out' ≡ appended output out
   pub told : err' ≡ appended text err
 
--- a prefix of the output of an answer is put
-pub record OutputBegun (words : List (List ℕ)) (contents : List ℕ → List ℕ) (out out' : Writing) : Type 0 where
-  pub decided : Status
+-- all is done, and the whole output of an answer is put
+pub record IsDoneBy (words : List (List ℕ)) (contents : List ℕ → List ℕ) (out out' : Writing) : Type 0 where
   pub output : List ℕ
-  pub text : List ℕ
-  pub answer : Answer words contents decided output text
-  pub prefix : AppendsPrefix output out out'
+  pub answer : Answer words contents status.Done output []
+  pub put : out' ≡ appended output out
+
+-- nothing is put, or a prefix of the output of an answer
+pub data OutputBegun (words : List (List ℕ)) (contents : List ℕ → List ℕ) (out out' : Writing) : Type 0 where
+  nothing : out' ≡ out → OutputBegun words contents out out'
+  begun : {s : Status} {output : List ℕ} (text : List ℕ) → Answer words contents s output text → AppendsPrefix output out out' → OutputBegun words contents out out'
 
 -- the fault texts that a run may put: that of an answer, a name that the run may blame, or want of memory
 pub data FaultText (words : List (List ℕ)) (contents : List ℕ → List ℕ) : List ℕ → Type 0 where
   of_answer : {s : Status} (output : List ℕ) {text : List ℕ} → Answer words contents s output text → FaultText words contents text
   of_source : {file name : List ℕ} (top : List ℕ) → Asks words file top → Reaches file contents name → FaultText words contents (cannot_read_line name)
-  of_trace : (file top : List ℕ) {trace : List ℕ} (m : Machine) → words ≡ sim_words file top trace → IsPlain file top contents m → FaultText words contents (cannot_read_line trace)
+  of_trace : (file top : List ℕ) {trace : List ℕ} (tree : Hierarchy) (made : Schedule) → words ≡ sim_words file top trace → IsPlanned file contents top tree made → FaultText words contents (cannot_read_line trace)
   of_memory : FaultText words contents no_memory_line
 
 -- a prefix of such a text is put
@@ -59,8 +63,18 @@ pub record TextBegun (words : List (List ℕ)) (contents : List ℕ → List ℕ
   pub fault_text : FaultText words contents text
   pub prefix : AppendsPrefix text err err'
 
--- a file could not be read: its name is the one that the last failed call was about, and it is told whole.
--- It is a file that loading reaches, and then nothing is put to the output; or it is the trace of what is plain.
-pub data Unreadable (words : List (List ℕ)) (files files' : Reading) (out out' err err' : Writing) : Type 0 where
-  source : (file top name : List ℕ) → Asks words file top → MayFault files.faults files'.faults → files'.blamed ≡ Some name → ((contents : List ℕ → List ℕ) → files.contents ≡ Some contents → Reaches file contents name) → out' ≡ out → err' ≡ appended (cannot_read_line name) err → Unreadable words files files' out out' err err'
-  trace : (file top trace : List ℕ) → words ≡ sim_words file top trace → MayFault files.faults files'.faults → files'.blamed ≡ Some trace → ((contents : List ℕ → List ℕ) → files.contents ≡ Some contents → (m : Machine) × IsPlain file top contents m) → err' ≡ appended (cannot_read_line trace) err → Unreadable words files files' out out' err err'
+-- A file of this name could not be read: it is the one that the last failed call was about. It is a file that loading
+-- reaches, and then nothing is put to the output; or it is the trace of what is accepted.
+pub data IsUnread (words : List (List ℕ)) (name : List ℕ) (files files' : Reading) (out out' : Writing) : Type 0 where
+  source : (file top : List ℕ) → Asks words file top → MayFault files.faults files'.faults → files'.blamed ≡ Some name
+      → ((contents : List ℕ → List ℕ) → files.contents ≡ Some contents → Reaches file contents name) → out' ≡ out
+      → IsUnread words name files files' out out'
+  trace : (file top : List ℕ) → words ≡ sim_words file top name → MayFault files.faults files'.faults → files'.blamed ≡ Some name
+      → ((contents : List ℕ → List ℕ) → files.contents ≡ Some contents → (tree : Hierarchy) × (made : Schedule) × IsPlanned file contents top tree made)
+      → IsUnread words name files files' out out'
+
+-- and its name is told whole
+pub record Unreadable (words : List (List ℕ)) (files files' : Reading) (out out' err err' : Writing) : Type 0 where
+  pub name : List ℕ
+  pub unread : IsUnread words name files files' out out'
+  pub told : err' ≡ appended (cannot_read_line name) err

@@ -1,35 +1,161 @@
--- Whole runs of a machine, computed.
-use Rattle.std.specs.Prelude.{◌≡◌, ℕ, zero, suc, ◌+◌, List, [], ◌∷◌, ◌++◌}
+-- A trace that is run: how far its clocks were run, and what was put of their report.
+use Rattle.std.specs.Prelude.{◌≡◌, ◌≤◌, ℕ, ◌+◌, false, List, [], ◌∷◌, ◌++◌, length, Some}
+use Rattle.bsv_prim.specs.declared.part.Part.{Part}
+use Rattle.bsv_design.specs.declared.design.Design.{Design}
+use Rattle.bsv_design.specs.declared.schedule.Schedule.{Schedule}
+use Rattle.bsv_design.specs.Guards.{needs_of}
+use Rattle.bsv_design.specs.Schemes.{Asking, Outline, design_scheme, kinds_of}
+use Rattle.bsv_design.specs.Seen.{asking, blueprint}
+use Rattle.bsv_design.specs.States.{AskingFits, FitsKinds, opening}
+use Rattle.bsv_io.specs.Reading.{Reading, bytes_given, current_name}
 use Rattle.bsv_io.specs.Writing.{Writing, appended, AppendsPrefix}
-use Rattle.bsv_top.specs.declared.machine.Machine.{Machine}
-use Rattle.bsv_top.specs.Clocks.{Row}
-use Rattle.bsv_top.specs.Reports.{opening_text}
-use Rattle.bsv_top.specs.Rules.{State, opening}
-use Rattle.bsv_top.specs.Stepping.{fired_rule, places_of, next_state, clock_lines}
+use Rattle.bsv_trace.specs.Lines.{AsksFor}
+use Rattle.bsv_trace.specs.Texts.{clock_text}
+use Rattle.bsv_clock.specs.Events.{Happens}
+use Rattle.bsv_clock.specs.Grounds.{IsScheduleOf, KeepsRules}
+use Rattle.bsv_clock.specs.Runs.{Row, Runs}
+use Rattle.bsv_serial.specs.Rooms.{HasRoom}
+use Rattle.bsv_flow.specs.declared.scheduling.Compiled.{Compiled}
+use Rattle.bsv_flow.specs.Breaches.{element_name}
+use Rattle.bsv_flow.specs.Schedulings.{Subject, design_subject}
+use Rattle.bsv_top.specs.declared.lines.Lines.{Lines}
+use Rattle.bsv_top.specs.declared.clocks.Run.{Run}
+use Rattle.bsv_top.specs.Places.{piece_limit}
+use Rattle.bsv_top.specs.Reading.{HasNoFeed}
+use Rattle.bsv_top.specs.Reports.{report}
+use Rattle.bsv_top.specs.Traces.{AreAsked, IsClean, HasBadLine, bytes_in, line_text, lines_of}
 
--- the state after so many clocks
-abbrev pub state_after_clocks : Machine → ℕ → State
-state_after_clocks m zero = opening m
-state_after_clocks m (suc n) = next_state m (state_after_clocks m n)
+-- ---- what a clock asks for
 
--- the lines of the clock that follows so many clocks
-abbrev pub lines_after_clocks : Machine → ℕ → List ℕ
-lines_after_clocks m n = clock_lines m (n + 1) (fired_rule m (state_after_clocks m n)) (next_state m (state_after_clocks m n))
+-- what was compiled belongs together
+pub record CanRun (c : Compiled) : Type 0 where
+  pub rules : KeepsRules (design_scheme (blueprint c.design))
+  pub needs : c.guards.needs ≡ needs_of (kinds_of (blueprint c.design)) c.design.elements
+  pub schedule : IsScheduleOf (design_scheme (blueprint c.design)) c.schedule
 
--- the report up to so many clocks
-abbrev pub report_so_far : Machine → ℕ → List ℕ
-report_so_far m zero = opening_text m
-report_so_far m (suc n) = report_so_far m n ++ lines_after_clocks m n
+-- and a run fits the design
+pub record FitsRun (d : Design) (r : Run) : Type 0 where
+  pub parts : FitsKinds (kinds_of (blueprint d)) r.state.parts.items
+  pub requests : AskingFits d.elements (asking r.requests)
+  pub room : HasRoom (length d.elements) r.fired
 
--- so many clocks from a state
-abbrev pub rows_from : Machine → State → ℕ → List Row
-rows_from m s zero = []
-rows_from m s (suc n) = record { fired = places_of (fired_rule m s); after = next_state m s } ∷ rows_from m (next_state m s) n
+-- nothing was run yet
+pub record IsStart (d : Design) (r : Run) : Type 0 where
+  pub fits : FitsRun d r
+  pub done : r.lines.done ≡ 0
+  pub at : r.lines.at ≡ 0
+  pub none : r.lines.held.items ≡ []
+  pub state : r.state.parts.items ≡ opening (kinds_of (blueprint d))
 
--- a sink that began so has the report up to so many clocks
-abbrev pub HasReport : Machine → Writing → ℕ → Writing → Type 0
-HasReport m start n w = w ≡ appended (report_so_far m n) start
+-- ---- one line
 
--- a sink that began so has a prefix of that report
-abbrev pub HasReportPrefix : Machine → Writing → ℕ → Writing → Type 0
-HasReportPrefix m start n w = AppendsPrefix (report_so_far m n) start w
+abbrev pub its_subject : Compiled → Subject
+its_subject c = design_subject c.design
+
+abbrev pub its_outlines : Compiled → List Outline
+its_outlines c = (its_subject c).scheme.elements
+
+-- the line that was gathered asks for what is requested, and its clock goes from the one state to the other
+pub record RunsLine (c : Compiled) (old new : Run) : Type 0 where
+  pub asks : AsksFor (its_subject c).scheme.elements (line_text old.lines.held.items) (asking new.requests)
+  pub happens : Happens false (its_subject c).scheme c.schedule (asking new.requests) old.state.parts.items new.fired new.state.parts.items
+
+-- what is put of this clock
+abbrev pub lines_of_clock : Compiled → Run → Run → List ℕ
+lines_of_clock c old new =
+    clock_text (element_name (its_subject c).scheme) (old.lines.done + 1) new.fired (its_subject c).parts new.state.parts.items
+
+-- the line was run, its clock was put, and the next line begins
+pub record EndsLine (c : Compiled) (old new : Run) (w next : Writing) : Type 0 where
+  pub ran : RunsLine c old new
+  pub put : next ≡ appended (lines_of_clock c old new) w
+  pub done : new.lines.done ≡ old.lines.done + 1
+  pub at : new.lines.at ≡ old.lines.at + length old.lines.held.items
+  pub none : new.lines.held.items ≡ []
+
+-- the line was run, and a prefix of its clock was put
+pub record BeginsClock (c : Compiled) (old new : Run) (w next : Writing) : Type 0 where
+  pub ran : RunsLine c old new
+  pub prefix : AppendsPrefix (lines_of_clock c old new) w next
+
+-- ---- so far
+
+-- These bytes of a trace were read, and whatever is left behind them: the lines that ended ask for these requests, and
+-- behind those lines stands what was begun of the next one.
+pub record StandsAt (outlines : List Outline) (read : List ℕ) (l : Lines) (qs : List Asking) : Type 0 where
+  pub front : List (List ℕ)
+  pub lines : (left : List ℕ) → lines_of (read ++ left) ≡ front ++ lines_of (l.held.items ++ left)
+  pub asked : AreAsked outlines 0 front qs
+  pub done : length front ≡ l.done
+  pub at : bytes_in (length front) front ≡ l.at
+  pub long : length read ≡ l.at + length l.held.items
+
+abbrev pub state_behind : List Part → List Row → List Part
+state_behind s [] = s
+state_behind s (row ∷ rows) = state_behind row.after rows
+
+-- so far: these bytes were read, their lines were run from the opening state, and the report of that was put
+pub record HasRun (c : Compiled) (start : Writing) (read : List ℕ) (r : Run) (w : Writing) : Type 0 where
+  pub qs : List Asking
+  pub rows : List Row
+  pub stands : StandsAt (its_subject c).scheme.elements read r.lines qs
+  pub unended : HasNoFeed r.lines.held.items
+  pub runs : Runs false (its_subject c).scheme c.schedule qs rows
+  pub state : r.state.parts.items ≡ state_behind (opening (its_subject c).scheme.kinds) rows
+  pub put : w ≡ appended (report (its_subject c) rows) start
+
+-- ---- at the end
+
+module _ (s : Subject) (made : Schedule) (start : Writing) (trace : List ℕ) (w : Writing) where
+  -- each line was run, and the report was put
+  pub record IsDone : Type 0 where
+    pub qs : List Asking
+    pub rows : List Row
+    pub clean : IsClean s.scheme.elements trace qs
+    pub runs : Runs false s.scheme made qs rows
+    pub put : w ≡ appended (report s rows) start
+
+  -- the lines before the first bad one were run, and their report was put; the bad line has this number
+  pub record IsFaulty (number : ℕ) : Type 0 where
+    pub qs : List Asking
+    pub rows : List Row
+    pub bad : HasBadLine s.scheme.elements trace qs
+    pub runs : Runs false s.scheme made qs rows
+    pub number_is : number ≡ length qs + 1
+    pub put : w ≡ appended (report s rows) start
+
+  -- a prefix of the report of some first lines was put
+  pub record IsBegun : Type 0 where
+    pub front : List (List ℕ)
+    pub rest : List (List ℕ)
+    pub qs : List Asking
+    pub rows : List Row
+    pub lines : lines_of trace ≡ front ++ rest
+    pub asked : AreAsked s.scheme.elements 0 front qs
+    pub runs : Runs false s.scheme made qs rows
+    pub prefix : AppendsPrefix (report s rows) start w
+
+-- the same of what was compiled
+abbrev pub IsDoneOf : Compiled → Writing → List ℕ → Writing → Type 0
+IsDoneOf c = IsDone (its_subject c) c.schedule
+
+abbrev pub IsFaultyOf : Compiled → Writing → List ℕ → Writing → ℕ → Type 0
+IsFaultyOf c = IsFaulty (its_subject c) c.schedule
+
+abbrev pub IsBegunOf : Compiled → Writing → List ℕ → Writing → Type 0
+IsBegunOf c = IsBegun (its_subject c) c.schedule
+
+-- ---- how far was read
+
+-- the trace of this name is current, and was read at most to its end, and at most so much room behind its first bad line
+pub record IsFollowed (outlines : List Outline) (room : ℕ) (trace : List ℕ) (contents : List ℕ → List ℕ) (r : Reading) : Type 0 where
+  pub current : current_name r ≡ Some trace
+  pub end : bytes_given r ≤ length (contents trace)
+  pub bad : (qs : List Asking) → HasBadLine outlines (contents trace) qs
+      → bytes_given r ≤ bytes_in (length qs + 1) (lines_of (contents trace)) + room
+
+-- the file that is current was so before; or nothing of it was given; or it is the trace
+pub data Follows (outlines : List Outline) (trace : List ℕ) (contents : List ℕ → List ℕ) (old new : Reading) : Type 0 where
+  unread : new.current ≡ old.current → Follows outlines trace contents old new
+  nothing : bytes_given new ≡ 0 → Follows outlines trace contents old new
+  followed : IsFollowed outlines piece_limit trace contents new → Follows outlines trace contents old new

@@ -1,6 +1,9 @@
--- Traces: each line is one clock. So far a line asks for nothing: it is bad where it is not empty, or where
--- the trace is too long up to its end.
-use Rattle.std.specs.Prelude.{◌≡◌, ℕ, suc, ◌+◌, ◌<◌, Bool, true, false, ◌&&◌, ◌==◌, nat_le, List, [], ◌∷◌, length, if◌then◌else◌}
+-- Traces: each line is one clock, and asks for calls of the methods of the top.
+use Rattle.std.specs.Prelude.{◌≤◌, ℕ, zero, suc, ◌+◌, ◌==◌, List, [], ◌∷◌, length, if◌then◌else◌}
+use Rattle.bsv_design.specs.Schemes.{Asking, Outline}
+use Rattle.bsv_trace.specs.Lines.{AsksFor}
+
+-- ---- lines
 
 -- a byte in front of the first line
 abbrev pub onto : ℕ → List (List ℕ) → List (List ℕ)
@@ -22,40 +25,46 @@ without_last byte (x ∷ y ∷ ys) = x ∷ without_last byte (y ∷ ys)
 abbrev pub line_text : List ℕ → List ℕ
 line_text line = without_last 13 (without_last 10 line)
 
-abbrev pub is_empty : List ℕ → Bool
-is_empty [] = true
-is_empty (x ∷ xs) = false
+-- how many bytes the first lines have, of which there are so many
+abbrev pub bytes_in : ℕ → List (List ℕ) → ℕ
+bytes_in zero lines = 0
+bytes_in (suc n) [] = 0
+bytes_in (suc n) (line ∷ lines) = length line + bytes_in n lines
+
+-- ---- what lines ask for
 
 -- how many bytes a trace may have
 abbrev pub trace_limit : ℕ
 trace_limit = 67108864
 
--- a line may be run: it is empty, and the trace up to its end is within the limit
-abbrev pub is_clock : ℕ → List ℕ → Bool
-is_clock end line = is_empty (line_text line) && nat_le end trace_limit
+-- a line that ends behind so many bytes of the trace asks for this: the trace is within the limit up to there, and what the
+-- line says asks for it
+pub record IsAsked (outlines : List Outline) (end : ℕ) (line : List ℕ) (q : Asking) : Type 0 where
+  pub within : end ≤ trace_limit
+  pub asks : AsksFor outlines (line_text line) q
 
--- how many lines may be run before the first that may not, where so many bytes stand before them
-abbrev pub clocks_from : ℕ → List (List ℕ) → ℕ
-clocks_from start [] = 0
-clocks_from start (line ∷ lines) = if is_clock (start + length line) line then suc (clocks_from (start + length line) lines) else 0
+-- a line is bad: there is nothing that it asks for
+abbrev pub IsBad : List Outline → ℕ → List ℕ → Type 0
+IsBad outlines end line = (q : Asking) → IsAsked outlines end line q → ⊥
 
--- how many clocks a trace has before its first bad line
-unfoldable pub clocks_of : List ℕ → ℕ
-clocks_of trace = clocks_from 0 (lines_of trace)
+-- each of the lines asks for the request of its place, where so many bytes stand before them
+abbrev pub AreAsked : List Outline → ℕ → List (List ℕ) → List Asking → Type 0
+AreAsked outlines start [] [] = Unit {0}
+AreAsked outlines start (line ∷ lines) (q ∷ qs) =
+    IsAsked outlines (start + length line) line q × AreAsked outlines (start + length line) lines qs
+AreAsked outlines start _ _ = ⊥
 
--- how many bytes there are up to the end of the first line that may not be run, where so many bytes stand before them
-abbrev pub bytes_from : ℕ → List (List ℕ) → ℕ
-bytes_from start [] = 0
-bytes_from start (line ∷ lines) = length line + (if is_clock (start + length line) line then bytes_from (start + length line) lines else 0)
+-- the first lines ask for these requests, and the line behind them is bad
+abbrev pub AreAskedToBad : List Outline → ℕ → List (List ℕ) → List Asking → Type 0
+AreAskedToBad outlines start (line ∷ lines) [] = IsBad outlines (start + length line) line
+AreAskedToBad outlines start (line ∷ lines) (q ∷ qs) =
+    IsAsked outlines (start + length line) line q × AreAskedToBad outlines (start + length line) lines qs
+AreAskedToBad outlines start [] qs = ⊥
 
--- how many bytes a trace has up to the end of its first bad line, or in all where no line is bad
-unfoldable pub bytes_to_bad_line : List ℕ → ℕ
-bytes_to_bad_line trace = bytes_from 0 (lines_of trace)
+-- all lines of the trace ask for these requests
+abbrev pub IsClean : List Outline → List ℕ → List Asking → Type 0
+IsClean outlines trace qs = AreAsked outlines 0 (lines_of trace) qs
 
--- each line of the trace is a clock
-abbrev pub IsClean : List ℕ → Type 0
-IsClean trace = clocks_of trace ≡ length (lines_of trace)
-
--- some line of the trace is bad; the first such line stands behind the clocks
-abbrev pub HasBadLine : List ℕ → Type 0
-HasBadLine trace = clocks_of trace < length (lines_of trace)
+-- the first bad line of the trace stands behind lines that ask for these requests
+abbrev pub HasBadLine : List Outline → List ℕ → List Asking → Type 0
+HasBadLine outlines trace qs = AreAskedToBad outlines 0 (lines_of trace) qs

@@ -5,8 +5,8 @@ ghost use Rattle.bsv_flow.specs.Refusals.{refusal_line};
 ghost use Rattle.bsv_top.specs.Answers.{usage_line, cannot_read_line, no_memory_line, trace_fault_line};
 ghost use Rattle.bsv_top.specs.Stops.{status_of, text_of};
 
-use crate::answer::Stop;
 use crate::status::Status;
+use crate::stop::Stop;
 use bsv_flow::Refusal;
 use bsv_io::{Failed, Sink, put_all};
 use itoa::Buffer;
@@ -95,23 +95,19 @@ fn tell_bad_line<E: Sink>(err: &mut E, number: u64) -> Status
     )
 }
 
-/// Tells why a run over this trace stopped; a run over none stops for nothing that has to do with one. A
-/// sink that failed is told of by the status alone.
-#[tactic(auto, unfolding(crate::specs::Answers::not_yet_line, crate::specs::Answers::no_memory_line))]
-pub(crate) fn tell_stop<E: Sink>(err: &mut E, trace: &str, stop: Stop) -> Status
+/// Tells why words that have a form are not done. A sink that failed is told of by the status alone.
+#[tactic(auto, unfolding(crate::specs::Answers::no_memory_line))]
+pub(crate) fn tell_stop<E: Sink>(err: &mut E, stop: Stop) -> Status
     ensures told { (result ≡ Status.WriteFault → ⊥) → (result ≡ status_of stop)
-        × (E.writing err.new ≡ appended (text_of trace.now stop) (E.writing err.old)) }
+        × (E.writing err.new ≡ appended (text_of stop) (E.writing err.old)) }
     ensures failed { result ≡ Status.WriteFault → (stop ≡ Stop.Unwritable)
         ⊎ MayFault (E.writing err.old).faults (E.writing err.new).faults }
-    ensures prefix { AppendsPrefix (text_of trace.now stop)
-        (E.writing err.old) (E.writing err.new) }
+    ensures prefix { AppendsPrefix (text_of stop) (E.writing err.old) (E.writing err.new) }
     ensures count { (E.writing err.old).faults ≤ (E.writing err.new).faults }
 {
     match stop {
         Stop::Refused(refusal) => tell_refusal(err, &refusal),
-        Stop::NotYet => tell(err, &[b"refused 0 NotYet\n"], Status::Refused),
-        Stop::SourceUnread(name) => tell_unread(err, name.bytes()),
-        Stop::TraceUnread => tell_unread(err, trace.as_bytes()),
+        Stop::Unread(name) => tell_unread(err, name.bytes()),
         Stop::Unwritable => Status::WriteFault,
         Stop::OutOfMemory => tell(err, &[b"out of memory\n"], Status::OutOfMemory),
         Stop::BadLine(number) => tell_bad_line(err, number),

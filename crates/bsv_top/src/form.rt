@@ -1,5 +1,6 @@
 ghost use Rattle.std.specs.Prelude.{◌≡◌, ℕ, List, map, string_bytes, IfNone, IfSome};
-ghost use Rattle.bsv_top.specs.Answers.{schedule_words, sim_words};
+ghost use Rattle.bsv_top.specs.Answers.{HasNoForm, schedule_words, sim_words};
+ghost use Rattle.bsv_top.specs.Forms.{words_of};
 
 /// A command line of the form `schedule FILE TOP`.
 #[derive(Clone, Copy)]
@@ -16,8 +17,15 @@ pub(crate) struct Simulation<'a> {
     pub(crate) trace: &'a str,
 }
 
+/// What the words behind the program's name ask for.
+#[derive(Clone, Copy)]
+pub(crate) enum Form<'a> {
+    Schedule(Planning<'a>),
+    Sim(Simulation<'a>),
+}
+
 /// The words behind the program's name as a form, where they ask for a schedule.
-pub(crate) fn planning_of(words: &[String]) -> Option<Planning<'_>>
+fn planning_of(words: &[String]) -> Option<Planning<'_>>
     ensures form { IfSome result (λ form.
         map string_bytes words.now ≡ schedule_words form.file.now form.top.now) }
     ensures none { IfNone result ((file top : List ℕ)
@@ -36,7 +44,7 @@ pub(crate) fn planning_of(words: &[String]) -> Option<Planning<'_>>
 }
 
 /// The words behind the program's name as a form, where they ask for a simulation.
-pub(crate) fn simulation_of(words: &[String]) -> Option<Simulation<'_>>
+fn simulation_of(words: &[String]) -> Option<Simulation<'_>>
     ensures form { IfSome result (λ form.
         map string_bytes words.now ≡ sim_words form.file.now form.top.now form.trace.now) }
     ensures none { IfNone result ((file top trace : List ℕ)
@@ -53,4 +61,18 @@ pub(crate) fn simulation_of(words: &[String]) -> Option<Simulation<'_>>
         top: top.as_str(),
         trace: trace.as_str(),
     })
+}
+
+/// The form that the words have, where they have one.
+pub(crate) fn form_of(words: &[String]) -> Option<Form<'_>>
+    ensures form { IfSome result (λ form. map string_bytes words.now ≡ words_of form) }
+    ensures none { IfNone result (HasNoForm (map string_bytes words.now)) }
+{
+    if let Some(form) = planning_of(words) {
+        return Some(Form::Schedule(form));
+    }
+    match simulation_of(words) {
+        Some(form) => Some(Form::Sim(form)),
+        None => None,
+    }
 }

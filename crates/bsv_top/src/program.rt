@@ -6,23 +6,22 @@ ghost use Rattle.bsv_io.specs.Sure.{NoFault};
 ghost use Rattle.bsv_io.specs.Writing.{appended, count_behind};
 ghost use Rattle.bsv_top.specs.Answers.{Answer, HasAnswer, HasNoForm, schedule_words, sim_words};
 ghost use Rattle.bsv_top.specs.Answers.{no_memory_line, printed};
+ghost use Rattle.bsv_design.specs.Schemes.{Asking, tree_scheme};
 ghost use Rattle.bsv_design.specs.Trees.{Hierarchy};
 ghost use Rattle.bsv_design.specs.declared.schedule.Schedule.{Schedule as TheSchedule};
 ghost use Rattle.bsv_flow.specs.Compilings.{IsPlanned};
 ghost use Rattle.bsv_flow.specs.Sources.{read_limit};
-ghost use Rattle.bsv_top.specs.OneAnswer.{IsSameText};
+ghost use Rattle.bsv_top.specs.OneAnswer.{IsSameText, LayOut};
 ghost use Rattle.bsv_top.specs.Counts.{CountsAnswer};
 ghost use Rattle.bsv_top.specs.Outcomes.{Answered, IsDecided, IsFault, OutputBegun, TextBegun, Unreadable};
 ghost use Rattle.bsv_top.specs.Places.{IsTraceWithin, ReadsWithin};
-ghost use Rattle.bsv_top.specs.PlainPackages.{IsPlain};
+ghost use Rattle.bsv_top.specs.LaidOut.{IsLaidOut};
 ghost use Rattle.bsv_top.specs.Traces.{IsClean};
-ghost use Rattle.bsv_top.specs.declared.machine.Machine.{Machine as TheMachine};
 ghost use Rattle.bsv_top.specs.declared.status.Status.{Status as TheStatus};
 
 use crate::answer::answer;
 use crate::faults::{tell_stop, tell_usage};
-use crate::form::{planning_of, simulation_of};
-use crate::planning::plan;
+use crate::form::form_of;
 use crate::status::Status;
 use bsv_io::{Files, Sink, SureFiles, SureSink};
 use std::alloc::Global;
@@ -32,7 +31,8 @@ use std::thread::Threads;
 /// the output goes to `out`, and a fault text of one line to `err`. The answer is the exit status.
 ///
 /// The clauses that begin with `contents` speak of a source of files that tells its contents.
-/// Want of memory may come at any point before the first byte is put to `out`.
+/// Want of memory may come at any point; of a run over a trace also behind the lines of a clock, of which
+/// there are then no more.
 pub fn run<R: Threads + Sync, F: Files, O: Sink, E: Sink>(
     rt: &R,
     alloc: Global,
@@ -59,10 +59,15 @@ pub fn run<R: Threads + Sync, F: Files, O: Sink, E: Sink>(
     ensures text { (contents : List ℕ → List ℕ) → (F.reading files.old).contents ≡ Some contents
         → TextBegun (map string_bytes words.now) contents (E.writing err.old) (E.writing err.new) }
 
-    // Nothing at all is put to the output where a file is refused or memory is wanting.
+    // Nothing at all is put to the output where a file is refused, and nothing of a schedule where memory is
+    // wanting. A run may want memory when it has begun: then it put a prefix of an answer's output, as above.
     ensures refused { result ≡ Status.Refused → O.writing out.new ≡ O.writing out.old }
-    ensures no_memory { result ≡ Status.OutOfMemory → (O.writing out.new ≡ O.writing out.old)
-        × (E.writing err.new ≡ appended no_memory_line (E.writing err.old)) }
+    ensures no_memory { result ≡ Status.OutOfMemory
+        → (E.writing err.new ≡ appended no_memory_line (E.writing err.old))
+        × ((O.writing out.new).faults ≡ (O.writing out.old).faults) }
+    ensures no_schedule { result ≡ Status.OutOfMemory → (file top : List ℕ)
+        → map string_bytes words.now ≡ schedule_words file top
+        → O.writing out.new ≡ O.writing out.old }
 
     // No source is read on behind one byte more than it may have; where the trace was run, it was read
     // at most one piece behind its first bad line.
@@ -72,15 +77,15 @@ pub fn run<R: Threads + Sync, F: Files, O: Sink, E: Sink>(
         → (F.reading files.new).current ≡ (F.reading files.old).current }
     ensures within { (contents : List ℕ → List ℕ) → (F.reading files.old).contents ≡ Some contents
         → (file top trace : List ℕ) → map string_bytes words.now ≡ sim_words file top trace
-        → ReadsWithin trace contents (F.reading files.old) (F.reading files.new) }
+        → ReadsWithin file top trace contents (F.reading files.old) (F.reading files.new) }
     ensures done_within { result ≡ Status.Done → (contents : List ℕ → List ℕ)
         → (F.reading files.old).contents ≡ Some contents
         → (file top trace : List ℕ) → map string_bytes words.now ≡ sim_words file top trace
-        → IsTraceWithin trace contents (F.reading files.new) }
+        → IsTraceWithin file top trace contents (F.reading files.new) }
     ensures bad_within { result ≡ Status.TraceFault → (contents : List ℕ → List ℕ)
         → (F.reading files.old).contents ≡ Some contents
         → (file top trace : List ℕ) → map string_bytes words.now ≡ sim_words file top trace
-        → IsTraceWithin trace contents (F.reading files.new) }
+        → IsTraceWithin file top trace contents (F.reading files.new) }
 
     // The causes of faults.
     ensures read_fault { result ≡ Status.ReadFault → Unreadable (map string_bytes words.now)
@@ -108,18 +113,12 @@ pub fn run<R: Threads + Sync, F: Files, O: Sink, E: Sink>(
         → Answer (map string_bytes words.now) contents status output text
         → result ≡ status ⊎ result ≡ Status.OutOfMemory }
 {
-    if let Some(form) = planning_of(words) {
-        return match plan(rt, alloc, form, files, out) {
-            Ok(()) => Status::Done,
-            Err(stop) => tell_stop(err, "", stop),
-        };
-    }
-    let Some(form) = simulation_of(words) else {
+    let Some(form) = form_of(words) else {
         return tell_usage(err);
     };
     match answer(rt, alloc, form, files, out) {
         Ok(()) => Status::Done,
-        Err(stop) => tell_stop(err, form.trace, stop),
+        Err(stop) => tell_stop(err, stop),
     }
 }
 
@@ -139,16 +138,18 @@ pub fn run_surely<R: Threads + Sync>(
     ensures answer { IsDecided result → CountsAnswer (map string_bytes words.now)
         (contents_of files.old.files) result out.old out.new err.old err.new }
     ensures no_memory { result ≡ Status.OutOfMemory
-        → (out.new ≡ out.old) × (err.new ≡ count_behind no_memory_line err.old) }
+        → err.new ≡ count_behind no_memory_line err.old }
 {
     run(rt, alloc, words, files, out, err)
 }
 
 /// All words and contents have an answer, and it is one: one status, one output, and one fault text
-/// but for the place of a `Syntax`. Words that ask for a schedule, and files that have one, have it as
-/// their answer; and words that ask for a run, a plain file and a trace without a bad line have a report.
+/// but for the place of a `Syntax`; of words that ask for a run where what is accepted can be laid out.
+/// Words that ask for a schedule, and files that have one, have it as their answer; and words that ask for
+/// a run, files that are accepted and a trace without a bad line have a report.
 pub fn one_answer()
-    ensures some { (words : List (List ℕ)) (contents : List ℕ → List ℕ) → HasAnswer words contents }
+    ensures some { (words : List (List ℕ)) (contents : List ℕ → List ℕ) → LayOut words contents
+        → HasAnswer words contents }
     ensures one_status { (words : List (List ℕ)) (contents : List ℕ → List ℕ)
         (status other : TheStatus) (output text more said : List ℕ)
         → Answer words contents status output text → Answer words contents other more said
@@ -164,7 +165,9 @@ pub fn one_answer()
     ensures planned { (contents : List ℕ → List ℕ) (file top : List ℕ)
         (tree : Hierarchy) (made : TheSchedule) → IsPlanned file contents top tree made
         → Answer (schedule_words file top) contents Status.Done (printed tree made) [] }
-    ensures done { (contents : List ℕ → List ℕ) (file top trace : List ℕ) (m : TheMachine)
-        → IsPlain file top contents m → IsClean (contents trace)
+    ensures simulated { (contents : List ℕ → List ℕ) (file top trace : List ℕ)
+        (tree : Hierarchy) (made : TheSchedule) (qs : List Asking)
+        → IsPlanned file contents top tree made → IsLaidOut tree
+        → IsClean (tree_scheme tree).elements (contents trace) qs
         → (output : List ℕ) × Answer (sim_words file top trace) contents Status.Done output [] }
 {}

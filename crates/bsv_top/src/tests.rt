@@ -1,6 +1,9 @@
+use crate::clocks::Run;
+use crate::simulation::compile_file;
 use crate::{Status, run, run_surely};
 use bsv_bits::{Name, OutOfMemory};
 use bsv_io::{MemFiles, MemSink, SureFiles, SureSink};
+use bsv_serial::{Turn, clock, turn};
 use std::alloc::Global;
 use std::process::Abort;
 use std::test::Fail;
@@ -397,5 +400,38 @@ fn sure_runs(rt: HostRuntime) -> Result<(), Fail> {
         assert_eq!(rt; out.taken(), report.len() as u64);
         assert_eq!(rt; err.taken(), 0);
     }
+    Ok(())
+}
+
+/// One clock of the counter, and then its rule alone, by the calls themselves.
+#[test]
+fn one_clock_and_one_turn(rt: HostRuntime) -> Result<(), Fail> {
+    let alloc = rt.alloc();
+    let failing = Vec::new(alloc);
+    let mut files = MemFiles::new(alloc, files_of(alloc, &COUNTER_FILES)?, failing)?;
+    let Ok(compiled) = compile_file(&rt, alloc, &mut files, "A.bsv", "mkA") else {
+        assert!(&rt; false);
+        return Ok(());
+    };
+    let design = &compiled.design;
+    let mut run = Run::new(alloc, design)?;
+    let guards = &compiled.guards;
+    let schedule = &compiled.schedule;
+    let ran = clock(
+        alloc,
+        design,
+        guards,
+        schedule,
+        &mut run.state,
+        &run.requests,
+        &mut run.fired,
+    );
+    assert!(&rt; ran.is_ok());
+    assert_eq!(&rt; run.fired.list.as_slice(), [0].as_slice());
+    if design.elements.len() == 1 {
+        let turned = turn(alloc, design, guards, 0, &mut run.state, &run.requests);
+        assert_eq!(&rt; turned, Ok(Turn::Ran(None)));
+    }
+    assert_eq!(&rt; design.elements.len(), 1);
     Ok(())
 }

@@ -1,7 +1,7 @@
 use Rattle.std.proofs.Common.{ℕ, List, ◌++◌, codes, ap, ◌∙◌}
 use Rattle.bsv_io.specs.Writing.{appended}
 use Rattle.bsv_top.specs.Answers.{trace_fault_line}
-use Rattle.bsv_top.specs.Reports.{line_feed}
+use Rattle.bsv_trace.specs.Texts.{line_feed}
 use Rattle.bsv_top.proofs.faults.tell_bad_line.Goals as goal
 
 pub returns-clause-told : goal.returns-clause-told

@@ -1,6 +1,6 @@
 use Rattle.std.proofs.Common.{refl}
 use Rattle.bsv_io.specs.InMemory.{contents_of}
-use Rattle.bsv_io.proofs.Counted.{count_put, same_count}
+use Rattle.bsv_io.proofs.Counted.{count_put}
 use Rattle.bsv_top.specs.Answers.{no_memory_line}
 use Rattle.bsv_top.proofs.program.run_surely.Goals as goal
 
@@ -16,6 +16,4 @@ returns-clause-answer g c = λ is.
     }
 
 pub returns-clause-no_memory : goal.returns-clause-no_memory
-returns-clause-no_memory g c = λ e.
-    let said = c.run.ensures.no_memory e in
-    (same_count c.args.out.now c.run.new.out said.0, count_put no_memory_line c.args.err.now c.run.new.err said.1)
+returns-clause-no_memory g c = λ e. count_put no_memory_line c.args.err.now c.run.new.err (c.run.ensures.no_memory e).0

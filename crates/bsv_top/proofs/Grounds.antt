@@ -1,0 +1,116 @@
+-- What is accepted and can be laid out keeps the laws of clocks and of lines.
+use Rattle.std.proofs.Common.{◌≡◌, ◌∙◌, ℕ, ◌^◌, ◌+◌, ◌<◌, List, [], ◌∷◌, map, length, refl, sym, subst, arith}
+use Rattle.std.specs.Prelude.{slice_get}
+use Rattle.std.proofs.lemmas.List.{length-map}
+use Rattle.std.proofs.Math.Bridge.{le_prop}
+use Rattle.std.proofs.Math.Logic.{∥∥₁_elim}
+use Rattle.std.proofs.Math.Nat.{ℕ_set}
+use Rattle.std.proofs.lemmas.Bool.{ltb-true}
+use Rattle.bsv_bits.specs.Words.{Bits}
+use Rattle.bsv_design.specs.declared.design.Design.{Design}
+use Rattle.bsv_design.specs.declared.element.Port.{Port}
+use Rattle.bsv_design.specs.declared.schedule.Schedule.{Schedule}
+use Rattle.bsv_design.specs.Designs.{IsDesign}
+use Rattle.bsv_design.specs.Schemes.{Scheme, Asking, Outline, AreAlike, design_scheme, outline, ports_of, given, tree_scheme}
+use Rattle.bsv_design.specs.Seen.{blueprint}
+use Rattle.bsv_design.specs.States.{AreWordsOf, AskingFits, nothing_asked, opening}
+use Rattle.bsv_design.specs.Trees.{Hierarchy}
+use Rattle.bsv_design.proofs.Asked.{nothing_fits}
+use Rattle.bsv_graph.specs.ExecutionOrders.{Executes}
+use Rattle.bsv_graph.specs.Relating.{Relating}
+use Rattle.bsv_graph.specs.Stops.{AreStops}
+use Rattle.bsv_graph.specs.UrgencyOrders.{Urges}
+use Rattle.bsv_guard.specs.Fitting.{RequestFits}
+use Rattle.bsv_guard.proofs.Alike.{alike, alike_back}
+use Rattle.bsv_guard.proofs.DesignFits.{request_fits}
+use Rattle.bsv_trace.specs.Lines.{AreMethods, AsksFor}
+use Rattle.bsv_trace.proofs.Readable.{line_fits, readable}
+use Rattle.bsv_clock.specs.Grounds.{IsLawful, IsScheduleOf, KeepsRules}
+use Rattle.bsv_clock.specs.Runs.{AllFit}
+use Rattle.bsv_clock.proofs.Belonging as belonging
+use Rattle.bsv_clock.proofs.OneRun.{opening_fits}
+use Rattle.bsv_flow.specs.Schedulings.{IsScheduled, subject}
+use Rattle.bsv_top.specs.Traces.{AreAsked, AreAskedToBad}
+use Rattle.bsv_top.proofs.Happening.{room}
+use Rattle.bsv_top.proofs.Named.{outlines_are}
+
+words_prop : (ps : List Port) (ws : List Bits) → IsProp (AreWordsOf ps ws)
+words_prop [] [] = hlevel
+words_prop [] (w ∷ ws) = hlevel
+words_prop (p ∷ ps) [] = hlevel
+words_prop (p ∷ ps) (w ∷ ws) = hlevel (ℕ_set, le_prop, words_prop ps ws)
+
+few_elements : (d : Design) → length d.elements < room
+few_elements d =
+    ∥∥₁_elim d.right le_prop
+    (λ (right : IsDesign (blueprint d)).
+    let few = ltb-true (length d.elements) (2 ^ 32) right.few_elements in
+    let fewer : length d.elements < room = omega (arith, few) in
+    fewer)
+
+-- requests that fit a design
+requests_fit : (d : Design) (q : Asking) → AskingFits d.elements q → (n : ℕ) → RequestFits (design_scheme (blueprint d)) q n
+requests_fit d q fit n =
+    let S = design_scheme (blueprint d) in
+    ∥∥₁_elim d.right (words_prop (ports_of (slice_get S.elements n)) (given S q n)) (λ (right : IsDesign (blueprint d)). request_fits (blueprint d) right q fit n)
+
+module _ (tree : Hierarchy) (made : Schedule) (d : Design) (al : AreAlike (tree_scheme tree) (design_scheme (blueprint d))) (scheduled : IsScheduled (subject tree) made) where
+  abbrev S : Scheme
+  S = tree_scheme tree
+
+  abbrev T : Scheme
+  T = design_scheme (blueprint d)
+
+  back : AreAlike T S
+  back = alike_back S T al
+
+  -- ---- the design
+
+  pub rules_there : KeepsRules T
+  rules_there n = ((alike S T al).rule_same n).0 (scheduled.kept n)
+
+  pub scheduled_there : IsScheduleOf T made
+  scheduled_there =
+      let r = belonging.relating_alike S T al in
+      record {
+        agrees = belonging.agrees d;
+        named = belonging.named d;
+        executes = subst (λ (x : Relating). Executes x made.execution) r scheduled.ordered.executes;
+        urges = subst (λ (x : Relating). Urges x made.urgency) r scheduled.ordered.urges;
+        stops = subst (λ (x : Relating). AreStops x made.execution made.urgency made.stops) r scheduled.ordered.stops;
+      }
+
+  -- ---- the tree
+
+  pub lawful_here : IsLawful S
+  lawful_here = belonging.lawful_alike T S back (belonging.lawful_design d rules_there)
+
+  pub scheduled_here : IsScheduleOf S made
+  scheduled_here = belonging.schedule_alike T S back made scheduled_there
+
+  outlines_here : map outline d.elements ≡ S.elements
+  outlines_here = outlines_are d ∙ sym al.elements
+
+  pub methods_here : AreMethods S.elements
+  methods_here = subst AreMethods outlines_here (readable d)
+
+  pub few_here : length S.elements < room
+  few_here = subst (λ (os : List Outline). length os < room) outlines_here (omega (arith, length-map d.elements outline, few_elements d))
+
+  -- what a line asks for fits
+  pub asked_fits : (line : List ℕ) (q : Asking) → AsksFor S.elements line q → (n : ℕ) → RequestFits S q n
+  asked_fits line q asks =
+      let there = subst (λ (os : List Outline). AsksFor os line q) (sym outlines_here) asks in
+      let fit = line_fits d.elements line q (readable d) (nothing_fits d (nothing_asked d.elements) refl) there in
+      (belonging.fit_alike T S back q (opening T.kinds) (record { requests = requests_fit d q fit; parts = opening_fits T.kinds })).requests
+
+  pub all_fit : (start : ℕ) (lines : List (List ℕ)) (qs : List Asking) → AreAsked S.elements start lines qs → AllFit S qs
+  all_fit start [] [] h = tt
+  all_fit start [] (q ∷ qs) h = absurd h
+  all_fit start (line ∷ lines) [] h = absurd h
+  all_fit start (line ∷ lines) (q ∷ qs) h = (asked_fits _ q h.0.asks, all_fit (start + length line) lines qs h.1)
+
+  pub all_fit_to_bad : (start : ℕ) (lines : List (List ℕ)) (qs : List Asking) → AreAskedToBad S.elements start lines qs → AllFit S qs
+  all_fit_to_bad start [] qs h = absurd h
+  all_fit_to_bad start (line ∷ lines) [] h = tt
+  all_fit_to_bad start (line ∷ lines) (q ∷ qs) h = (asked_fits _ q h.0.asks, all_fit_to_bad (start + length line) lines qs h.1)

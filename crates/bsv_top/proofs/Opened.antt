@@ -1,0 +1,65 @@
+-- A report whose opening state is put, and a trace that is chosen.
+use Rattle.std.proofs.Common.{◌≡◌, ◌⊎◌, inl, inr, ◌∙◌, ℕ, ◌+◌, ◌≤◌, List, [], length, refl, sym, ap, subst, arith}
+use Rattle.bsv_prim.specs.declared.part.Part.{Part}
+use Rattle.bsv_design.specs.Schemes.{Asking, Outline}
+use Rattle.bsv_design.specs.States.{opening}
+use Rattle.bsv_io.specs.Reading.{Reading, bytes_given, chosen, current_name}
+use Rattle.bsv_io.specs.Writing.{Writing, appended, AppendsPrefix}
+use Rattle.bsv_io.proofs.Appended.{nothing_put}
+use Rattle.bsv_trace.specs.Texts.{opening_text}
+use Rattle.bsv_flow.specs.declared.scheduling.Compiled.{Compiled}
+use Rattle.bsv_top.specs.declared.clocks.Run.{Run}
+use Rattle.bsv_top.specs.Reports.{report}
+use Rattle.bsv_top.specs.Places.{piece_limit}
+use Rattle.bsv_top.specs.Running as running
+use Rattle.bsv_top.specs.Running.{Follows, HasRun, IsBegunOf, IsFollowed, IsStart, its_subject}
+use Rattle.bsv_top.specs.Traces.{HasBadLine, bytes_in, lines_of}
+use Rattle.bsv_top.proofs.Named.{kinds_are}
+use Rattle.bsv_top.proofs.Runs.{report_none}
+use Rattle.bsv_top.proofs.Stepping.{nothing_run}
+
+module _ (c : Compiled) (start w : Writing) where
+  module _ (trace : List ℕ) where
+    no_clock : AppendsPrefix (report (its_subject c) []) start w → IsBegunOf c start trace w
+    no_clock prefix = record { front = []; rest = lines_of trace; qs = []; rows = []; lines = refl; asked = tt; runs = tt; prefix = prefix }
+
+    -- nothing is put
+    pub nothing_begun : w ≡ start → IsBegunOf c start trace w
+    nothing_begun same = no_clock (subst (λ (v : Writing). AppendsPrefix (report (its_subject c) []) start v) (sym same) (nothing_put (report (its_subject c) []) start))
+
+    -- a prefix of the opening state is put
+    pub opening_begun : (parts : List Part) → parts ≡ opening (its_subject c).scheme.kinds → AppendsPrefix (opening_text c.design.parts parts) start w → IsBegunOf c start trace w
+    opening_begun parts first prefix =
+        no_clock (subst (λ (t : List ℕ). AppendsPrefix t start w) (ap (opening_text c.design.parts) first ∙ sym (report_none (its_subject c))) prefix)
+
+  module _ (r : Run) (first : IsStart c.design r) where
+    pub opened_at : r.state.parts.items ≡ opening (its_subject c).scheme.kinds
+    opened_at = first.state ∙ ap opening (kinds_are c.design)
+
+    -- the opening state is put
+    pub opened : w ≡ appended (opening_text c.design.parts r.state.parts.items) start → HasRun c start [] r w
+    opened put =
+        nothing_run c start r w first.done first.at first.none opened_at (put ∙ ap (λ (ps : List Part). appended (opening_text c.design.parts ps) start) opened_at)
+
+-- how far a trace was read that was just chosen
+module _ (os : List Outline) (room : ℕ) (name : List ℕ) (contents : List ℕ → List ℕ) (old at new : Reading) (choice : at ≡ chosen name old) where
+  nothing_given : bytes_given at ≡ 0
+  nothing_given = ap (λ (r : Reading). bytes_given r) choice
+
+  pub followed : current_name new ≡ current_name at → bytes_given new ≤ bytes_given at + length (contents name)
+      → ((qs : List Asking) → HasBadLine os (contents name) qs → bytes_given new ≤ bytes_given at + bytes_in (length qs + 1) (lines_of (contents name)) + room)
+      → IsFollowed os room name contents new
+  followed current end bad = record {
+    current = current ∙ ap current_name choice;
+    end = omega (arith, end, nothing_given);
+    bad = λ qs h. omega (arith, bad qs h, nothing_given);
+  }
+
+-- with the buffer that a run has
+module _ (os : List Outline) (room : ℕ) (name trace : List ℕ) (contents : List ℕ → List ℕ) (old new : Reading) (same : name ≡ trace) (is : room ≡ piece_limit) where
+  pub followed_trace : IsFollowed os room name contents new → IsFollowed os piece_limit trace contents new
+  followed_trace h = subst (λ (n : ℕ). IsFollowed os n trace contents new) is (subst (λ (t : List ℕ). IsFollowed os room t contents new) same h)
+
+  pub follows : (bytes_given new ≡ 0) ⊎ IsFollowed os room name contents new → Follows os trace contents old new
+  follows (inl none) = running.Follows.nothing none
+  follows (inr h) = running.Follows.followed (followed_trace h)

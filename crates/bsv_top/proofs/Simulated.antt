@@ -1,0 +1,114 @@
+-- A run of what was compiled, as an answer; and how far it read.
+use Rattle.std.proofs.Common.{◌≡◌, ◌∙◌, inl, inr, ℕ, ◌<◌, ◌≤◌, List, Option, refl, sym, ap, subst, arith}
+use Rattle.std.proofs.lemmas.Bool.{cases_lt}
+use Rattle.bsv_io.specs.Reading.{Current, Reading, bytes_given, given_of}
+use Rattle.bsv_io.specs.Writing.{Writing}
+use Rattle.bsv_design.specs.Schemes.{Outline, tree_scheme}
+use Rattle.bsv_design.specs.Trees.{Hierarchy}
+use Rattle.bsv_flow.specs.declared.refusal.Refusal.{Refusal}
+use Rattle.bsv_flow.specs.declared.scheduling.Compiled.{Compiled}
+use Rattle.bsv_flow.specs.Compilings.{IsCompiled, IsPlanned}
+use Rattle.bsv_flow.specs.Schedulings.{subject}
+use Rattle.bsv_flow.specs.Sources.{read_limit}
+use Rattle.bsv_flow.proofs.Planned.{compiled_planned, one_tree_planned}
+use Rattle.bsv_top.specs.declared.status.Status.TheVariants as status
+use Rattle.bsv_top.specs.declared.stop.Stop.{Stop}
+use Rattle.bsv_top.specs.declared.stop.Stop.TheVariants as stop
+use Rattle.bsv_top.specs.Answers as a
+use Rattle.bsv_top.specs.Answers.{Answer, sim_words, trace_fault_line}
+use Rattle.bsv_top.specs.LaidOut.{IsLaidOut}
+use Rattle.bsv_top.specs.Outcomes as o
+use Rattle.bsv_top.specs.Outcomes.{IsDoneBy, IsUnread, OutputBegun}
+use Rattle.bsv_top.specs.Places as places
+use Rattle.bsv_top.specs.Places.{IsTraceWithin, ReadsWithin, piece_limit}
+use Rattle.bsv_top.specs.Reports.{report}
+use Rattle.bsv_top.specs.Running as running
+use Rattle.bsv_top.specs.Running.{Follows, IsBegunOf, IsDoneOf, IsFaultyOf, IsFollowed, its_outlines}
+use Rattle.bsv_top.specs.Stops.{IsStopOf}
+use Rattle.bsv_top.specs.Traces.{HasBadLine}
+use Rattle.bsv_top.proofs.Answering as answering
+use Rattle.bsv_top.proofs.Lifting as lifting
+
+-- ---- how far was read
+
+-- sources were loaded
+pub loaded_within : (file top trace : List ℕ) (contents : List ℕ → List ℕ) (first second : Reading) → (read_limit < bytes_given second → second.current ≡ first.current)
+    → ReadsWithin file top trace contents first second
+loaded_within file top trace contents first second loaded =
+    elim (cases_lt read_limit (bytes_given second)) [
+      | inl far ↦ places.ReadsWithin.unread (loaded far)
+      | inr near ↦ places.ReadsWithin.source near
+    ]
+
+module _ (file : List ℕ) (contents : List ℕ → List ℕ) (top trace : List ℕ) (c : Compiled) (x : IsCompiled file contents top c) where
+  abbrev words : List (List ℕ)
+  words = sim_words file top trace
+
+  abbrev tree : Hierarchy
+  tree = x.compiled.tree
+
+  planned : IsPlanned file contents top tree c.schedule
+  planned = compiled_planned file contents top c x
+
+  laid : IsLaidOut tree
+  laid = record { design = c.design; alike = x.compiled.design.alike }
+
+  -- ---- answers
+
+  pub simulated_done : (w next : Writing) → IsDoneOf c w (contents trace) next → IsDoneBy words contents w next
+  simulated_done w next h =
+      let done = lifting.done_here tree c.design c.schedule x.compiled.design.alike x.compiled.design.parts w (contents trace) next h in
+      record {
+        output = report (subject tree) done.rows;
+        answer = a.Answer.done tree c.schedule done.qs done.rows refl planned laid done.clean done.runs;
+        put = done.put;
+      }
+
+  pub simulated_begun : (w next : Writing) → IsBegunOf c w (contents trace) next → OutputBegun words contents w next
+  simulated_begun w next h =
+      answering.begun_output words contents file top trace refl tree c.schedule planned laid w next
+      (lifting.begun_here tree c.design c.schedule x.compiled.design.alike x.compiled.design.parts w (contents trace) next h)
+
+  simulated_bad : (w next : Writing) (number : ℕ) → IsFaultyOf c w (contents trace) next number → IsStopOf words contents w next (stop.BadLine number)
+  simulated_bad w next number h =
+      let bad = lifting.faulty_here tree c.design c.schedule x.compiled.design.alike x.compiled.design.parts w (contents trace) next number h in (
+        report (subject tree) bad.rows,
+        subst (λ (n : ℕ). Answer words contents status.TraceFault (report (subject tree) bad.rows) (trace_fault_line n)) (sym bad.number_is)
+        (a.Answer.trace_fault tree c.schedule bad.qs bad.rows refl planned laid bad.bad bad.runs),
+        bad.put,
+      )
+
+  pub simulated_stop : (w next : Writing) (s : Stop) → ((number : ℕ) → s ≡ stop.BadLine number → IsFaultyOf c w (contents trace) next number) → ((r : Refusal) → s ≡ stop.Refused r → ⊥)
+      → ((name : List ℕ) → s ≡ stop.Unread name → name ≡ trace) → IsStopOf words contents w next s
+  simulated_stop w next (stop.Refused r) bad own unread = absurd (own r refl)
+  simulated_stop w next (stop.Unread name) bad own unread =
+      subst (λ (n : List ℕ). IsStopOf words contents w next (stop.Unread n)) (sym (unread name refl)) (o.FaultText.of_trace file top tree c.schedule refl planned)
+  simulated_stop w next stop.Unwritable bad own unread = tt
+  simulated_stop w next stop.OutOfMemory bad own unread = tt
+  simulated_stop w next (stop.BadLine number) bad own unread = simulated_bad w next number (bad number refl)
+
+  -- ---- how far was read
+
+  pub trace_within : (r : Reading) → IsFollowed (its_outlines c) piece_limit trace contents r → IsTraceWithin file top trace contents r
+  trace_within r h = record {
+    current = h.current;
+    end = h.end;
+    bad = λ other made qs planning bad.
+        h.bad qs
+        (subst (λ (os : List Outline). HasBadLine os (contents trace) qs)
+        (ap (λ (t : Hierarchy). (tree_scheme t).elements) (one_tree_planned file contents top other tree made c.schedule planning planned) ∙ x.compiled.design.alike.elements) bad);
+  }
+
+  module _ (first second third : Reading) (loaded : read_limit < bytes_given second → second.current ≡ first.current) where
+    still : third.current ≡ second.current → ReadsWithin file top trace contents first third
+    still same =
+        elim (cases_lt read_limit (bytes_given second)) [
+          | inl far ↦ places.ReadsWithin.unread (same ∙ loaded far)
+          | inr near ↦ places.ReadsWithin.source (subst (λ (at : Option Current). given_of at ≤ read_limit) (sym same) near)
+        ]
+
+    -- sources were loaded, and then the trace was read
+    pub run_within : Follows (its_outlines c) trace contents second third → ReadsWithin file top trace contents first third
+    run_within (running.Follows.unread same) = still same
+    run_within (running.Follows.nothing none) = places.ReadsWithin.source (omega (arith, none))
+    run_within (running.Follows.followed h) = places.ReadsWithin.run (trace_within third h)

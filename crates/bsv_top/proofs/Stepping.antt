@@ -1,0 +1,353 @@
+-- A trace that is run line by line.
+use Rattle.std.proofs.Common.{◌≡◌, inl, inr, ℕ, suc, ◌+◌, ◌<◌, ◌≤◌, false, Result, Ok, Err, OnOk, OnErr, List, [], ◌∷◌, ◌++◌, length, refl, sym, ap, ◌∙◌, subst, arith, append_assoc, append-nil, length-append, zero-add}
+use Rattle.bsv_prim.specs.declared.part.Part.{Part}
+use Rattle.bsv_design.specs.Schemes.{Asking, Outline}
+use Rattle.bsv_design.specs.Seen.{asking}
+use Rattle.bsv_design.specs.declared.state.State.{State}
+use Rattle.bsv_design.specs.States.{opening}
+use Rattle.bsv_io.specs.Writing.{Writing, appended, AppendsPrefix}
+use Rattle.bsv_io.proofs.Appended.{whole_put}
+use Rattle.bsv_trace.specs.Lines.{AsksFor}
+use Rattle.bsv_trace.specs.Texts.{opening_text}
+use Rattle.bsv_clock.specs.Events.{Happens}
+use Rattle.bsv_clock.specs.Runs.{Row, Runs}
+use Rattle.bsv_flow.specs.declared.scheduling.Compiled.{Compiled}
+use Rattle.bsv_top.specs.declared.halt.Halt.{Halt}
+use Rattle.bsv_top.specs.declared.halt.Halt.TheVariants as halt
+use Rattle.bsv_top.specs.declared.lines.Lines.{Lines}
+use Rattle.bsv_top.specs.declared.clocks.Run.{Run}
+use Rattle.bsv_top.specs.Reading.{HasNoFeed, IsEnded, IsOver}
+use Rattle.bsv_top.specs.Reports.{report}
+use Rattle.bsv_top.specs.Running.{BeginsClock, EndsLine, HasRun, IsBegunOf, IsDoneOf, IsFaultyOf, RunsLine, StandsAt, its_subject, lines_of_clock, state_behind}
+use Rattle.bsv_top.specs.Traces.{IsBad, AreAsked, AreAskedToBad, HasBadLine, bytes_in, line_text, lines_of}
+use Rattle.bsv_top.proofs.Asked.{asked_append, asked_long, bad_append, bad_behind, bytes_behind, over_bad, total, total_append}
+use Rattle.bsv_top.proofs.Listed.{BeginsLine, begins_line, ends_line, ended_line, last_line, unended_append}
+use Rattle.bsv_top.proofs.Runs.{begun_clock, continues_append, put_clock, report_none, rows_long, state_append}
+
+-- what holds anyhow holds of a fault
+pub fails : {A E : Type 0} (r : Result A E) (P : Type 0) → P → OnErr r P
+fails (Ok x) P h = tt
+fails (Err e) P h = h
+
+pub at_fault : {A E : Type 0} (r : Result A E) (e : E) (P : Type 0) → r ≡ Err e → OnErr r P → P
+at_fault (Ok x) e P is h = absurd (let no_value : ⊥ = cc in no_value)
+at_fault (Err f) e P is h = h
+
+pub no_items : (xs : List ℕ) → length xs ≡ 0 → xs ≡ []
+no_items [] none = refl
+no_items (x ∷ xs) none = absurd (let no_value : ⊥ = omega (arith, none) in no_value)
+
+-- what was begun of a line is within its line
+held_within : (held left : List ℕ) (n : ℕ) → HasNoFeed held → length held ≤ bytes_in (n + 1) (lines_of (held ++ left))
+held_within [] left n h = omega arith
+held_within (b ∷ held) left n h =
+    let first = begins_line (b ∷ held) left h (omega arith) in
+    let at_first : bytes_in (n + 1) (lines_of ((b ∷ held) ++ left)) ≡ length first.line + bytes_in n first.rest =
+    ap (bytes_in (n + 1)) first.lines ∙ ap (λ (k : ℕ). bytes_in k (first.line ∷ first.rest)) (let same : n + 1 ≡ suc n = omega arith in same) in
+    omega (arith, at_first, first.long)
+
+-- what comes of a line: its clock was put or begun, or nothing was put
+pub data Stepped (c : Compiled) (old new : Run) (w next : Writing) : Type 0 where
+  one_clock : RunsLine c old new → AppendsPrefix (lines_of_clock c old new) w next → Stepped c old new w next
+  no_clock : next ≡ w → Stepped c old new w next
+
+pub stepped : (c : Compiled) (old new : Run) (w next : Writing) (r : Result (Unit {0}) Halt) → OnOk r (EndsLine c old new w next) → (r ≡ Err halt.Unwritable → BeginsClock c old new w next)
+    → OnErr r ((r ≡ Err halt.Unwritable → ⊥) → next ≡ w) → Stepped c old new w next
+stepped c old new w next (Ok x) ok begun quiet = one_clock ok.ran (whole_put (lines_of_clock c old new) w next ok.put)
+stepped c old new w next (Err halt.BadLine) ok begun quiet = no_clock (quiet (λ e. let no_value : ⊥ = cc in no_value))
+stepped c old new w next (Err halt.Unreadable) ok begun quiet = no_clock (quiet (λ e. let no_value : ⊥ = cc in no_value))
+stepped c old new w next (Err halt.Unwritable) ok begun quiet = let this = begun refl in one_clock this.ran this.prefix
+stepped c old new w next (Err halt.OutOfMemory) ok begun quiet = no_clock (quiet (λ e. let no_value : ⊥ = cc in no_value))
+
+module _ (c : Compiled) where
+  abbrev os : List Outline
+  os = (its_subject c).scheme.elements
+
+  -- ---- what was gathered
+
+  module _ (start : Writing) (read : List ℕ) (r : Run) (w : Writing) (run : HasRun c start read r w) where
+    abbrev held : List ℕ
+    held = r.lines.held.items
+
+    -- the lines of the whole trace, where these bytes come next
+    lines_next : (bytes left : List ℕ) → lines_of ((read ++ bytes) ++ left) ≡ run.stands.front ++ lines_of ((held ++ bytes) ++ left)
+    lines_next bytes left =
+        ap lines_of (append_assoc read bytes left) ∙ run.stands.lines (bytes ++ left)
+        ∙ ap (λ (t : List ℕ). run.stands.front ++ lines_of t) (sym (append_assoc held bytes left))
+
+    stands_at : 0 + total run.stands.front ≡ r.lines.at
+    stands_at = zero-add (total run.stands.front) ∙ run.stands.at
+
+    number_is : r.lines.done + 1 ≡ length run.rows + 1
+    number_is =
+        let rows = rows_long false (its_subject c).scheme c.schedule (opening (its_subject c).scheme.kinds) run.qs run.rows run.runs in
+        let asked = asked_long os 0 run.stands.front run.qs run.stands.asked in
+        omega (arith, rows, asked, run.stands.done)
+
+    -- ---- a prefix of a report
+
+    -- what was put so far
+    pub begun_behind : (trace left : List ℕ) → trace ≡ read ++ left → IsBegunOf c start trace w
+    begun_behind trace left whole = record {
+      front = run.stands.front;
+      rest = lines_of (held ++ left);
+      qs = run.qs;
+      rows = run.rows;
+      lines = ap lines_of whole ∙ run.stands.lines left;
+      asked = run.stands.asked;
+      runs = run.runs;
+      prefix = whole_put (report (its_subject c) run.rows) start w run.put;
+    }
+
+    pub begun_here : (bytes left : List ℕ) → IsBegunOf c start ((read ++ bytes) ++ left) w
+    begun_here bytes left = begun_behind ((read ++ bytes) ++ left) (bytes ++ left) (append_assoc read bytes left)
+
+    pub begun_whole : IsBegunOf c start read w
+    begun_whole = begun_behind read [] (sym (append-nil read))
+
+    -- ---- a bad line
+
+    bad_there : (trace : List ℕ) (first : List ℕ) (rest : List (List ℕ)) → lines_of trace ≡ run.stands.front ++ first ∷ rest → IsBad os (r.lines.at + length first) first
+        → HasBadLine os trace run.qs
+    bad_there trace first rest lines bad =
+        subst (λ (ls : List (List ℕ)). AreAskedToBad os 0 ls run.qs) (sym lines)
+        (subst (λ (qs : List Asking). AreAskedToBad os 0 (run.stands.front ++ first ∷ rest) qs) (append-nil run.qs)
+        (bad_append os 0 r.lines.at run.stands.front (first ∷ rest) run.qs [] (sym stands_at) run.stands.asked bad))
+
+    faulty_there : (trace : List ℕ) (number : ℕ) → HasBadLine os trace run.qs → number ≡ r.lines.done + 1 → IsFaultyOf c start trace w number
+    faulty_there trace number bad is = record {
+      qs = run.qs;
+      rows = run.rows;
+      bad = bad;
+      runs = run.runs;
+      number_is = let asked = asked_long os 0 run.stands.front run.qs run.stands.asked in omega (arith, is, asked, run.stands.done);
+      put = run.put;
+    }
+
+    -- what was begun of the line is too long
+    over_from : (bytes left : List ℕ) (number : ℕ) → IsOver r.lines.at (held ++ bytes) → BeginsLine (held ++ bytes) ((held ++ bytes) ++ left) → number ≡ r.lines.done + 1
+        → IsFaultyOf c start ((read ++ bytes) ++ left) w number
+    over_from bytes left number over first is =
+        faulty_there ((read ++ bytes) ++ left) number
+        (bad_there ((read ++ bytes) ++ left) first.line first.rest (lines_next bytes left ∙ ap (λ (ls : List (List ℕ)). run.stands.front ++ ls) first.lines)
+        (over_bad os r.lines.at (held ++ bytes) first.line over first.long)) is
+
+    pub over_ended : (bytes left : List ℕ) (number : ℕ) → IsEnded bytes → IsOver r.lines.at (held ++ bytes) → number ≡ r.lines.done + 1 → IsFaultyOf c start ((read ++ bytes) ++ left) w number
+    over_ended bytes left number ended over is = over_from bytes left number over (ends_line held bytes left run.unended ended) is
+
+    over_some : (bytes : List ℕ) → IsOver r.lines.at (held ++ bytes) → 0 < length (held ++ bytes)
+    over_some bytes (inl long) = omega (arith, long)
+    over_some bytes (inr far) = omega (arith, far, r.lines.within)
+
+    pub over_begun : (bytes left : List ℕ) (number : ℕ) → HasNoFeed bytes → IsOver r.lines.at (held ++ bytes) → number ≡ r.lines.done + 1
+        → IsFaultyOf c start ((read ++ bytes) ++ left) w number
+    over_begun bytes left number unended over is =
+        over_from bytes left number over (begins_line (held ++ bytes) left (unended_append held bytes run.unended unended) (over_some bytes over)) is
+
+    -- a line that was gathered whole asks for nothing
+    bad_line : (line : List ℕ) → ((q : Asking) → AsksFor os (line_text line) q → ⊥) → IsBad os (r.lines.at + length line) line
+    bad_line line none q asked = none q asked.asks
+
+    pub bad_ended : (bytes left line : List ℕ) (next : Writing) (number : ℕ) → IsEnded bytes → line ≡ held ++ bytes → ((q : Asking) → AsksFor os (line_text line) q → ⊥) → next ≡ w
+        → number ≡ r.lines.done + 1 → IsFaultyOf c start ((read ++ bytes) ++ left) next number
+    bad_ended bytes left line next number ended gathered none same is =
+        subst (λ (v : Writing). IsFaultyOf c start ((read ++ bytes) ++ left) v number) (sym same)
+        (faulty_there ((read ++ bytes) ++ left) number
+        (bad_there ((read ++ bytes) ++ left) line (lines_of left)
+        (lines_next bytes left ∙ ap (λ (ls : List (List ℕ)). run.stands.front ++ ls) (ended_line held bytes left run.unended ended ∙ ap (λ (t : List ℕ). t ∷ lines_of left) (sym gathered)))
+        (bad_line line none)) is)
+
+    lines_last : 0 < length held → lines_of read ≡ run.stands.front ++ held ∷ []
+    lines_last some =
+        ap lines_of (sym (append-nil read)) ∙ run.stands.lines []
+        ∙ ap (λ (t : List ℕ). run.stands.front ++ lines_of t) (append-nil held)
+        ∙ ap (λ (ls : List (List ℕ)). run.stands.front ++ ls) (last_line held run.unended some)
+
+    pub bad_last : (next : Writing) (number : ℕ) → 0 < length held → ((q : Asking) → AsksFor os (line_text held) q → ⊥) → next ≡ w → number ≡ r.lines.done + 1 → IsFaultyOf c start read next number
+    bad_last next number some none same is =
+        subst (λ (v : Writing). IsFaultyOf c start read v number) (sym same)
+        (faulty_there read number (bad_there read held [] (lines_last some) (bad_line held none)) is)
+
+    -- ---- a line more: the gathered line was run, and left a state
+
+    module _ (old new : Run) (state : old.state ≡ r.state) (at : old.lines.at ≡ r.lines.at) (done : old.lines.done ≡ r.lines.done) (ran : RunsLine c old new) where
+      abbrev line : List ℕ
+      line = old.lines.held.items
+
+      abbrev row : Row
+      row = record { fired = new.fired; after = new.state.parts.items }
+
+      one_row : Runs false (its_subject c).scheme c.schedule (run.qs ++ asking new.requests ∷ []) (run.rows ++ row ∷ [])
+      one_row =
+          let from : old.state.parts.items ≡ state_behind (opening (its_subject c).scheme.kinds) run.rows = ap (λ (s : State). s.parts.items) state ∙ run.state in
+          continues_append false (its_subject c).scheme c.schedule (opening (its_subject c).scheme.kinds) run.qs (asking new.requests ∷ []) run.rows (row ∷ []) run.runs
+          (subst (λ (s : List Part). Happens false (its_subject c).scheme c.schedule (asking new.requests) s new.fired new.state.parts.items) from ran.happens, tt)
+
+      one_asked : AreAsked os 0 (run.stands.front ++ line ∷ []) (run.qs ++ asking new.requests ∷ [])
+      one_asked =
+          asked_append os 0 r.lines.at run.stands.front (line ∷ []) run.qs (asking new.requests ∷ []) (sym stands_at) run.stands.asked
+          (record { within = omega (arith, old.lines.within, at); asks = ran.asks }, tt)
+
+      clock_number : old.lines.done + 1 ≡ length run.rows + 1
+      clock_number = ap (λ (n : ℕ). n + 1) done ∙ number_is
+
+      -- its clock was put
+      pub put_more : (next : Writing) → next ≡ appended (lines_of_clock c old new) w → next ≡ appended (report (its_subject c) (run.rows ++ row ∷ [])) start
+      put_more next put = put_clock (its_subject c) run.rows row (old.lines.done + 1) start w next clock_number run.put put
+
+      -- or a prefix of it
+      begun_more : (trace : List ℕ) (rest : List (List ℕ)) (next : Writing) → lines_of trace ≡ run.stands.front ++ line ∷ rest → AppendsPrefix (lines_of_clock c old new) w next
+          → IsBegunOf c start trace next
+      begun_more trace rest next lines prefix = record {
+        front = run.stands.front ++ line ∷ [];
+        rest = rest;
+        qs = run.qs ++ asking new.requests ∷ [];
+        rows = run.rows ++ row ∷ [];
+        lines = lines ∙ sym (append_assoc run.stands.front (line ∷ []) rest);
+        asked = one_asked;
+        runs = one_row;
+        prefix = begun_clock (its_subject c) run.rows row (old.lines.done + 1) start w next clock_number run.put prefix;
+      }
+
+      -- ---- of bytes that end the line
+
+      module _ (bytes : List ℕ) (ended : IsEnded bytes) (gathered : line ≡ held ++ bytes) where
+        lines_more : (left : List ℕ) → lines_of ((read ++ bytes) ++ left) ≡ run.stands.front ++ line ∷ lines_of left
+        lines_more left =
+            lines_next bytes left
+            ∙ ap (λ (ls : List (List ℕ)). run.stands.front ++ ls) (ended_line held bytes left run.unended ended ∙ ap (λ (t : List ℕ). t ∷ lines_of left) (sym gathered))
+
+        begun_ended : (left : List ℕ) (next : Writing) → AppendsPrefix (lines_of_clock c old new) w next → IsBegunOf c start ((read ++ bytes) ++ left) next
+        begun_ended left next prefix = begun_more ((read ++ bytes) ++ left) (lines_of left) next (lines_more left) prefix
+
+        stands_more : new.lines.done ≡ old.lines.done + 1 → new.lines.at ≡ old.lines.at + length line → new.lines.held.items ≡ []
+            → StandsAt os (read ++ bytes) new.lines (run.qs ++ asking new.requests ∷ [])
+        stands_more is there none = record {
+          front = run.stands.front ++ line ∷ [];
+          lines = λ left.
+              lines_more left ∙ sym (append_assoc run.stands.front (line ∷ []) (lines_of left))
+              ∙ ap (λ (t : List ℕ). (run.stands.front ++ line ∷ []) ++ lines_of (t ++ left)) (sym none);
+          asked = one_asked;
+          done = omega (arith, length-append run.stands.front (line ∷ []), run.stands.done, is, done);
+          at = total_append run.stands.front (line ∷ []) ∙ (omega (arith, run.stands.at, there, at));
+          long = omega (arith, length-append read bytes, length-append held bytes, ap (λ (t : List ℕ). length t) gathered, ap (λ (t : List ℕ). length t) none, run.stands.long, there, at);
+        }
+
+        pub ran_ended : (next : Writing) → EndsLine c old new w next → HasRun c start (read ++ bytes) new next
+        ran_ended next this = record {
+          qs = run.qs ++ asking new.requests ∷ [];
+          rows = run.rows ++ row ∷ [];
+          stands = stands_more this.done this.at this.none;
+          unended = subst HasNoFeed (sym this.none) tt;
+          runs = one_row;
+          state = sym (state_append (opening (its_subject c).scheme.kinds) run.rows (row ∷ []));
+          put = put_more next this.put;
+        }
+
+      -- ---- of the end of the trace
+
+      module _ (gathered : line ≡ held) (some : 0 < length held) where
+        lines_whole : lines_of read ≡ run.stands.front ++ line ∷ []
+        lines_whole = lines_last some ∙ ap (λ (t : List ℕ). run.stands.front ++ t ∷ []) (sym gathered)
+
+        begun_last : (next : Writing) → AppendsPrefix (lines_of_clock c old new) w next → IsBegunOf c start read next
+        begun_last next prefix = begun_more read [] next lines_whole prefix
+
+        pub done_last : (next : Writing) → next ≡ appended (lines_of_clock c old new) w → IsDoneOf c start read next
+        done_last next put = record {
+          qs = run.qs ++ asking new.requests ∷ [];
+          rows = run.rows ++ row ∷ [];
+          clean = subst (λ (ls : List (List ℕ)). AreAsked os 0 ls (run.qs ++ asking new.requests ∷ [])) (sym lines_whole) one_asked;
+          runs = one_row;
+          put = put_more next put;
+        }
+
+    -- ---- whatever came of a line
+
+    module _ (old new : Run) (state : old.state ≡ r.state) (at : old.lines.at ≡ r.lines.at) (done : old.lines.done ≡ r.lines.done) where
+      pub stepped_ended : (bytes left : List ℕ) (next : Writing) → IsEnded bytes → old.lines.held.items ≡ held ++ bytes → Stepped c old new w next → IsBegunOf c start ((read ++ bytes) ++ left) next
+      stepped_ended bytes left next ended gathered (one_clock this prefix) = begun_ended old new state at done this bytes ended gathered left next prefix
+      stepped_ended bytes left next ended gathered (no_clock same) = subst (λ (v : Writing). IsBegunOf c start ((read ++ bytes) ++ left) v) (sym same) (begun_here bytes left)
+
+      pub stepped_last : (next : Writing) → old.lines.held.items ≡ held → 0 < length held → Stepped c old new w next → IsBegunOf c start read next
+      stepped_last next gathered some (one_clock this prefix) = begun_last old new state at done this gathered some next prefix
+      stepped_last next gathered some (no_clock same) = subst (λ (v : Writing). IsBegunOf c start read v) (sym same) begun_whole
+
+    -- nothing was begun of a line at the end of the trace
+    pub done_here : held ≡ [] → IsDoneOf c start read w
+    done_here none =
+        let lines : lines_of read ≡ run.stands.front =
+        ap lines_of (sym (append-nil read)) ∙ run.stands.lines [] ∙ ap (λ (t : List ℕ). run.stands.front ++ lines_of (t ++ [])) none ∙ append-nil run.stands.front in
+        record {
+          qs = run.qs;
+          rows = run.rows;
+          clean = subst (λ (ls : List (List ℕ)). AreAsked os 0 ls run.qs) (sym lines) run.stands.asked;
+          runs = run.runs;
+          put = run.put;
+        }
+
+    -- bytes were gathered that end no line
+    pub gathered_more : (bytes : List ℕ) (lines : Lines) → HasNoFeed bytes → lines.held.items ≡ held ++ bytes → lines.done ≡ r.lines.done → lines.at ≡ r.lines.at
+        → HasRun c start (read ++ bytes) (record r { lines = lines }) w
+    gathered_more bytes lines unended gathered done at = record {
+      qs = run.qs;
+      rows = run.rows;
+      stands = record {
+        front = run.stands.front;
+        lines = λ left. lines_next bytes left ∙ ap (λ (t : List ℕ). run.stands.front ++ lines_of (t ++ left)) (sym gathered);
+        asked = run.stands.asked;
+        done = run.stands.done ∙ sym done;
+        at = run.stands.at ∙ sym at;
+        long = omega (arith, length-append read bytes, length-append held bytes, ap (λ (t : List ℕ). length t) gathered, run.stands.long, at);
+      };
+      unended = subst HasNoFeed (sym gathered) (unended_append held bytes run.unended unended);
+      runs = run.runs;
+      state = run.state;
+      put = run.put;
+    }
+
+    -- ---- how far was read
+
+    -- no byte that was read stands behind the first bad line
+    pub read_within : (trace left : List ℕ) (qs : List Asking) → trace ≡ read ++ left → HasBadLine os trace qs → length read ≤ bytes_in (length qs + 1) (lines_of trace)
+    read_within trace left qs whole bad =
+        let lines : lines_of trace ≡ run.stands.front ++ lines_of (held ++ left) = ap lines_of whole ∙ run.stands.lines left in
+        let behind = bad_behind os 0 r.lines.at run.stands.front (lines_of (held ++ left)) run.qs qs (sym stands_at) run.stands.asked
+        (subst (λ (ls : List (List ℕ)). AreAskedToBad os 0 ls qs) lines bad) in
+        let long = behind.long in
+        let count : length qs + 1 ≡ length run.stands.front + (length behind.more + 1) = omega (arith, long) in
+        let all : bytes_in (length qs + 1) (lines_of trace) ≡ total run.stands.front + bytes_in (length behind.more + 1) (lines_of (held ++ left)) =
+        ap (λ (n : ℕ). bytes_in n (lines_of trace)) count ∙ ap (bytes_in (length run.stands.front + (length behind.more + 1))) lines
+        ∙ bytes_behind run.stands.front (lines_of (held ++ left)) (length behind.more + 1) in
+        omega (arith, all, run.stands.at, run.stands.long, held_within held left (length behind.more) run.unended)
+
+-- a piece, of which so much is gone, and whose next line stands in front of the rest
+pub cut : (read gone line behind piece rest left : List ℕ) → piece ≡ gone ++ rest → rest ≡ line ++ behind → ((read ++ gone) ++ line) ++ (behind ++ left) ≡ (read ++ piece) ++ left
+cut read gone line behind piece rest left whole next =
+    sym (append_assoc ((read ++ gone) ++ line) behind left)
+    ∙ ap (λ (t : List ℕ). t ++ left)
+    (append_assoc (read ++ gone) line behind ∙ append_assoc read gone (line ++ behind)
+    ∙ ap (λ (t : List ℕ). read ++ (gone ++ t)) (sym next) ∙ ap (λ (t : List ℕ). read ++ t) (sym whole))
+
+pub cut_rest : (read gone piece rest : List ℕ) → piece ≡ gone ++ rest → (read ++ gone) ++ rest ≡ read ++ piece
+cut_rest read gone piece rest whole = append_assoc read gone rest ∙ ap (λ (t : List ℕ). read ++ t) (sym whole)
+
+-- the start of a trace
+pub nothing_run : (c : Compiled) (start : Writing) (r : Run) (w : Writing) → r.lines.done ≡ 0 → r.lines.at ≡ 0 → r.lines.held.items ≡ []
+    → r.state.parts.items ≡ opening (its_subject c).scheme.kinds → w ≡ appended (opening_text (its_subject c).parts (opening (its_subject c).scheme.kinds)) start → HasRun c start [] r w
+nothing_run c start r w done at none state put = record {
+  qs = [];
+  rows = [];
+  stands = record {
+    front = [];
+    lines = λ left. ap (λ (t : List ℕ). lines_of (t ++ left)) (sym none);
+    asked = tt;
+    done = sym done;
+    at = sym at;
+    long = omega (arith, at, ap (λ (t : List ℕ). length t) none);
+  };
+  unended = subst HasNoFeed (sym none) tt;
+  runs = tt;
+  state = state;
+  put = put ∙ ap (λ (t : List ℕ). appended t start) (sym (report_none (its_subject c)));
+}

@@ -1,0 +1,20 @@
+use Rattle.bsv_design.specs.Schemes.{kinds_of}
+use Rattle.bsv_design.specs.Seen.{blueprint}
+use Rattle.bsv_top.proofs.Opening.{opened_fits}
+use Rattle.bsv_top.proofs.clocks.Run.new.Goals as goal
+
+pub returns : goal.returns
+returns c =
+    let lines = c.in_ok-new.ensures in
+    let room = c.in_ok-new-3.ensures in
+    record {
+      fits = record {
+        parts = opened_fits (kinds_of (blueprint c.args.design.now)) c.in_ok-opening.field-0.parts.items c.in_ok-opening.ensures;
+        requests = c.in_ok-new-2.ensures.fit;
+        room = record { list = room.list_room; stopped = room.stopped_room; blocked = room.blocked_room; results = room.results_room };
+      };
+      done = lines.done;
+      at = lines.at;
+      none = lines.held;
+      state = c.in_ok-opening.ensures;
+    }

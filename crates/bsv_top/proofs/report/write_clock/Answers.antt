@@ -1,6 +1,0 @@
-use Rattle.bsv_io.proofs.Sequences.{prefix_flushing}
-use Rattle.bsv_top.proofs.report.write_clock.Goals as goal
-
-pub returns-clause-prefix : goal.returns-clause-prefix
-returns-clause-prefix g c =
-    prefix_flushing _ _ _ _ _ _ c.new-buffer.ensures c.in_ok-add_clock.ensures.prefix c.in_ok-add_clock.ensures.ok c.flush.ensures.prefix

@@ -1,0 +1,52 @@
+use Rattle.std.proofs.Common.{inr, length, refl}
+use Rattle.std.proofs.lemmas.Result.{on_ok_weaker}
+use Rattle.bsv_flow.proofs.Sourced.{rest_chosen}
+use Rattle.bsv_top.specs.Running.{its_outlines}
+use Rattle.bsv_top.proofs.Opened.{followed, nothing_begun, opened, opened_at, opening_begun}
+use Rattle.bsv_top.proofs.simulation.put_report.Goals as goal
+
+pub returns-in-Err-clause-begun : goal.returns-in-Err-clause-begun
+returns-in-Err-clause-begun g c = λ contents told.
+    nothing_begun c.args.compiled.now (g.O.Sink.writing c.args.out.now) (g.O.Sink.writing c.args.out.now) (contents c.args.name) refl
+
+pub returns-in_err-write_opening-clause-begun : goal.returns-in_err-write_opening-clause-begun
+returns-in_err-write_opening-clause-begun g c = λ contents told.
+    opening_begun c.args.compiled.now (g.O.Sink.writing c.args.out.now) (g.O.Sink.writing c.write_opening.new.sink) (contents c.args.name) c.args.run.now.state.parts.items
+    (opened_at c.args.compiled.now (g.O.Sink.writing c.args.out.now) (g.O.Sink.writing c.args.out.now) c.args.run.now c.requires.start) c.write_opening.ensures.prefix
+
+pub returns-clause-done : goal.returns-clause-done
+returns-clause-done g c =
+    on_ok_weaker c.run_trace.result
+    (λ run contents told.
+    run (g.O.Sink.writing c.args.out.now) (contents c.args.name)
+    (opened c.args.compiled.now (g.O.Sink.writing c.args.out.now) (g.O.Sink.writing c.write_opening.new.sink) c.args.run.now c.requires.start c.in_ok-write_opening.ensures.ok)
+    (rest_chosen (g.F.Files.reading c.args.files.now) (g.F.Files.reading c.choose.new.self) c.args.name c.args.name contents c.in_default.ensures.ok refl told)) c.run_trace.ensures.done
+
+pub returns-clause-bad : goal.returns-clause-bad
+returns-clause-bad g c = λ h contents told.
+    c.run_trace.ensures.bad h (g.O.Sink.writing c.args.out.now) (contents c.args.name)
+    (opened c.args.compiled.now (g.O.Sink.writing c.args.out.now) (g.O.Sink.writing c.write_opening.new.sink) c.args.run.now c.requires.start c.in_ok-write_opening.ensures.ok)
+    (rest_chosen (g.F.Files.reading c.args.files.now) (g.F.Files.reading c.choose.new.self) c.args.name c.args.name contents c.in_default.ensures.ok refl told)
+
+pub returns-clause-begun : goal.returns-clause-begun
+returns-clause-begun g c = λ contents told.
+    c.run_trace.ensures.begun (g.O.Sink.writing c.args.out.now) (contents c.args.name)
+    (opened c.args.compiled.now (g.O.Sink.writing c.args.out.now) (g.O.Sink.writing c.write_opening.new.sink) c.args.run.now c.requires.start c.in_ok-write_opening.ensures.ok)
+    (rest_chosen (g.F.Files.reading c.args.files.now) (g.F.Files.reading c.choose.new.self) c.args.name c.args.name contents c.in_default.ensures.ok refl told)
+
+pub returns-clause-followed : goal.returns-clause-followed
+returns-clause-followed g c = λ h contents told.
+    let whole = rest_chosen (g.F.Files.reading c.args.files.now) (g.F.Files.reading c.choose.new.self) c.args.name c.args.name contents c.in_default.ensures.ok refl told in
+    let from = opened c.args.compiled.now (g.O.Sink.writing c.args.out.now) (g.O.Sink.writing c.write_opening.new.sink) c.args.run.now c.requires.start c.in_ok-write_opening.ensures.ok in
+    followed (its_outlines c.args.compiled.now) (length c.args.buffer.now) c.args.name contents (g.F.Files.reading c.args.files.now) (g.F.Files.reading c.choose.new.self) (g.F.Files.reading c.run_trace.new.files) c.in_default.ensures.ok
+    c.run_trace.ensures.current (c.run_trace.ensures.end (contents c.args.name) whole)
+    (λ qs bad. c.run_trace.ensures.within (g.O.Sink.writing c.args.out.now) (contents c.args.name) qs from whole bad)
+
+pub returns-clause-within : goal.returns-clause-within
+returns-clause-within g c = λ contents told.
+    let whole = rest_chosen (g.F.Files.reading c.args.files.now) (g.F.Files.reading c.choose.new.self) c.args.name c.args.name contents c.in_default.ensures.ok refl told in
+    let from = opened c.args.compiled.now (g.O.Sink.writing c.args.out.now) (g.O.Sink.writing c.write_opening.new.sink) c.args.run.now c.requires.start c.in_ok-write_opening.ensures.ok in
+    inr
+    (followed (its_outlines c.args.compiled.now) (length c.args.buffer.now) c.args.name contents (g.F.Files.reading c.args.files.now) (g.F.Files.reading c.choose.new.self) (g.F.Files.reading c.run_trace.new.files) c.in_default.ensures.ok
+    c.run_trace.ensures.current (c.run_trace.ensures.end (contents c.args.name) whole)
+    (λ qs bad. c.run_trace.ensures.within (g.O.Sink.writing c.args.out.now) (contents c.args.name) qs from whole bad))

@@ -1,0 +1,88 @@
+use Rattle.std.proofs.Common.{◌≡◌, ◌∙◌, ℕ, ◌+◌, List, length, Some, Err, refl, sym, ap, subst, arith}
+use Rattle.bsv_top.specs.declared.halt.Halt.TheVariants as halt
+use Rattle.bsv_top.specs.Places.{piece_limit}
+use Rattle.bsv_top.specs.Running.{IsBegunOf, IsDoneOf, IsFaultyOf, its_outlines}
+use Rattle.bsv_top.proofs.Halted.{halted_bad, halted_read, halted_refused, halted_unread, halted_unwritable, halted_written, not_unreadable}
+use Rattle.bsv_top.proofs.Opened.{followed_trace, follows, nothing_begun}
+use Rattle.bsv_top.proofs.Stopped.{same_fault}
+use Rattle.bsv_top.proofs.simulation.run_over.Goals as goal
+
+pub returns-in_err-run-clause-begun : goal.returns-in_err-run-clause-begun
+returns-in_err-run-clause-begun g c = λ contents told.
+    nothing_begun c.args.compiled.now (g.O.Sink.writing c.args.out.now) (g.O.Sink.writing c.args.out.now) (contents c.args.trace.now) refl
+
+pub returns-in_err-buffer-clause-begun : goal.returns-in_err-buffer-clause-begun
+returns-in_err-buffer-clause-begun g c = λ contents told.
+    nothing_begun c.args.compiled.now (g.O.Sink.writing c.args.out.now) (g.O.Sink.writing c.args.out.now) (contents c.args.trace.now) refl
+
+pub returns-in_err-name-clause-begun : goal.returns-in_err-name-clause-begun
+returns-in_err-name-clause-begun g c = λ contents told.
+    nothing_begun c.args.compiled.now (g.O.Sink.writing c.args.out.now) (g.O.Sink.writing c.args.out.now) (contents c.args.trace.now) refl
+
+pub returns-in_err-blamed-clause-begun : goal.returns-in_err-blamed-clause-begun
+returns-in_err-blamed-clause-begun g c = λ contents told.
+    nothing_begun c.args.compiled.now (g.O.Sink.writing c.args.out.now) (g.O.Sink.writing c.args.out.now) (contents c.args.trace.now) refl
+
+pub returns-in-Ok-clause-done : goal.returns-in-Ok-clause-done
+returns-in-Ok-clause-done g c = λ contents told.
+    subst (λ (name : List ℕ). IsDoneOf c.args.compiled.now (g.O.Sink.writing c.args.out.now) (contents name) (g.O.Sink.writing c.put_report.new.out)) (c.in_ok-name.ensures ∙ c.as_bytes.ensures.value)
+    (c.in-Ok.ensures.done contents told)
+
+pub returns-in-Ok-clause-begun : goal.returns-in-Ok-clause-begun
+returns-in-Ok-clause-begun g c = λ contents told.
+    subst (λ (name : List ℕ). IsBegunOf c.args.compiled.now (g.O.Sink.writing c.args.out.now) (contents name) (g.O.Sink.writing c.put_report.new.out)) (c.in_ok-name.ensures ∙ c.as_bytes.ensures.value)
+    (c.in-Ok.ensures.begun contents told)
+
+pub returns-in-Ok-clause-done_within : goal.returns-in-Ok-clause-done_within
+returns-in-Ok-clause-done_within g c = λ contents told.
+    let room : length c.deref_mut.result.now ≡ piece_limit = omega (arith, c.in_ok-buffer.ensures.len) in
+    followed_trace (its_outlines c.args.compiled.now) (length c.deref_mut.result.now) c.in_ok-name.name c.args.trace.now contents (g.F.Files.reading c.args.files.now) (g.F.Files.reading c.put_report.new.files)
+    (c.in_ok-name.ensures ∙ c.as_bytes.ensures.value) room (c.in-Ok.ensures.followed (λ e. let no_value : ⊥ = cc in no_value) contents told)
+
+pub returns-clause-bad : goal.returns-clause-bad
+returns-clause-bad g c = λ number h contents told.
+    let why = halted_bad c.stop_for.result c.in-Err.halt c.in_ok-blamed.blamed (c.put_report.new.run.lines.done + 1) c.stop_for.ensures number h in
+    subst (λ (n : ℕ). IsFaultyOf c.args.compiled.now (g.O.Sink.writing c.args.out.now) (contents c.args.trace.now) (g.O.Sink.writing c.put_report.new.out) n) why.1
+    (subst (λ (name : List ℕ). IsFaultyOf c.args.compiled.now (g.O.Sink.writing c.args.out.now) (contents name) (g.O.Sink.writing c.put_report.new.out) (c.put_report.new.run.lines.done + 1)) (c.in_ok-name.ensures ∙ c.as_bytes.ensures.value)
+    (c.in-Err.ensures.bad (ap Err why.0) contents told))
+
+pub returns-clause-begun : goal.returns-clause-begun
+returns-clause-begun g c = λ contents told.
+    subst (λ (name : List ℕ). IsBegunOf c.args.compiled.now (g.O.Sink.writing c.args.out.now) (contents name) (g.O.Sink.writing c.put_report.new.out)) (c.in_ok-name.ensures ∙ c.as_bytes.ensures.value)
+    (c.in-Err.ensures.begun contents told)
+
+pub returns-clause-own : goal.returns-clause-own
+returns-clause-own g c = λ r h. halted_refused c.stop_for.result c.in-Err.halt c.in_ok-blamed.blamed (c.put_report.new.run.lines.done + 1) c.stop_for.ensures r h
+
+pub returns-clause-unread : goal.returns-clause-unread
+returns-clause-unread g c = λ name h.
+    let why = halted_unread c.stop_for.result c.in-Err.halt c.in_ok-blamed.blamed (c.put_report.new.run.lines.done + 1) c.stop_for.ensures name h in
+    let this = c.in-Err.ensures.unreadable (ap Err why.0) in
+    let one = c.in_ok-name.ensures ∙ c.as_bytes.ensures.value in
+    let two = c.in_ok-blamed.ensures ∙ c.as_bytes-2.ensures.value in
+    (sym why.1 ∙ two, this.0, this.1 ∙ ap Some (one ∙ sym two ∙ why.1))
+
+pub returns-clause-unwritable : goal.returns-clause-unwritable
+returns-clause-unwritable g c = λ h.
+    c.in-Err.ensures.unwritable (ap Err (halted_unwritable c.stop_for.result c.in-Err.halt c.in_ok-blamed.blamed (c.put_report.new.run.lines.done + 1) c.stop_for.ensures h))
+
+pub returns-clause-within : goal.returns-clause-within
+returns-clause-within g c = λ contents told.
+    let room : length c.deref_mut.result.now ≡ piece_limit = omega (arith, c.in_ok-buffer.ensures.len) in
+    follows (its_outlines c.args.compiled.now) (length c.deref_mut.result.now) c.in_ok-name.name c.args.trace.now contents (g.F.Files.reading c.args.files.now) (g.F.Files.reading c.put_report.new.files)
+    (c.in_ok-name.ensures ∙ c.as_bytes.ensures.value) room (c.in-Err.ensures.within contents told)
+
+pub returns-clause-bad_within : goal.returns-clause-bad_within
+returns-clause-bad_within g c = λ number h contents told.
+    let why = halted_bad c.stop_for.result c.in-Err.halt c.in_ok-blamed.blamed (c.put_report.new.run.lines.done + 1) c.stop_for.ensures number h in
+    let room : length c.deref_mut.result.now ≡ piece_limit = omega (arith, c.in_ok-buffer.ensures.len) in
+    followed_trace (its_outlines c.args.compiled.now) (length c.deref_mut.result.now) c.in_ok-name.name c.args.trace.now contents (g.F.Files.reading c.args.files.now) (g.F.Files.reading c.put_report.new.files)
+    (c.in_ok-name.ensures ∙ c.as_bytes.ensures.value) room (c.in-Err.ensures.followed (λ e. not_unreadable c.in-Err.halt why.0 e) contents told)
+
+pub returns-clause-files_kept : goal.returns-clause-files_kept
+returns-clause-files_kept g c = λ none.
+    c.in-Err.ensures.files_kept (λ e. halted_read c.stop_for.result c.in-Err.halt c.in_ok-blamed.blamed (c.put_report.new.run.lines.done + 1) c.stop_for.ensures none (same_fault c.in-Err.halt halt.Unreadable e))
+
+pub returns-clause-out_kept : goal.returns-clause-out_kept
+returns-clause-out_kept g c = λ none.
+    c.in-Err.ensures.out_kept (λ e. halted_written c.stop_for.result c.in-Err.halt c.in_ok-blamed.blamed (c.put_report.new.run.lines.done + 1) c.stop_for.ensures none (same_fault c.in-Err.halt halt.Unwritable e))

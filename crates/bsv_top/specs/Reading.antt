@@ -1,0 +1,27 @@
+-- A trace that is read piece by piece: where a line ends, and how much of one is kept.
+use Rattle.std.specs.Prelude.{◌≡◌, ◌≢◌, ◌<◌, ◌⊎◌, ℕ, ◌+◌, List, [], ◌∷◌, ◌++◌, length}
+use Rattle.bsv_top.specs.Traces.{trace_limit}
+
+-- no byte is a line feed
+abbrev pub HasNoFeed : List ℕ → Type 0
+HasNoFeed [] = Unit {0}
+HasNoFeed (byte ∷ bytes) = (byte ≢ 10) × HasNoFeed bytes
+
+-- the bytes are ended by their one line feed
+pub record IsEnded (bytes : List ℕ) : Type 0 where
+  pub front : List ℕ
+  pub unended : HasNoFeed front
+  pub is : bytes ≡ front ++ 10 ∷ []
+
+-- the bytes up to the first line feed, and those behind it
+pub record IsFirstLine (bytes line behind : List ℕ) : Type 0 where
+  pub ended : IsEnded line
+  pub whole : bytes ≡ line ++ behind
+
+-- a line may have so many bytes with its end: a carriage return and a line feed
+abbrev pub line_limit : ℕ
+line_limit = 4098
+
+-- what was begun of a line behind so many bytes is too long, or ends behind the limit of traces
+abbrev pub IsOver : ℕ → List ℕ → Type 0
+IsOver at line = (line_limit < length line) ⊎ (trace_limit < at + length line)

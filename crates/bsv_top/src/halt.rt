@@ -1,0 +1,39 @@
+ghost use Rattle.std.specs.Prelude.{◌≡◌};
+ghost use Rattle.bsv_top.specs.declared.halt.Halt.TheVariants as halt;
+
+use bsv_bits::OutOfMemory;
+use bsv_io::Failed;
+use bsv_trace::BadLine;
+
+/// Why a trace is not run to its end: a line is bad, the source or the sink failed, or memory is wanting.
+#[derive(Clone, Copy)]
+pub(crate) enum Halt {
+    BadLine,
+    Unreadable,
+    Unwritable,
+    OutOfMemory,
+}
+
+impl From<BadLine> for Halt {
+    ghost from_gives = { λ _ h. h ≡ halt.BadLine };
+
+    fn from(_line: BadLine) -> Halt {
+        Halt::BadLine
+    }
+}
+
+impl From<Failed> for Halt {
+    ghost from_gives = { λ _ h. h ≡ halt.Unwritable };
+
+    fn from(_failed: Failed) -> Halt {
+        Halt::Unwritable
+    }
+}
+
+impl From<OutOfMemory> for Halt {
+    ghost from_gives = { λ _ h. h ≡ halt.OutOfMemory };
+
+    fn from(_error: OutOfMemory) -> Halt {
+        Halt::OutOfMemory
+    }
+}

@@ -1,0 +1,226 @@
+ghost use Rattle.std.specs.Prelude.{◌≡◌, ◌⊎◌, ℕ, ◌+◌, ◌<◌, ◌≤◌, List, length, Some, Err, IfOk, OnOk};
+ghost use Rattle.bsv_io.specs.Faults.{MayFault};
+ghost use Rattle.bsv_io.specs.Reading.{bytes_given};
+ghost use Rattle.bsv_flow.specs.Buildings.{Rejects};
+ghost use Rattle.bsv_flow.specs.Compilings.{IsCompiled};
+ghost use Rattle.bsv_flow.specs.Loads.{Reaches};
+ghost use Rattle.bsv_flow.specs.Sources.{read_limit};
+ghost use Rattle.bsv_flow.specs.declared.refusal.CompileFault.TheVariants as fault;
+ghost use Rattle.bsv_flow.specs.declared.refusal.Refusal.{Refusal as TheRefusal};
+ghost use Rattle.bsv_top.specs.Answers.{sim_words};
+ghost use Rattle.bsv_top.specs.Outcomes.{IsDoneBy, IsUnread, OutputBegun};
+ghost use Rattle.bsv_top.specs.Places.{IsTraceWithin, ReadsWithin, piece_limit};
+ghost use Rattle.bsv_top.specs.Running.{CanRun, IsStart, IsBegunOf, IsDoneOf, IsFaultyOf};
+ghost use Rattle.bsv_top.specs.Running.{Follows, IsFollowed, its_outlines};
+ghost use Rattle.bsv_top.specs.Stops.{IsStopOf, stop_for};
+ghost use Rattle.bsv_top.specs.declared.halt.Halt.TheVariants as halt;
+ghost use Rattle.bsv_top.specs.declared.stop.Stop.{Stop as TheStop};
+
+use crate::clocks::Run;
+use crate::follow::run_trace;
+use crate::form::Simulation;
+use crate::halt::Halt;
+use crate::stop::Stop;
+use bsv_bits::Name;
+use bsv_flow::{CompileFault, Compiled, compiled, load};
+use bsv_io::{Failed, Files, Sink};
+use bsv_trace::write_opening;
+use std::alloc::Global;
+use std::thread::Threads;
+
+/// Chooses the trace, and puts the report of its run; `buffer` is room to read into.
+fn put_report<F: Files, O: Sink>(
+    alloc: Global,
+    files: &mut F,
+    name: Name,
+    compiled: &Compiled,
+    run: &mut Run,
+    buffer: &mut [u8],
+    out: &mut O,
+) -> Result<(), Halt>
+    requires compiled { CanRun compiled.now }
+    requires start { IsStart compiled.now.design run.old }
+    requires room { 0 < length buffer.old }
+    ensures done { OnOk result ((contents : List ℕ → List ℕ)
+        → (F.reading files.old).contents ≡ Some contents
+        → IsDoneOf compiled.now (O.writing out.old) (contents name) (O.writing out.new)) }
+    ensures bad { result ≡ Err Halt.BadLine → (contents : List ℕ → List ℕ)
+        → (F.reading files.old).contents ≡ Some contents
+        → IsFaultyOf compiled.now (O.writing out.old) (contents name) (O.writing out.new)
+        (run.new.lines.done + 1) }
+    ensures begun { (contents : List ℕ → List ℕ)
+        → (F.reading files.old).contents ≡ Some contents
+        → IsBegunOf compiled.now (O.writing out.old) (contents name) (O.writing out.new) }
+    ensures unreadable { result ≡ Err Halt.Unreadable
+        → MayFault (F.reading files.old).faults (F.reading files.new).faults
+        × ((F.reading files.new).blamed ≡ Some name) }
+    ensures unwritable { result ≡ Err Halt.Unwritable
+        → MayFault (O.writing out.old).faults (O.writing out.new).faults }
+    ensures followed { (result ≡ Err Halt.Unreadable → ⊥) → (contents : List ℕ → List ℕ)
+        → (F.reading files.old).contents ≡ Some contents
+        → IsFollowed (its_outlines compiled.now) (length buffer.old) name contents
+        (F.reading files.new) }
+    ensures within { (contents : List ℕ → List ℕ)
+        → (F.reading files.old).contents ≡ Some contents
+        → (bytes_given (F.reading files.new) ≡ 0) ⊎ IsFollowed (its_outlines compiled.now)
+        (length buffer.old) name contents (F.reading files.new) }
+    ensures files_count { (F.reading files.old).faults ≤ (F.reading files.new).faults }
+    ensures files_kept { (result ≡ Err Halt.Unreadable → ⊥)
+        → (F.reading files.new).faults ≡ (F.reading files.old).faults }
+    ensures out_count { (O.writing out.old).faults ≤ (O.writing out.new).faults }
+    ensures out_kept { (result ≡ Err Halt.Unwritable → ⊥)
+        → (O.writing out.new).faults ≡ (O.writing out.old).faults }
+{
+    if let Err(Failed) = files.choose(name) {
+        return Err(Halt::Unreadable);
+    }
+    write_opening(&compiled.design, &run.state, out)?;
+    run_trace(alloc, files, compiled, run, buffer, out)
+}
+
+/// Why a trace of this name is not run to its end; its next line has this number.
+fn stop_for(halt: Halt, trace: Name, number: u64) -> Stop
+    ensures { result ≡ stop_for halt trace number }
+{
+    match halt {
+        Halt::BadLine => Stop::BadLine(number),
+        Halt::Unreadable => Stop::Unread(trace),
+        Halt::Unwritable => Stop::Unwritable,
+        Halt::OutOfMemory => Stop::OutOfMemory,
+    }
+}
+
+/// Runs what was compiled over the trace of a name.
+fn run_over<F: Files, O: Sink>(
+    alloc: Global,
+    files: &mut F,
+    compiled: &Compiled,
+    trace: &str,
+    out: &mut O,
+) -> Result<(), Stop>
+    requires { CanRun compiled.now }
+    ensures done { OnOk result ((contents : List ℕ → List ℕ)
+        → (F.reading files.old).contents ≡ Some contents
+        → IsDoneOf compiled.now (O.writing out.old) (contents trace.now) (O.writing out.new)) }
+    ensures bad { (number : ℕ) → result ≡ Err (Stop.BadLine number) → (contents : List ℕ → List ℕ)
+        → (F.reading files.old).contents ≡ Some contents
+        → IsFaultyOf compiled.now (O.writing out.old) (contents trace.now) (O.writing out.new)
+        number }
+    ensures begun { (contents : List ℕ → List ℕ)
+        → (F.reading files.old).contents ≡ Some contents
+        → IsBegunOf compiled.now (O.writing out.old) (contents trace.now) (O.writing out.new) }
+    ensures own { (r : TheRefusal) → result ≡ Err (Stop.Refused r) → ⊥ }
+    ensures unread { (name : List ℕ) → result ≡ Err (Stop.Unread name) → (name ≡ trace.now)
+        × MayFault (F.reading files.old).faults (F.reading files.new).faults
+        × ((F.reading files.new).blamed ≡ Some name) }
+    ensures unwritable { result ≡ Err Stop.Unwritable
+        → MayFault (O.writing out.old).faults (O.writing out.new).faults }
+    ensures within { (contents : List ℕ → List ℕ) → (F.reading files.old).contents ≡ Some contents
+        → Follows (its_outlines compiled.now) trace.now contents
+        (F.reading files.old) (F.reading files.new) }
+    ensures done_within { OnOk result ((contents : List ℕ → List ℕ)
+        → (F.reading files.old).contents ≡ Some contents
+        → IsFollowed (its_outlines compiled.now) piece_limit trace.now contents
+        (F.reading files.new)) }
+    ensures bad_within { (number : ℕ) → result ≡ Err (Stop.BadLine number)
+        → (contents : List ℕ → List ℕ) → (F.reading files.old).contents ≡ Some contents
+        → IsFollowed (its_outlines compiled.now) piece_limit trace.now contents
+        (F.reading files.new) }
+    ensures files_count { (F.reading files.old).faults ≤ (F.reading files.new).faults }
+    ensures files_kept { ((name : List ℕ) → result ≡ Err (Stop.Unread name) → ⊥)
+        → (F.reading files.new).faults ≡ (F.reading files.old).faults }
+    ensures out_count { (O.writing out.old).faults ≤ (O.writing out.new).faults }
+    ensures out_kept { (result ≡ Err Stop.Unwritable → ⊥)
+        → (O.writing out.new).faults ≡ (O.writing out.old).faults }
+{
+    let mut run = Run::new(alloc, &compiled.design)?;
+    let mut buffer = vec![in alloc; 0u8; 4096]?;
+    let name = Name::new(alloc, trace.as_bytes())?;
+    let blamed = Name::new(alloc, trace.as_bytes())?;
+    match put_report(alloc, files, name, compiled, &mut run, &mut buffer, out) {
+        Ok(()) => Ok(()),
+        Err(halt) => Err(stop_for(halt, blamed, run.lines.done + 1)),
+    }
+}
+
+/// Compiles the file of a name and what it imports, to a design that can be run.
+pub(crate) fn compile_file<R: Threads + Sync, F: Files>(
+    rt: &R,
+    alloc: Global,
+    files: &mut F,
+    name: &str,
+    top: &str,
+) -> Result<Compiled, CompileFault>
+    ensures can { IfOk result CanRun }
+    ensures compiled { IfOk result (λ c. (contents : List ℕ → List ℕ)
+        → (F.reading files.old).contents ≡ Some contents
+        → IsCompiled name.now contents top.now c) }
+    ensures refused { (r : TheRefusal) → result ≡ Err (fault.Refused r)
+        → (contents : List ℕ → List ℕ)
+        → (F.reading files.old).contents ≡ Some contents → Rejects name.now contents top.now r }
+    ensures read_fault { (blamed : List ℕ) → result ≡ Err (fault.ReadFault blamed)
+        → MayFault (F.reading files.old).faults (F.reading files.new).faults
+        × ((F.reading files.new).blamed ≡ Some blamed) }
+    ensures reached { (blamed : List ℕ) → result ≡ Err (fault.ReadFault blamed)
+        → (contents : List ℕ → List ℕ)
+        → (F.reading files.old).contents ≡ Some contents → Reaches name.now contents blamed }
+    ensures within { read_limit < bytes_given (F.reading files.new)
+        → (F.reading files.new).current ≡ (F.reading files.old).current }
+    ensures contents { (F.reading files.new).contents ≡ (F.reading files.old).contents }
+    ensures count { (F.reading files.old).faults ≤ (F.reading files.new).faults }
+    ensures kept { ((blamed : List ℕ) → result ≡ Err (fault.ReadFault blamed) → ⊥)
+        → (F.reading files.new).faults ≡ (F.reading files.old).faults }
+{
+    let loaded = load(alloc, files, name)?;
+    compiled(rt, alloc, &loaded, top)
+}
+
+/// Compiles the file and what it imports, and puts the report of its run over the trace.
+pub(crate) fn simulate<R: Threads + Sync, F: Files, O: Sink>(
+    rt: &R,
+    alloc: Global,
+    form: Simulation<'_>,
+    files: &mut F,
+    out: &mut O,
+) -> Result<(), Stop>
+    ensures done { OnOk result ((contents : List ℕ → List ℕ)
+        → (F.reading files.old).contents ≡ Some contents
+        → IsDoneBy (sim_words form.entry.file.now form.entry.top.now form.entry.trace.now) contents
+        (O.writing out.old) (O.writing out.new)) }
+    ensures stopped { (s : TheStop) → result ≡ Err s → (contents : List ℕ → List ℕ)
+        → (F.reading files.old).contents ≡ Some contents
+        → IsStopOf (sim_words form.entry.file.now form.entry.top.now form.entry.trace.now) contents
+        (O.writing out.old) (O.writing out.new) s }
+    ensures begun { (contents : List ℕ → List ℕ)
+        → (F.reading files.old).contents ≡ Some contents
+        → OutputBegun (sim_words form.entry.file.now form.entry.top.now form.entry.trace.now) contents
+        (O.writing out.old) (O.writing out.new) }
+    ensures refused { (r : TheRefusal) → result ≡ Err (Stop.Refused r)
+        → O.writing out.new ≡ O.writing out.old }
+    ensures unread { (name : List ℕ) → result ≡ Err (Stop.Unread name)
+        → IsUnread (sim_words form.entry.file.now form.entry.top.now form.entry.trace.now) name
+        (F.reading files.old) (F.reading files.new) (O.writing out.old) (O.writing out.new) }
+    ensures unwritable { result ≡ Err Stop.Unwritable
+        → MayFault (O.writing out.old).faults (O.writing out.new).faults }
+    ensures within { (contents : List ℕ → List ℕ)
+        → (F.reading files.old).contents ≡ Some contents
+        → ReadsWithin form.entry.file.now form.entry.top.now form.entry.trace.now contents
+        (F.reading files.old) (F.reading files.new) }
+    ensures done_within { OnOk result ((contents : List ℕ → List ℕ)
+        → (F.reading files.old).contents ≡ Some contents
+        → IsTraceWithin form.entry.file.now form.entry.top.now form.entry.trace.now contents
+        (F.reading files.new)) }
+    ensures bad_within { (number : ℕ) → result ≡ Err (Stop.BadLine number) → (contents : List ℕ → List ℕ)
+        → (F.reading files.old).contents ≡ Some contents
+        → IsTraceWithin form.entry.file.now form.entry.top.now form.entry.trace.now contents
+        (F.reading files.new) }
+    ensures files_count { (F.reading files.old).faults ≤ (F.reading files.new).faults }
+    ensures files_kept { ((name : List ℕ) → result ≡ Err (Stop.Unread name) → ⊥)
+        → (F.reading files.new).faults ≡ (F.reading files.old).faults }
+    ensures out_count { (O.writing out.old).faults ≤ (O.writing out.new).faults }
+    ensures out_kept { (result ≡ Err Stop.Unwritable → ⊥)
+        → (O.writing out.new).faults ≡ (O.writing out.old).faults }
+{
+    let compiled = compile_file(rt, alloc, files, form.file, form.top)?;
+    run_over(alloc, files, &compiled, form.trace, out)
+}
