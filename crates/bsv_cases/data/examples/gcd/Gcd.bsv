@@ -1,4 +1,6 @@
-// Euclid's algorithm in two rules that conflict, behind two methods: what fires in a clock, and in which order, is its schedule.
+// Why two rules cannot fire in one clock: `swap` and `subtract` each read what the other one writes,
+// so that neither could take effect before the other. Euclid's algorithm never needs both at once.
+// The method `result` only reads, so it takes effect first; while it has to wait, it is blocked.
 package Gcd;
 
 interface Gcd;
