@@ -20,3 +20,4 @@ pub mod Placed
 pub mod ClockGround
 pub mod ClockWhole
 pub mod TurnSights
+pub mod SampleSchedule

@@ -17,6 +17,8 @@ mod making;
 mod outcome;
 mod parts;
 mod placing;
+#[cfg(test)]
+mod run_tests;
 mod setting;
 mod stopping;
 mod telling;

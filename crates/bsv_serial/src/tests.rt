@@ -54,7 +54,10 @@ fn the_first_stopper_stays(rt: HostRuntime) -> Result<(), Fail> {
     let mut so_far = Fates::new(alloc, 1, 3)?;
     stop_all(&mut so_far.stoppers, &[1, 2], 0);
     stop_all(&mut so_far.stoppers, &[2], 1);
-    assert_eq!(&rt; so_far.stoppers.as_slice(), [None, Some(0), Some(0)].as_slice());
+    assert_eq!(&rt;
+        so_far.stoppers.as_slice(),
+        [None, Some(0), Some(0)].as_slice()
+    );
     assert_eq!(&rt; so_far.fates.len(), 3);
     assert_eq!(&rt; so_far.made.len(), 1);
     let none = none_made(alloc, 2)?;
