@@ -3,7 +3,6 @@ mod Asked
 mod Runs
 mod Stepping
 mod Named
-mod Opening
 mod Happening
 mod Items
 mod Grounds

@@ -257,11 +257,11 @@ module _ (words : List (List ℕ)) (contents : List ℕ → List ℕ) where
       elim (asked s output text answer) [
         | inl form ↦ same_form s s' output more text said form.0 form.1 form.2 answer other
         | inr none ↦ (
-        let one = same_usage s output text none answer in
-        let two = same_usage s' more said none other in
-        record {
-          status_is = sym one.status_is ∙ two.status_is;
-          output_is = sym one.output_is ∙ two.output_is;
-          text_is = equal_text text said (sym one.text_is ∙ two.text_is);
-        })
+            let one = same_usage s output text none answer in
+            let two = same_usage s' more said none other in
+            record {
+              status_is = sym one.status_is ∙ two.status_is;
+              output_is = sym one.output_is ∙ two.output_is;
+              text_is = equal_text text said (sym one.text_is ∙ two.text_is);
+            })
       ]

@@ -29,17 +29,6 @@ use Rattle.bsv_top.specs.Traces.{HasBadLine}
 use Rattle.bsv_top.proofs.Answering as answering
 use Rattle.bsv_top.proofs.Lifting as lifting
 
--- ---- how far was read
-
--- sources were loaded
-pub loaded_within : (file top trace : List ℕ) (contents : List ℕ → List ℕ) (first second : Reading) → (read_limit < bytes_given second → second.current ≡ first.current)
-    → ReadsWithin file top trace contents first second
-loaded_within file top trace contents first second loaded =
-    elim (cases_lt read_limit (bytes_given second)) [
-      | inl far ↦ places.ReadsWithin.unread (loaded far)
-      | inr near ↦ places.ReadsWithin.source near
-    ]
-
 module _ (file : List ℕ) (contents : List ℕ → List ℕ) (top trace : List ℕ) (c : Compiled) (x : IsCompiled file contents top c) where
   abbrev words : List (List ℕ)
   words = sim_words file top trace
@@ -74,7 +63,7 @@ module _ (file : List ℕ) (contents : List ℕ → List ℕ) (top trace : List 
       let bad = lifting.faulty_here tree c.design c.schedule x.compiled.design.alike x.compiled.design.parts w (contents trace) next number h in (
         report (subject tree) bad.rows,
         subst (λ (n : ℕ). Answer words contents status.TraceFault (report (subject tree) bad.rows) (trace_fault_line n)) (sym bad.number_is)
-        (a.Answer.trace_fault tree c.schedule bad.qs bad.rows refl planned laid bad.bad bad.runs),
+            (a.Answer.trace_fault tree c.schedule bad.qs bad.rows refl planned laid bad.bad bad.runs),
         bad.put,
       )
 

@@ -59,8 +59,8 @@ pub(crate) fn answer<R: Threads + Sync, F: Files, O: Sink>(
         → (F.reading files.old).contents ≡ Some contents
         → (file top trace : List ℕ) → words_of form.entry ≡ sim_words file top trace
         → IsTraceWithin file top trace contents (F.reading files.new)) }
-    ensures bad_within { (number : ℕ) → result ≡ Err (Stop.BadLine number) → (contents : List ℕ → List ℕ)
-        → (F.reading files.old).contents ≡ Some contents
+    ensures bad_within { (number : ℕ) → result ≡ Err (Stop.BadLine number)
+        → (contents : List ℕ → List ℕ) → (F.reading files.old).contents ≡ Some contents
         → (file top trace : List ℕ) → words_of form.entry ≡ sim_words file top trace
         → IsTraceWithin file top trace contents (F.reading files.new) }
     ensures files_count { (F.reading files.old).faults ≤ (F.reading files.new).faults }

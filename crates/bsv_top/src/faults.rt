@@ -2,7 +2,8 @@ ghost use Rattle.std.specs.Prelude.{◌≡◌, ◌≤◌, ◌⊎◌};
 ghost use Rattle.bsv_io.specs.Faults.{MayFault};
 ghost use Rattle.bsv_io.specs.Writing.{appended, joined, AppendsPrefix};
 ghost use Rattle.bsv_flow.specs.Refusals.{refusal_line};
-ghost use Rattle.bsv_top.specs.Answers.{usage_line, cannot_read_line, no_memory_line, trace_fault_line};
+ghost use Rattle.bsv_top.specs.Answers.{cannot_read_line, no_memory_line, trace_fault_line};
+ghost use Rattle.bsv_top.specs.Answers.{usage_line};
 ghost use Rattle.bsv_top.specs.Stops.{status_of, text_of};
 
 use crate::status::Status;

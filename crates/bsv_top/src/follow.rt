@@ -1,4 +1,5 @@
-ghost use Rattle.std.specs.Prelude.{◌≡◌, ◌≤◌, ◌<◌, ◌+◌, ℕ, List, [], length, Some, Err, OnOk, IsSome};
+ghost use Rattle.std.specs.Prelude.{◌≡◌, ◌≤◌, ◌<◌, ◌+◌, ℕ, List, [], length, Some, Err};
+ghost use Rattle.std.specs.Prelude.{OnOk, IsSome};
 ghost use Rattle.bsv_design.specs.Schemes.{Asking};
 ghost use Rattle.bsv_io.specs.Faults.{MayFault};
 ghost use Rattle.bsv_io.specs.Reading.{bytes_given, current_name, rest};
@@ -7,15 +8,15 @@ ghost use Rattle.bsv_top.specs.Running.{CanRun, HasRun, IsStart, its_outlines};
 ghost use Rattle.bsv_top.specs.Running.{IsBegunOf, IsDoneOf, IsFaultyOf};
 ghost use Rattle.bsv_top.specs.Traces.{HasBadLine, bytes_in, lines_of};
 
+use crate::clocks::Run;
 use crate::halt::Halt;
 use crate::lines::TRACE_LIMIT;
-use crate::clocks::Run;
 use bsv_flow::Compiled;
 use bsv_io::{Failed, Files, Sink};
 use std::alloc::Global;
 
-/// Reads the trace, which is the current file, to its end, and runs its clocks; `buffer` is room to read
-/// into.
+/// Reads the trace, which is the current file, to its end, and runs its clocks; `buffer` is room to
+/// read into.
 pub(crate) fn run_trace<F: Files, O: Sink>(
     alloc: Global,
     files: &mut F,

@@ -1,4 +1,5 @@
-ghost use Rattle.std.specs.Prelude.{◌≡◌, ◌⊎◌, ℕ, ◌+◌, ◌<◌, ◌≤◌, List, length, Some, Err, IfOk, OnOk};
+ghost use Rattle.std.specs.Prelude.{◌≡◌, ◌⊎◌, ℕ, ◌+◌, ◌<◌, ◌≤◌, List, length, Some, Err};
+ghost use Rattle.std.specs.Prelude.{IfOk, OnOk};
 ghost use Rattle.bsv_io.specs.Faults.{MayFault};
 ghost use Rattle.bsv_io.specs.Reading.{bytes_given};
 ghost use Rattle.bsv_flow.specs.Buildings.{Rejects};
@@ -144,7 +145,7 @@ fn run_over<F: Files, O: Sink>(
 }
 
 /// Compiles the file of a name and what it imports, to a design that can be run.
-pub(crate) fn compile_file<R: Threads + Sync, F: Files>(
+fn compile_file<R: Threads + Sync, F: Files>(
     rt: &R,
     alloc: Global,
     files: &mut F,
@@ -193,8 +194,8 @@ pub(crate) fn simulate<R: Threads + Sync, F: Files, O: Sink>(
         (O.writing out.old) (O.writing out.new) s }
     ensures begun { (contents : List ℕ → List ℕ)
         → (F.reading files.old).contents ≡ Some contents
-        → OutputBegun (sim_words form.entry.file.now form.entry.top.now form.entry.trace.now) contents
-        (O.writing out.old) (O.writing out.new) }
+        → OutputBegun (sim_words form.entry.file.now form.entry.top.now form.entry.trace.now)
+        contents (O.writing out.old) (O.writing out.new) }
     ensures refused { (r : TheRefusal) → result ≡ Err (Stop.Refused r)
         → O.writing out.new ≡ O.writing out.old }
     ensures unread { (name : List ℕ) → result ≡ Err (Stop.Unread name)
@@ -210,8 +211,8 @@ pub(crate) fn simulate<R: Threads + Sync, F: Files, O: Sink>(
         → (F.reading files.old).contents ≡ Some contents
         → IsTraceWithin form.entry.file.now form.entry.top.now form.entry.trace.now contents
         (F.reading files.new)) }
-    ensures bad_within { (number : ℕ) → result ≡ Err (Stop.BadLine number) → (contents : List ℕ → List ℕ)
-        → (F.reading files.old).contents ≡ Some contents
+    ensures bad_within { (number : ℕ) → result ≡ Err (Stop.BadLine number)
+        → (contents : List ℕ → List ℕ) → (F.reading files.old).contents ≡ Some contents
         → IsTraceWithin form.entry.file.now form.entry.top.now form.entry.trace.now contents
         (F.reading files.new) }
     ensures files_count { (F.reading files.old).faults ≤ (F.reading files.new).faults }

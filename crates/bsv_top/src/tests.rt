@@ -1,9 +1,6 @@
-use crate::clocks::Run;
-use crate::simulation::compile_file;
 use crate::{Status, run, run_surely};
 use bsv_bits::{Name, OutOfMemory};
 use bsv_io::{MemFiles, MemSink, SureFiles, SureSink};
-use bsv_serial::{Turn, clock, turn};
 use std::alloc::Global;
 use std::process::Abort;
 use std::test::Fail;
@@ -81,17 +78,6 @@ fn answer_of<R: Threads + Sync>(
     Ok(Seen { status, out, err })
 }
 
-/// Runs `sim T.bsv mkT t` over these two files, where nothing fails.
-fn run_of<'a, R: Threads + Sync>(
-    rt: &R,
-    alloc: Global,
-    source: &'a [u8],
-    trace: &'a [u8],
-) -> Result<Seen, OutOfMemory> {
-    let files = [("T.bsv", source), ("t", trace)];
-    answer_of(rt, alloc, &["sim", "T.bsv", "mkT", "t"], sound(&files))
-}
-
 /// Asserts what a run answered and what it put.
 fn expect_seen(rt: &impl Abort, row: usize, seen: &Seen, status: Status, out: &[u8], err: &[u8]) {
     assert_eq!(rt; seen.status, status, "at row {row}");
@@ -132,7 +118,7 @@ const NO_SUCH_MODULE: &[u8] = b"refused 12 NoSuchModule mkB\n";
 const USAGE: &[u8] =
     b"usage: bsvc verilog FILE TOP | schedule FILE TOP | sim FILE TOP TRACE | made N\n";
 
-/// Traces that a text of lines can not hold: how much of the report is put, and the bad line.
+/// Traces with bytes that no text of lines holds: how much of the report is put, and the bad line.
 #[test]
 fn traces(rt: HostRuntime) -> Result<(), Fail> {
     let alloc = rt.alloc();
@@ -163,37 +149,6 @@ fn traces(rt: HostRuntime) -> Result<(), Fail> {
         };
         expect_seen(&rt, row, &seen, status, report.as_slice(), text);
     }
-    Ok(())
-}
-
-/// Blanks of each kind, a last line without an end, and words that are empty.
-#[test]
-fn blanks_and_empty_words(rt: HostRuntime) -> Result<(), Fail> {
-    let alloc = rt.alloc();
-    let written =
-        b"/* a\n */ module mkA ( Empty ) ; // b\n\tReg # ( Bit # ( 4 ) )\r\n x <- mkReg ( 0 ) ; /**/ rule incr if ( x < 3 ) ;\n x <= x + 1 ; endrule : incr\x0c\nendmodule // end";
-    let files = [("A.bsv", written.as_slice()), COUNTER_FILES[1]];
-    let seen = answer_of(&rt, alloc, &COUNTER_WORDS, sound(&files))?;
-    let report = front(alloc, &COUNTER_PUTS, 7)?;
-    expect_seen(&rt, 0, &seen, Status::Done, report.as_slice(), b"");
-    let seen = answer_of(&rt, alloc, &[""], sound(&COUNTER_FILES))?;
-    expect_seen(&rt, 1, &seen, Status::Usage, b"", USAGE);
-    let seen = answer_of(
-        &rt,
-        alloc,
-        &["sim", "A.bsv", "", "t"],
-        sound(&COUNTER_FILES),
-    )?;
-    let told = b"refused 12 NoSuchModule \n".as_slice();
-    expect_seen(&rt, 2, &seen, Status::Refused, b"", told);
-    let files: [(&str, &[u8]); 3] = [
-        ("main.bsv", b"import A::*; import B::*;"),
-        ("A.bsv", b"\n module"),
-        ("B.bsv", b"$"),
-    ];
-    let seen = answer_of(&rt, alloc, &["sim", "main.bsv", "mkT", "t"], sound(&files))?;
-    let told = b"refused 5 Syntax A.bsv:2:8\n".as_slice();
-    expect_seen(&rt, 3, &seen, Status::Refused, b"", told);
     Ok(())
 }
 
@@ -328,62 +283,6 @@ fn fault_text_faults(rt: HostRuntime) -> Result<(), Fail> {
     Ok(())
 }
 
-/// A module mkT with registers of these names, each of one bit, and the state lines.
-fn with_registers(alloc: Global, names: &[Name]) -> Result<(Vec<u8>, Vec<u8>), OutOfMemory> {
-    let mut source = Vec::from_slice(alloc, b"module mkT(Empty);")?;
-    let mut state = Vec::new(alloc);
-    for name in names {
-        source.extend_from_slice(b"Reg#(Bit#(1)) ")?;
-        source.extend_from_slice(name.bytes())?;
-        source.extend_from_slice(b"<-mkReg(1);")?;
-        state.extend_from_slice(name.bytes())?;
-        state.extend_from_slice(b" = 1'h1\n")?;
-    }
-    source.extend_from_slice(b"endmodule")?;
-    Ok((source, state))
-}
-
-/// The names r000 to rfff.
-fn many_names(alloc: Global) -> Result<Vec<Name>, OutOfMemory> {
-    let mut names = Vec::new(alloc);
-    for a in b"0123456789abcdef" {
-        for b in b"0123456789abcdef" {
-            for c in b"0123456789abcdef" {
-                names.push(Name::new(alloc, &[b'r', *a, *b, *c])?)?;
-            }
-        }
-    }
-    Ok(names)
-}
-
-/// 4,096 registers are the most; their state lines go in many puts.
-#[test]
-fn register_counts(rt: HostRuntime) -> Result<(), Fail> {
-    let alloc = rt.alloc();
-    let mut names = many_names(alloc)?;
-    let (source, state) = with_registers(alloc, names.as_slice())?;
-    let seen = run_of(&rt, alloc, source.as_slice(), b"\n")?;
-    let lines: [&[u8]; 4] = [
-        b"opening\n",
-        state.as_slice(),
-        b"clock 1\nfired\n",
-        state.as_slice(),
-    ];
-    let report = front(alloc, &lines, 4)?;
-    expect_seen(&rt, 4_096, &seen, Status::Done, report.as_slice(), b"");
-    names.push(Name::new(alloc, b"x")?)?;
-    let (source, _state) = with_registers(alloc, names.as_slice())?;
-    let seen = run_of(&rt, alloc, source.as_slice(), b"\n")?;
-    let told = b"refused 17 Limit instances 4096\n".as_slice();
-    expect_seen(&rt, 4_097, &seen, Status::Refused, b"", told);
-    // The longest name has 255 bytes.
-    let (source, state) = with_registers(alloc, &[Name::new(alloc, &[b'a'; 255])?])?;
-    let seen = run_of(&rt, alloc, source.as_slice(), b"")?;
-    let report = front(alloc, &[b"opening\n", state.as_slice()], 2)?;
-    expect_seen(&rt, 255, &seen, Status::Done, report.as_slice(), b"");
-    Ok(())
-}
-
 /// Over files and sinks that never fail a run is done, and the whole report is put.
 #[test]
 fn sure_runs(rt: HostRuntime) -> Result<(), Fail> {
@@ -400,38 +299,5 @@ fn sure_runs(rt: HostRuntime) -> Result<(), Fail> {
         assert_eq!(rt; out.taken(), report.len() as u64);
         assert_eq!(rt; err.taken(), 0);
     }
-    Ok(())
-}
-
-/// One clock of the counter, and then its rule alone, by the calls themselves.
-#[test]
-fn one_clock_and_one_turn(rt: HostRuntime) -> Result<(), Fail> {
-    let alloc = rt.alloc();
-    let failing = Vec::new(alloc);
-    let mut files = MemFiles::new(alloc, files_of(alloc, &COUNTER_FILES)?, failing)?;
-    let Ok(compiled) = compile_file(&rt, alloc, &mut files, "A.bsv", "mkA") else {
-        assert!(&rt; false);
-        return Ok(());
-    };
-    let design = &compiled.design;
-    let mut run = Run::new(alloc, design)?;
-    let guards = &compiled.guards;
-    let schedule = &compiled.schedule;
-    let ran = clock(
-        alloc,
-        design,
-        guards,
-        schedule,
-        &mut run.state,
-        &run.requests,
-        &mut run.fired,
-    );
-    assert!(&rt; ran.is_ok());
-    assert_eq!(&rt; run.fired.list.as_slice(), [0].as_slice());
-    if design.elements.len() == 1 {
-        let turned = turn(alloc, design, guards, 0, &mut run.state, &run.requests);
-        assert_eq!(&rt; turned, Ok(Turn::Ran(None)));
-    }
-    assert_eq!(&rt; design.elements.len(), 1);
     Ok(())
 }
