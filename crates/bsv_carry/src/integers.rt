@@ -4,8 +4,7 @@ ghost use Rattle.bsv_types.specs.Kinds.{kind};
 ghost use Rattle.bsv_design.specs.Integers as spec;
 
 use bsv_bits::Word;
-use bsv_design::Constant;
-use bsv_steps::word;
+use bsv_design::{Constant, word};
 use bsv_types::{Op, Ty};
 
 fn says(truth: bool) -> Option<Constant>

@@ -7,9 +7,9 @@ ghost use Rattle.bsv_carry.specs.AtHand as spec;
 use crate::carrier::Carrier;
 use crate::integers::{fitted, number_between};
 use bsv_bits::Operator;
-use bsv_design::{Constant, Value, Work};
+use bsv_design::{Constant, Value, Work, word};
 use bsv_fail::Fail;
-use bsv_steps::{Got, Valued, between, extend, inverted, join, pick, sign_extend, slice, word};
+use bsv_steps::{Got, Valued, between, extend, inverted, join, pick, sign_extend, slice};
 use bsv_types::{Field, Op, Ty, counted_widths};
 use std::alloc::Global;
 

@@ -1,14 +1,15 @@
 //! The kinds of primitives of a hardware design, as one type, and the design as a tree of instances.
 //!
-//! Modules in reading order: `names` (the names of the methods), `kind` (the nine kinds), `statics`
-//! (what the variables of a module are), `steps` (what is left to do of an element), `values` (what
-//! carrying out speaks of), `tree` (the instances), `paths` (the text of a path), `whole` (the tree, and
+//! Modules in reading order: `computing` (the words that operators give), `names` (the names of the
+//! methods), `kind` (the nine kinds), `statics` (what the variables of a module are), `steps` (what is
+//! left to do of an element), `values` (what carrying out speaks of), `tree` (the instances), `paths` (the text of a path), `whole` (the tree, and
 //! what holds of it), `node` and `element` (an element as a flat body), `source` (an element as it was
 //! carried out), `design` (the design of such bodies, and what holds of it), `state`, `requests`,
 //! `fired` and `schedule` (what a clock takes and gives). The tables stand in `specs/Kinds.antt`, the
 //! names in `specs/MethodNames.antt`, and what all later definitions speak of in `specs/Schemes.antt`.
 #![tactic(auto)]
 
+mod computing;
 mod design;
 mod element;
 mod fired;
@@ -29,6 +30,7 @@ mod tree;
 mod values;
 mod whole;
 
+pub use computing::{between, extended, joined, picked, sign_extended, sliced, word};
 pub use design::{Design, NamedPart};
 pub use element::{Call, Condition, Element, Port, Role};
 pub use fired::Fired;

@@ -1,6 +1,6 @@
 //! What stands while text is carried out: the weight, values, the steps that are left, and variables.
 //!
-//! Modules in reading order: `fault` (what calls answer), `count`, `words`, `value`, `work` (steps), `frame`
+//! Modules in reading order: `fault` (what calls answer), `count`, `value`, `work` (steps), `frame`
 //! (variables), `bodies` (what stands at the ends of a body), `branches` (the arms of a choice) and `arms` (where
 //! they join).
 #![tactic(auto)]
@@ -12,7 +12,6 @@ mod count;
 mod fault;
 mod frame;
 mod value;
-mod words;
 mod work;
 
 pub use arms::close;
@@ -22,7 +21,6 @@ pub use count::{counted, tick};
 pub use fault::{Counted, Got};
 pub use frame::{Locals, assign, front, no_variables, untouched, variable, with_variable};
 pub use value::{atom_of, atoms, decided, held, is_static, is_true, opened, truth};
-pub use words::word;
 pub use work::{
     Valued, at_count, between, extend, give, inverted, join, no_steps, pick, sign_extend, slice,
     with_step,

@@ -7,9 +7,12 @@ ghost use Rattle.bsv_design.specs.declared.values.Value.TheVariants as value;
 use crate::count::fresh;
 use crate::fault::Got;
 use crate::value::{atom_of, constant_word};
-use crate::words::{between as word_between, extended, joined, picked, sign_extended, sliced};
 use bsv_bits::{Operator, Word};
-use bsv_design::{Atom, Compute, Constant, Count, Step, Value, Work};
+use bsv_design::between as word_between;
+use bsv_design::{
+    Atom, Compute, Constant, Count, Step, Value, Work, extended, joined, picked, sign_extended,
+    sliced,
+};
 use sqlite_items::Items;
 use std::alloc::{AllocError, Global};
 

@@ -5,7 +5,7 @@ ghost use Rattle.bsv_design.specs.Computing as spec;
 use bsv_bits::{Operator, Word};
 
 /// The word of so many bits that is the number.
-#[tactic(auto, unfolding(bsv_design::specs::Computing::word))]
+#[tactic(auto, unfolding(crate::specs::Computing::word))]
 pub fn word(width: u32, number: u128) -> Word
     ensures { result ≡ spec.word width number }
 {
@@ -22,7 +22,7 @@ fn is_shift(operator: Operator) -> bool
 }
 
 /// What the operator gives for two words.
-#[tactic(auto, unfolding(bsv_design::specs::Computing::between))]
+#[tactic(auto, unfolding(crate::specs::Computing::between))]
 pub fn between(operator: Operator, one: Word, other: Word) -> Word
     ensures { result ≡ spec.between operator one other }
 {
@@ -41,7 +41,7 @@ pub fn picked(test: Word, one: Word, other: Word) -> Word
 }
 
 /// The bits from low to high.
-#[tactic(auto, unfolding(bsv_design::specs::Computing::sliced))]
+#[tactic(auto, unfolding(crate::specs::Computing::sliced))]
 pub fn sliced(whole: Word, high: u32, low: u32) -> Word
     ensures { result ≡ spec.sliced whole high low }
 {
@@ -53,7 +53,7 @@ pub fn sliced(whole: Word, high: u32, low: u32) -> Word
 }
 
 /// The bits of the first word above those of the second one.
-#[tactic(auto, unfolding(bsv_design::specs::Computing::joined))]
+#[tactic(auto, unfolding(crate::specs::Computing::joined))]
 pub fn joined(high: Word, low: Word) -> Word
     ensures { result ≡ spec.joined high low }
 {
@@ -64,7 +64,8 @@ pub fn joined(high: Word, low: Word) -> Word
     }
 }
 
-#[tactic(auto, unfolding(bsv_design::specs::Computing::extended))]
+/// The same number in so many bits.
+#[tactic(auto, unfolding(crate::specs::Computing::extended))]
 pub fn extended(short: Word, width: u32) -> Word
     ensures { result ≡ spec.extended short width }
 {
@@ -75,7 +76,8 @@ pub fn extended(short: Word, width: u32) -> Word
     }
 }
 
-#[tactic(auto, unfolding(bsv_design::specs::Computing::sign_extended))]
+/// The same signed number in so many bits.
+#[tactic(auto, unfolding(crate::specs::Computing::sign_extended))]
 pub fn sign_extended(short: Word, width: u32) -> Word
     ensures { result ≡ spec.sign_extended short width }
 {
