@@ -8,10 +8,9 @@ use crate::count::fresh;
 use crate::fault::Got;
 use crate::value::{atom_of, constant_word};
 use bsv_bits::{Operator, Word};
-use bsv_design::between as word_between;
 use bsv_design::{
-    Atom, Compute, Constant, Count, Step, Value, Work, extended, joined, picked, sign_extended,
-    sliced,
+    Atom, Compute, Constant, Count, Step, Value, Work, between as word_between, extended, joined,
+    picked, sign_extended, sliced,
 };
 use sqlite_items::Items;
 use std::alloc::{AllocError, Global};
