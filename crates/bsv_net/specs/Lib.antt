@@ -1,0 +1,4 @@
+pub mod Circuits
+pub mod Equations
+pub mod Placing
+pub mod AtHand

@@ -1,0 +1,104 @@
+ghost use Rattle.std.specs.Prelude.{◌≡◌, ◌<◌, IfOk, IfSome, IsNone, length};
+ghost use Rattle.bsv_guard.specs.Fitting.{HaveWidths};
+ghost use Rattle.bsv_net.specs.Circuits as spec;
+
+use crate::checks::is_right;
+use crate::circuit::Circuit;
+use crate::node::{NetNode, Site};
+use bsv_bits::{OutOfMemory, Word};
+use bsv_design::{between, extended, joined, picked, sign_extended, sliced};
+use bsv_prim::RegisterInfo;
+use sqlite_items::Items;
+use std::alloc::Global;
+
+/// A circuit in order: each node uses earlier nodes alone, operands have the widths that their operators need, there is
+/// one next word for each register, and what tells of firing and readiness has one bit.
+#[derive(Drop)]
+pub struct Net {
+    pub inputs: Items<u32>,
+    pub registers: Items<RegisterInfo>,
+    pub nodes: Items<NetNode>,
+    pub nexts: Items<u32>,
+    pub fires: Items<u32>,
+    pub readies: Items<u32>,
+    pub results: Items<u32>,
+    pub sites: Items<Items<Site>>,
+    ghost right: { ∥ IsCircuit (record {
+      inputs = inputs;
+      registers = registers;
+      nodes = nodes;
+      nexts = nexts;
+      fires = fires;
+      readies = readies;
+      results = results;
+      sites = sites;
+    }) ∥₁ },
+}
+
+/// The word of the node of this place, where these words stand.
+fn word_at(words: &[Word], node: u32) -> Word
+    ensures { result ≡ at words.now node }
+{
+    match words.get(node as usize) {
+        Some(word) => *word,
+        None => Word::bit(false),
+    }
+}
+
+/// The word of a node behind nodes of these words.
+fn node_word(registers: &[Word], inputs: &[Word], words: &[Word], node: NetNode) -> Word
+    ensures { result ≡ spec.word inputs.now registers.now words.now node }
+{
+    match node {
+        NetNode::Input(number) => word_at(inputs, number),
+        NetNode::Register(number) => word_at(registers, number),
+        NetNode::Constant(word) => word,
+        NetNode::Not(a) => word_at(words, a).not(),
+        NetNode::Two(operator, a, b) => between(operator, word_at(words, a), word_at(words, b)),
+        NetNode::Pick(test, a, b) => {
+            picked(word_at(words, test), word_at(words, a), word_at(words, b))
+        }
+        NetNode::Slice(a, high, low) => sliced(word_at(words, a), high, low),
+        NetNode::Join(a, b) => joined(word_at(words, a), word_at(words, b)),
+        NetNode::Extend(a, width) => extended(word_at(words, a), width),
+        NetNode::SignExtend(a, width) => sign_extended(word_at(words, a), width),
+    }
+}
+
+impl Net {
+    ghost use Rattle.bsv_net.specs.AtHand as hand;
+
+    /// The net of a circuit, where it is in order.
+    pub fn new(alloc: Global, circuit: Circuit) -> Result<Option<Net>, OutOfMemory>
+        ensures is { IfOk result (λ found. IfSome found (λ net. hand.circuit net ≡ circuit)) }
+        ensures none { IfOk result (λ found. IsNone found → spec.IsCircuit circuit → ⊥) }
+    {
+        if !is_right(alloc, &circuit)? {
+            return Ok(None);
+        }
+        Ok(Some(Net {
+            inputs: circuit.inputs,
+            registers: circuit.registers,
+            nodes: circuit.nodes,
+            nexts: circuit.nexts,
+            fires: circuit.fires,
+            readies: circuit.readies,
+            results: circuit.results,
+            sites: circuit.sites,
+        }))
+    }
+
+    /// Gives each node its word in a clock in which registers and inputs have these words.
+    pub fn eval(&self, registers: &[Word], inputs: &[Word], values: &mut [Word])
+        requires registers { HaveWidths (spec.register_widths self.now.registers) registers.now }
+        requires inputs { HaveWidths self.now.inputs inputs.now }
+        requires values { length values.old ≡ length self.now.nodes }
+        ensures { values.new ≡ spec.words self.now.nodes inputs.now registers.now }
+    {
+        let nodes = self.nodes.as_slice();
+        for place in 0..nodes.len() {
+            let word = node_word(registers, inputs, &values[..place], nodes[place]);
+            values[place] = word;
+        }
+    }
+}
