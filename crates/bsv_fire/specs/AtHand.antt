@@ -1,0 +1,36 @@
+-- What the definitions see of what the code has at hand.
+use Rattle.std.specs.Prelude.{List, map}
+use Rattle.bsv_design.specs.declared.design.NamedPart.{NamedPart}
+use Rattle.bsv_design.specs.declared.kind.Kind.{Kind}
+use Rattle.bsv_fire.specs.declared.body.Pieces.{Pieces}
+use Rattle.bsv_fire.specs.declared.draft.Draft.{Draft}
+use Rattle.bsv_fire.specs.declared.growing.Growing.{Growing as GrowingAtHand}
+use Rattle.bsv_fire.specs.Grounds.{Base, Ground}
+use Rattle.bsv_fire.specs.Growing.{Growing}
+
+abbrev pub kinds : List NamedPart → List Kind
+kinds ps = map (λ p. p.kind) ps
+
+abbrev pub base : Pieces → Base
+base p = record { kinds = kinds p.parts.now; registers = p.registers.now; none = p.none }
+
+abbrev pub ground : GrowingAtHand → Ground
+ground g = record {
+  base = record { kinds = kinds g.design.now.parts; registers = g.registers.now; none = g.none };
+  elements = g.design.now.elements;
+  needs = g.guards.now.needs;
+  stops = g.schedule.now.stops;
+  spots = g.spots.now;
+  inputs = g.inputs.now;
+}
+
+abbrev pub draft : Draft → Growing
+draft d = record {
+  nodes = d.nodes;
+  ports = d.ports.items;
+  blocks = d.blocks.items;
+  fires = d.fires.items;
+  readies = d.readies.items;
+  results = d.results.items;
+  sites = d.sites.items;
+}

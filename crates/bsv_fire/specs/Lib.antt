@@ -1,0 +1,7 @@
+pub mod Spots
+pub mod Grounds
+pub mod Ports
+pub mod Bodies
+pub mod Growing
+pub mod Firing
+pub mod AtHand

@@ -1,0 +1,117 @@
+ghost use Rattle.std.specs.Prelude.{◌≡◌, IfOk, false};
+ghost use Rattle.bsv_clock.specs.Grounds.{IsScheduleOf, KeepsRules};
+ghost use Rattle.bsv_design.specs.Guards.{needs_of};
+ghost use Rattle.bsv_design.specs.Schemes.{design_scheme, kinds_of};
+ghost use Rattle.bsv_design.specs.Seen.{blueprint};
+ghost use Rattle.bsv_fire.specs.Firing.{Fires};
+ghost use Rattle.bsv_net.specs.AtHand.{circuit};
+
+use crate::draft::Draft;
+use crate::ground::{first_nodes, input_starts, inputs_of, register_starts, registers_of};
+use crate::growing::Growing;
+use crate::spots::all_spots;
+use bsv_bits::OutOfMemory;
+use bsv_design::{Design, Guards, Schedule};
+use bsv_net::{Circuit, Net};
+use sqlite_items::Items;
+use std::alloc::Global;
+
+/// Of each element the node of what it gives, or their number where it gives nothing.
+fn results_of(
+    alloc: Global,
+    results: &[Option<u32>],
+    count: u32,
+) -> Result<Items<u32>, OutOfMemory> {
+    let mut found = Items::new(alloc);
+    for result in results {
+        found.push(match result {
+            Some(node) => *node,
+            None => count,
+        })?;
+    }
+    Ok(found)
+}
+
+/// The nodes of so many registers, of which the first stands here.
+fn kept(alloc: Global, first: u32, count: u32) -> Result<Items<u32>, OutOfMemory> {
+    let mut found = Items::new(alloc);
+    for number in 0..count {
+        let Some(node) = first.checked_add(number) else {
+            return Err(OutOfMemory);
+        };
+        found.push(node)?;
+    }
+    Ok(found)
+}
+
+/// The circuit of a design, in which every register keeps its word.
+fn fire_circuit(
+    alloc: Global,
+    design: &Design,
+    guards: &Guards,
+    schedule: &Schedule,
+) -> Result<Circuit, OutOfMemory> {
+    let parts = design.parts.as_slice();
+    let elements = design.elements.as_slice();
+    let widths = inputs_of(alloc, elements)?;
+    let registers = registers_of(alloc, parts)?;
+    let (Ok(inputs), Ok(count)) = (u32::try_from(widths.len()), u32::try_from(registers.len())) else {
+        return Err(OutOfMemory);
+    };
+    let Some(none) = inputs.checked_add(count) else {
+        return Err(OutOfMemory);
+    };
+    let nodes = first_nodes(alloc, inputs, count)?;
+    let spots = all_spots(alloc, parts, elements, schedule.execution.as_slice())?;
+    let input_starts = input_starts(alloc, elements)?;
+    let register_starts = register_starts(alloc, inputs, parts)?;
+    let growing = Growing {
+        alloc,
+        design,
+        guards,
+        schedule,
+        spots: &spots,
+        inputs: &input_starts,
+        registers: &register_starts,
+        none,
+    };
+    let mut draft = Draft::new(alloc, nodes, parts, elements.len())?;
+    growing.grow(&mut draft)?;
+    let Ok(last) = u32::try_from(draft.nodes.len()) else {
+        return Err(OutOfMemory);
+    };
+    let results = results_of(alloc, draft.results.as_slice(), last)?;
+    let nexts = kept(alloc, inputs, count)?;
+    Ok(Circuit {
+        inputs: widths,
+        registers,
+        nodes: draft.nodes,
+        nexts,
+        fires: Items::from_vec(draft.fires),
+        readies: Items::from_vec(draft.readies),
+        results,
+        sites: Items::from_vec(draft.sites),
+    })
+}
+
+/// The net of a design up to its firing: in each clock it tells which elements fire, which are ready, what those give, and
+/// their calls. Every register keeps its word.
+pub fn add_fire(
+    alloc: Global,
+    design: &Design,
+    guards: &Guards,
+    schedule: &Schedule,
+) -> Result<Net, OutOfMemory>
+    requires rules { KeepsRules (design_scheme (blueprint design.now)) }
+    requires needs { guards.now.needs
+        ≡ needs_of (kinds_of (blueprint design.now)) design.now.elements }
+    requires schedule { IsScheduleOf (design_scheme (blueprint design.now)) schedule.now }
+    ensures { IfOk result (λ net. Fires false (design_scheme (blueprint design.now))
+        schedule.now (circuit net)) }
+{
+    let circuit = fire_circuit(alloc, design, guards, schedule)?;
+    match Net::new(alloc, circuit)? {
+        Some(net) => Ok(net),
+        None => Err(OutOfMemory),
+    }
+}

@@ -1,0 +1,139 @@
+ghost use Rattle.std.specs.Prelude.{◌≡◌, ◌++◌, IfOk, OnOk, OnSome, map};
+ghost use Rattle.bsv_clock.specs.Carrying as carrying;
+ghost use Rattle.bsv_design.specs.Schemes.{outline};
+ghost use Rattle.bsv_fire.specs.Grounds as spec;
+
+use bsv_bits::{OutOfMemory, Word};
+use bsv_design::{Element, NamedPart};
+use bsv_net::NetNode;
+use bsv_prim::{Primitive, RegisterInfo};
+use sqlite_items::Items;
+use std::alloc::Global;
+
+/// The widths of the inputs: of each method those of its arguments, and one bit.
+pub fn inputs_of(alloc: Global, elements: &[Element]) -> Result<Items<u32>, OutOfMemory>
+    ensures { IfOk result (λ widths. widths
+        ≡ carrying.input_widths_of (map outline elements.now)) }
+{
+    let mut widths = Items::new(alloc);
+    let mut rest = elements;
+    while let Some((element, after)) = rest.split_first() {
+        if element.role.is_rule() {
+            break;
+        }
+        for port in element.arguments.as_slice() {
+            widths.push(port.width)?;
+        }
+        widths.push(1)?;
+        rest = after;
+    }
+    Ok(widths)
+}
+
+/// The registers of a part.
+fn push_registers(
+    registers: &mut Items<RegisterInfo>,
+    part: &NamedPart,
+) -> Result<(), OutOfMemory>
+    ensures { OnOk result (map carrying.cell registers.new
+        ≡ map carrying.cell registers.old ++ carrying.cells_in part.now.kind) }
+{
+    for number in 0..part.kind.registers() {
+        registers.push(part.kind.register(number))?;
+    }
+    Ok(())
+}
+
+/// The registers of all parts, in building order.
+#[tactic(auto, unfolding(bsv_clock::specs::Carrying::cells_of))]
+pub fn registers_of(alloc: Global, parts: &[NamedPart]) -> Result<Items<RegisterInfo>, OutOfMemory>
+    ensures { IfOk result (λ registers. map carrying.cell registers
+        ≡ carrying.cells_of (map (λ p. p.kind) parts.now)) }
+{
+    let mut registers = Items::new(alloc);
+    let mut rest = parts;
+    while let Some((part, after)) = rest.split_first() {
+        push_registers(&mut registers, part)?;
+        rest = after;
+    }
+    Ok(registers)
+}
+
+/// How many inputs an element has.
+fn input_count(element: &Element) -> Option<u32>
+    ensures { OnSome result (λ count. count ≡ spec.input_count element.now) }
+{
+    if element.role.is_rule() {
+        return Some(0);
+    }
+    match u32::try_from(element.arguments.len()) {
+        Ok(count) => count.checked_add(1),
+        Err(_) => None,
+    }
+}
+
+/// Of each element the node of its first input.
+#[tactic(auto, unfolding(crate::specs::Grounds::input_starts))]
+pub fn input_starts(alloc: Global, elements: &[Element]) -> Result<Vec<u32>, OutOfMemory>
+    ensures { IfOk result (λ starts. starts.items ≡ spec.input_starts 0 elements.now) }
+{
+    let mut starts = Vec::new(alloc);
+    let mut next = 0u32;
+    let mut rest = elements;
+    while let Some((element, after)) = rest.split_first() {
+        starts.push(next)?;
+        let Some(count) = input_count(element) else {
+            return Err(OutOfMemory);
+        };
+        let Some(behind) = next.checked_add(count) else {
+            return Err(OutOfMemory);
+        };
+        next = behind;
+        rest = after;
+    }
+    Ok(starts)
+}
+
+/// Of each part the node of its first register, behind so many inputs.
+#[tactic(auto, unfolding(crate::specs::Grounds::register_starts))]
+pub fn register_starts(
+    alloc: Global,
+    inputs: u32,
+    parts: &[NamedPart],
+) -> Result<Vec<u32>, OutOfMemory>
+    ensures { IfOk result (λ starts. starts.items
+        ≡ spec.register_starts inputs (map (λ p. p.kind) parts.now)) }
+{
+    let mut starts = Vec::new(alloc);
+    let mut next = inputs;
+    let mut rest = parts;
+    while let Some((part, after)) = rest.split_first() {
+        starts.push(next)?;
+        let Some(behind) = next.checked_add(part.kind.registers()) else {
+            return Err(OutOfMemory);
+        };
+        next = behind;
+        rest = after;
+    }
+    Ok(starts)
+}
+
+/// The inputs and the registers as nodes, and behind them a bit that is 0 and one that is 1.
+pub fn first_nodes(
+    alloc: Global,
+    inputs: u32,
+    registers: u32,
+) -> Result<Items<NetNode>, OutOfMemory>
+    ensures { IfOk result (λ nodes. nodes ≡ spec.first_nodes inputs registers) }
+{
+    let mut nodes = Items::new(alloc);
+    for number in 0..inputs {
+        nodes.push(NetNode::Input(number))?;
+    }
+    for number in 0..registers {
+        nodes.push(NetNode::Register(number))?;
+    }
+    nodes.push(NetNode::Constant(Word::bit(false)))?;
+    nodes.push(NetNode::Constant(Word::bit(true)))?;
+    Ok(nodes)
+}
