@@ -1,6 +1,6 @@
 -- The nodes of an element in the net: those of its flat body, in which a call of a method that gives a value is the
 -- result's piece of that method, with the call's own arguments.
-use Rattle.std.specs.Prelude.{ℕ, ◌+◌, ◌==◌, nat_lt, Bool, not, ◌&&◌, cond, List, [], ◌∷◌, ◌++◌, map, length, slice_get, Option, Some, None, if◌then◌else◌}
+use Rattle.std.specs.Prelude.{ℕ, ◌+◌, nat_lt, not, ◌&&◌, cond, List, [], ◌∷◌, ◌++◌, map, slice_get, Option, Some, None}
 use Rattle.bsv_prim.specs.Shape.{Shape}
 use Rattle.bsv_design.specs.declared.element.Call.{Call}
 use Rattle.bsv_design.specs.declared.element.Condition.{Condition}
@@ -14,6 +14,7 @@ use Rattle.bsv_net.specs.declared.node.NetNode.{NetNode}
 use Rattle.bsv_net.specs.declared.node.NetNode.TheVariants as net
 use Rattle.bsv_net.specs.declared.node.Site.{Site}
 use Rattle.bsv_net.specs.declared.wires.MethodPort.{MethodPort}
+use Rattle.bsv_net.specs.AtHand.{wires_with}
 use Rattle.bsv_net.specs.Placing.{Placed, Wires, add, both, node_at, piece}
 use Rattle.bsv_fire.specs.Grounds.{Base}
 use Rattle.bsv_fire.specs.Ports.{PlacedAll}
@@ -26,26 +27,10 @@ abbrev pub or_none : {X : Type 0} → Option (List X) → List X
 or_none None = []
 or_none (Some xs) = xs
 
-abbrev pub called_in : Option (Option MethodPort) → ℕ
-called_in (Some (Some p)) = p.called
-called_in _ = 0
-
-abbrev pub args_in : Option (Option MethodPort) → List ℕ
-args_in (Some (Some p)) = p.args
-args_in _ = []
-
--- where a piece of a part finds its words, beside these nodes of the arguments of one method
-abbrev pub wires : ℕ → List (Option MethodPort) → ℕ → List ℕ → Wires
-wires registers ports own args = record {
-  registers = registers;
-  called = λ m. called_in (slice_get ports m);
-  argument = λ m k. if m == own then node_at args k else node_at (args_in (slice_get ports m)) k;
-}
-
 module _ (g : Base) (ports : Ports) where
   -- where the pieces of a part find them
   abbrev pub wires_of : ℕ → ℕ → List ℕ → Wires
-  wires_of i own args = wires (node_at g.registers i) (or_none (slice_get ports i)) own args
+  wires_of i own args = wires_with (node_at g.registers i) (or_none (slice_get ports i)) own args
 
   -- ---- guards
 
@@ -58,7 +43,7 @@ module _ (g : Base) (ports : Ports) where
   unfoldable pub guard : ℕ → ℕ → List NetNode → Placed
   guard i m ns = guard_in (slice_get g.kinds i) i m ns
 
-  abbrev guard_of : Option Call → List NetNode → Placed
+  abbrev pub guard_of : Option Call → List NetNode → Placed
   guard_of None ns = record { nodes = ns; place = g.none }
   guard_of (Some c) ns = guard c.part c.method ns
 
@@ -81,7 +66,7 @@ module _ (g : Base) (ports : Ports) where
   unfoldable pub result : ℕ → ℕ → List ℕ → List NetNode → Placed
   result i m args ns = result_in (slice_get g.kinds i) i m args ns
 
-  abbrev result_of : List ℕ → Option Call → List NetNode → Placed
+  abbrev pub result_of : List ℕ → Option Call → List NetNode → Placed
   result_of places None ns = record { nodes = ns; place = g.none }
   result_of places (Some c) ns = result c.part c.method (map (node_at places) c.args) ns
 

@@ -1,13 +1,15 @@
 -- What is promised of a net that tells what fires: it carries the scheme but for the next words, which keep every register,
 -- and its sites tell the calls of the elements that fire.
-use Rattle.std.specs.Prelude.{◌≡◌, ℕ, Bool, true, false, List, map, length, slice_get, Some}
+use Rattle.std.specs.Prelude.{◌≡◌, ℕ, Bool, true, false, List, map, length, slice_get, Option, Some, None}
 use Rattle.bsv_bits.specs.Words.{Bits, bit}
 use Rattle.bsv_prim.specs.declared.part.Part.{Part}
 use Rattle.bsv_design.specs.declared.schedule.Schedule.{Schedule}
-use Rattle.bsv_design.specs.Bodies.{at}
+use Rattle.bsv_design.specs.declared.kind.Kind.{Kind}
+use Rattle.bsv_design.specs.Bodies.{Target, at}
+use Rattle.bsv_design.specs.Kinds.{kind_table}
 use Rattle.bsv_design.specs.Roles.{gives_value}
 use Rattle.bsv_design.specs.Schemes.{Scheme, Outline, Asking, seen}
-use Rattle.bsv_design.specs.Traces.{Site}
+use Rattle.bsv_design.specs.Traces.{Site, kind_at}
 use Rattle.bsv_graph.specs.Orders.{In}
 use Rattle.bsv_guard.specs.Fitting.{HaveWidths}
 use Rattle.bsv_clock.specs.Carrying.{Given, Shows, TellsElements, cell, cells_of, cell_widths, inputs_of, input_widths}
@@ -17,6 +19,10 @@ use Rattle.bsv_clock.specs.Looks.{clock_look}
 use Rattle.bsv_net.specs.declared.circuit.Circuit.{Circuit}
 use Rattle.bsv_net.specs.declared.node.Site.{Site as NetSite}
 use Rattle.bsv_net.specs.Circuits.{words}
+
+abbrev pub arity_of : Option Kind → ℕ → ℕ
+arity_of None m = 0
+arity_of (Some k) m = (kind_table k).arity m
 
 -- the words that a circuit gives, where its registers and its inputs have these
 abbrev pub given_at : Circuit → List Bits → Given
@@ -55,6 +61,10 @@ pub record Fires (aggressive : Bool) (S : Scheme) (made : Schedule) (c : Circuit
       → HaveWidths (cell_widths (cells_of S.kinds)) ws → Shows S.kinds s ws
       → IsClock aggressive S made q s fired after
       → TellsFiring aggressive S q s fired c (words c.nodes (inputs_of S q) ws)
+  -- there are nodes for each call, one for each of its arguments
+  pub sites : (n k : ℕ) (t : Target) → slice_get (S.uses n) k ≡ Some t
+      → (ss : List NetSite) × (s : NetSite) × (slice_get c.sites n ≡ Some ss) × (slice_get ss k ≡ Some s)
+      × (length s.args ≡ arity_of (kind_at S.kinds t) t.method)
   -- every register keeps its word
   pub kept : (ws inputs : List Bits) → HaveWidths (cell_widths (cells_of S.kinds)) ws → HaveWidths c.inputs inputs
       → (gives c ws inputs).nexts ≡ ws

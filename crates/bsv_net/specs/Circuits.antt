@@ -10,7 +10,7 @@ use Rattle.bsv_design.specs.declared.node.Node.{Node}
 use Rattle.bsv_design.specs.declared.node.Node.TheVariants as node
 use Rattle.bsv_design.specs.Bodies.{node_word, values}
 use Rattle.bsv_design.specs.Relations.{no_answers}
-use Rattle.bsv_design.specs.Widths.{has_width, widths_from, port_fits}
+use Rattle.bsv_design.specs.Widths.{has_width, widths_from}
 use Rattle.bsv_net.specs.declared.node.NetNode.{NetNode}
 use Rattle.bsv_net.specs.declared.node.NetNode.TheVariants as net
 use Rattle.bsv_net.specs.declared.node.Site.{Site}
@@ -62,11 +62,18 @@ is_within inputs registers (net.Input k) = nat_lt k inputs
 is_within inputs registers (net.Register k) = nat_lt k registers
 is_within inputs registers _ = true
 
+abbrev pub are_within : Circuit → Bool
+are_within c = list_all (is_within (length c.inputs) (length c.registers)) c.nodes
+
 -- the widths of all nodes: each uses earlier nodes alone, and its operands have the widths that its operator needs
 abbrev pub node_widths : Circuit → Option (List ℕ)
 node_widths c = widths_from (ports c.inputs c.registers) [] [] [] (as_nodes (length c.inputs) c.nodes)
 
--- what is left of a list of next words where each has the width of its register
+-- a word has 1 to 128 bits
+abbrev pub width_fits : ℕ → Bool
+width_fits width = nat_le 1 width && nat_le width 128
+
+-- there is one next word for each register, of its width
 abbrev pub nexts_fit : List ℕ → List ℕ → List RegisterInfo → Bool
 nexts_fit us [] [] = true
 nexts_fit us (n ∷ ns) (r ∷ rs) = has_width (slice_get us n) r.width && nexts_fit us ns rs
@@ -92,8 +99,7 @@ is_few c = nat_lt (length c.nodes) (2 ^ 32) && nat_lt (length c.inputs + length 
 -- what stands beside nodes of these widths has those that it needs
 abbrev pub is_in_order : List ℕ → Circuit → Bool
 is_in_order us c =
-    list_all (λ width. port_fits (port width)) c.inputs
-    -- there is one next word for each register, of its width
+    list_all width_fits c.inputs
     && nexts_fit us c.nexts c.registers
     -- what tells of firing and of readiness has one bit
     && list_all (is_bit us) c.fires && list_all (is_bit us) c.readies
@@ -101,7 +107,7 @@ is_in_order us c =
 
 pub record IsCircuit (c : Circuit) : Type 0 where
   pub few : IsTrue (is_few c)
-  pub within : IsTrue (list_all (is_within (length c.inputs) (length c.registers)) c.nodes)
+  pub within : IsTrue (are_within c)
   pub widths : List ℕ
   pub nodes : node_widths c ≡ Some widths
   pub in_order : IsTrue (is_in_order widths c)

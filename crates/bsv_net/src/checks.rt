@@ -1,86 +1,211 @@
-ghost use Rattle.std.specs.Prelude.{◌≡◌, ◌+◌, ◌<◌, ◌^◌, ◌↔◌, [], true, map, length, slice_get, IfOk};
+ghost use Rattle.std.specs.Prelude.{◌≡◌, ◌+◌, ◌^◌, ◌↔◌, nat_lt, slice_get, true, IfOk};
 ghost use Rattle.std.specs.List.{list_all};
-ghost use Rattle.bsv_design.specs.Widths as widths;
+ghost use Rattle.bsv_design.specs.Widths.{has_width};
 ghost use Rattle.bsv_net.specs.Circuits as spec;
 
+use crate::bodies::node_widths;
 use crate::circuit::Circuit;
 use crate::node::{NetNode, Site};
-use bsv_bits::{Name, OutOfMemory};
-use bsv_design::{Node, Port};
+use bsv_bits::OutOfMemory;
 use bsv_prim::RegisterInfo;
-use bsv_widths::widths;
 use sqlite_items::Items;
 use std::alloc::Global;
 
-/// The node as one of a flat body, behind so many arguments that are inputs.
-fn as_node(inputs: u32, node: NetNode) -> Node
-    requires { spec.HasRoom inputs node }
-    ensures { result ≡ spec.as_node inputs node }
+/// Whether a number of 32 bits names each of so many and so many.
+fn are_few(inputs: usize, registers: usize) -> bool
+    ensures { result ≡ nat_lt (inputs + registers) (2 ^ 32) }
+{
+    match inputs.checked_add(registers) {
+        Some(sum) => u32::try_from(sum).is_ok(),
+        None => false,
+    }
+}
+
+/// Whether numbers of 32 bits name the nodes, and the inputs and the registers together.
+fn is_few(circuit: &Circuit) -> bool
+    ensures { result ≡ spec.is_few circuit.now }
+{
+    u32::try_from(circuit.nodes.len()).is_ok()
+        && are_few(circuit.inputs.len(), circuit.registers.len())
+}
+
+/// Whether the input or the register is there that a node names.
+fn is_within(inputs: usize, registers: usize, node: NetNode) -> bool
+    ensures { result ≡ spec.is_within inputs registers node }
 {
     match node {
-        NetNode::Input(number) => Node::Argument(number),
-        NetNode::Register(number) => Node::Argument(inputs + number),
-        NetNode::Constant(word) => Node::Constant(word),
-        NetNode::Not(a) => Node::Not(a),
-        NetNode::Two(operator, a, b) => Node::Two(operator, a, b),
-        NetNode::Pick(test, a, b) => Node::Pick(test, a, b),
-        NetNode::Slice(a, high, low) => Node::Slice(a, high, low),
-        NetNode::Join(a, b) => Node::Join(a, b),
-        NetNode::Extend(a, width) => Node::Extend(a, width),
-        NetNode::SignExtend(a, width) => Node::SignExtend(a, width),
+        NetNode::Input(number) => (number as usize) < inputs,
+        NetNode::Register(number) => (number as usize) < registers,
+        _ => true,
     }
 }
 
-/// The nodes as those of a flat body.
-fn as_nodes(alloc: Global, inputs: u32, nodes: &[NetNode]) -> Result<Items<Node>, OutOfMemory>
-    requires { IsTrue (list_all (spec.has_room inputs) nodes.now) }
-    ensures { IfOk result (λ found. found ≡ spec.as_nodes inputs nodes.now) }
+/// Whether each input and each register is there that a node names.
+fn are_within(inputs: usize, registers: usize, nodes: &[NetNode]) -> bool
+    ensures { result ≡ list_all (spec.is_within inputs registers) nodes.now }
 {
-    let mut found = Items::new(alloc);
-    for node in nodes {
-        found.push(as_node(inputs, *node))?;
+    let mut rest = nodes;
+    while let Some((node, after)) = rest.split_first() {
+        if !is_within(inputs, registers, *node) {
+            return false;
+        }
+        rest = after;
     }
-    Ok(found)
+    true
 }
 
-/// An argument of so many bits.
-fn port(alloc: Global, width: u32) -> Result<Port, OutOfMemory>
-    ensures { IfOk result (λ found. found ≡ spec.port width) }
+/// Whether the node of this place has this width.
+fn has_width(widths: &[u32], node: u32, width: u32) -> bool
+    ensures { result ≡ has_width (slice_get widths.now node) width }
 {
-    let name = Name::new(alloc, &[])?;
-    Ok(Port { name, width })
+    match widths.get(node as usize) {
+        Some(own) => *own == width,
+        None => false,
+    }
 }
 
-/// The inputs and the registers as arguments.
-fn ports(
-    alloc: Global,
-    inputs: &[u32],
-    registers: &[RegisterInfo],
-) -> Result<Items<Port>, OutOfMemory>
-    ensures { IfOk result (λ found. found ≡ spec.ports inputs.now registers.now) }
+/// Whether each input has 1 to 128 bits.
+fn inputs_fit(inputs: &[u32]) -> bool
+    ensures { result ≡ list_all spec.width_fits inputs.now }
 {
-    let mut found = Items::new(alloc);
-    for width in inputs {
-        found.push(port(alloc, *width)?)?;
+    let mut rest = inputs;
+    while let Some((width, after)) = rest.split_first() {
+        if *width < 1 || 128 < *width {
+            return false;
+        }
+        rest = after;
     }
-    for register in registers {
-        found.push(port(alloc, register.width)?)?;
-    }
-    Ok(found)
+    true
 }
 
-/// The widths of all nodes, where each has one.
-fn node_widths(alloc: Global, circuit: &Circuit) -> Result<Option<Items<u32>>, OutOfMemory>
-    requires few { length circuit.now.inputs + length circuit.now.registers < 2 ^ 32 }
-    requires within { IsTrue (spec.are_within circuit.now) }
-    ensures { IfOk result (λ found. found ≡ spec.widths_of circuit.now) }
+/// Whether there is a next word for each register, of its width.
+fn nexts_fit(widths: &[u32], nexts: &[u32], registers: &[RegisterInfo]) -> bool
+    ensures { result ≡ spec.nexts_fit widths.now nexts.now registers.now }
 {
-    let inputs = circuit.inputs.len() as u32;
-    let ports = ports(
-        alloc,
-        circuit.inputs.as_slice(),
-        circuit.registers.as_slice(),
-    )?;
-    let nodes = as_nodes(alloc, inputs, circuit.nodes.as_slice())?;
-    widths(alloc, ports.as_slice(), &[], &[], nodes.as_slice()..)
+    let mut rest = nexts;
+    let mut left = registers;
+    while let Some((next, after)) = rest.split_first() {
+        let Some((register, behind)) = left.split_first() else {
+            return false;
+        };
+        if !has_width(widths, *next, register.width) {
+            return false;
+        }
+        rest = after;
+        left = behind;
+    }
+    left.is_empty()
+}
+
+/// Whether the nodes of these places have one bit each.
+fn are_bits(widths: &[u32], nodes: &[u32]) -> bool
+    ensures { result ≡ list_all (spec.is_bit widths.now) nodes.now }
+{
+    let mut rest = nodes;
+    while let Some((node, after)) = rest.split_first() {
+        if !has_width(widths, *node, 1) {
+            return false;
+        }
+        rest = after;
+    }
+    true
+}
+
+/// Whether each is the place of a node, or their number.
+fn are_names(widths: &[u32], nodes: &[u32]) -> bool
+    ensures { result ≡ list_all (spec.names widths.now) nodes.now }
+{
+    let mut rest = nodes;
+    while let Some((node, after)) = rest.split_first() {
+        if widths.len() < *node as usize {
+            return false;
+        }
+        rest = after;
+    }
+    true
+}
+
+/// Whether each is the place of a node.
+fn are_nodes(widths: &[u32], nodes: &[u32]) -> bool
+    ensures { result ≡ list_all (spec.is_node widths.now) nodes.now }
+{
+    let mut rest = nodes;
+    while let Some((node, after)) = rest.split_first() {
+        if widths.len() <= *node as usize {
+            return false;
+        }
+        rest = after;
+    }
+    true
+}
+
+/// Whether the nodes of a call are there, and what tells whether it is taken has one bit.
+fn is_site(widths: &[u32], site: &Site) -> bool
+    ensures { result ≡ spec.is_site widths.now site.now }
+{
+    has_width(widths, site.taken, 1) && are_nodes(widths, site.args.as_slice())
+}
+
+/// Whether the nodes of the calls of an element are there.
+fn are_sites(widths: &[u32], sites: &[Site]) -> bool
+    ensures { result ≡ list_all (spec.is_site widths.now) sites.now }
+{
+    let mut rest = sites;
+    while let Some((site, after)) = rest.split_first() {
+        if !is_site(widths, site) {
+            return false;
+        }
+        rest = after;
+    }
+    true
+}
+
+/// Whether the nodes of the calls of each element are there.
+fn sites_fit(widths: &[u32], elements: &[Items<Site>]) -> bool
+    ensures { result ≡ list_all (list_all (spec.is_site widths.now)) elements.now }
+{
+    let mut rest = elements;
+    while let Some((sites, after)) = rest.split_first() {
+        if !are_sites(widths, sites.as_slice()) {
+            return false;
+        }
+        rest = after;
+    }
+    true
+}
+
+/// Whether what stands beside nodes of these widths has those that it needs.
+fn is_in_order(widths: &[u32], circuit: &Circuit) -> bool
+    ensures { result ≡ spec.is_in_order widths.now circuit.now }
+{
+    inputs_fit(circuit.inputs.as_slice())
+        && nexts_fit(
+            widths,
+            circuit.nexts.as_slice(),
+            circuit.registers.as_slice(),
+        )
+        && are_bits(widths, circuit.fires.as_slice())
+        && are_bits(widths, circuit.readies.as_slice())
+        && are_names(widths, circuit.results.as_slice())
+        && sites_fit(widths, circuit.sites.as_slice())
+}
+
+/// Whether a circuit is in order.
+pub(crate) fn is_circuit(alloc: Global, circuit: &Circuit) -> Result<bool, OutOfMemory>
+    ensures { IfOk result (λ b. (b ≡ true) ↔ spec.IsCircuit circuit.now) }
+{
+    if !is_few(circuit) {
+        return Ok(false);
+    }
+    if !are_within(
+        circuit.inputs.len(),
+        circuit.registers.len(),
+        circuit.nodes.as_slice(),
+    ) {
+        return Ok(false);
+    }
+    match node_widths(alloc, circuit)? {
+        Some(found) => Ok(is_in_order(found.as_slice(), circuit)),
+        None => Ok(false),
+    }
 }

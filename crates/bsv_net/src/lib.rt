@@ -1,10 +1,12 @@
 //! Nets: words that are computed of registers, of inputs and of each other, once a clock.
 //!
-//! Modules in reading order: `node` (what a node is), `nodes` (how nodes are added), `circuit`, `checks`
-//! and `net` (what a net is made of, what holds of it, and its evaluation) and `wires` (how a piece of a part is placed among nodes). What a net means stands
-//! in `specs/Circuits.antt`, and what its words are to each other in `specs/Equations.antt`.
+//! Modules in reading order: `node` (what a node is), `nodes` (how nodes are added), `circuit`, `bodies`,
+//! `checks` and `net` (what a net is made of, what holds of it, and its evaluation) and `wires` (how a
+//! piece of a part is placed among nodes). What a net means stands in `specs/Circuits.antt`, and what its
+//! words are to each other in `specs/Equations.antt`.
 #![tactic(auto)]
 
+mod bodies;
 mod checks;
 mod circuit;
 mod net;
@@ -18,4 +20,4 @@ pub use circuit::Circuit;
 pub use net::Net;
 pub use node::{NetNode, Site};
 pub use nodes::{add, both, either, negated};
-pub use wires::{MethodPort, Wires};
+pub use wires::{MethodPort, Wires, node_at};

@@ -1,8 +1,11 @@
-ghost use Rattle.std.specs.Prelude.{◌≡◌, ◌<◌, IfOk, IfSome, IsNone, length};
+ghost use Rattle.std.specs.Prelude.{◌≡◌, IfOk, IfSome, IsNone, length};
+ghost use Rattle.bsv_design.specs.Bodies.{at};
 ghost use Rattle.bsv_guard.specs.Fitting.{HaveWidths};
+ghost use Rattle.bsv_net.specs.Circuits.{IsCircuit};
 ghost use Rattle.bsv_net.specs.Circuits as spec;
+ghost use Rattle.bsv_net.specs.Equations.{computed};
 
-use crate::checks::is_right;
+use crate::checks::is_circuit;
 use crate::circuit::Circuit;
 use crate::node::{NetNode, Site};
 use bsv_bits::{OutOfMemory, Word};
@@ -47,7 +50,7 @@ fn word_at(words: &[Word], node: u32) -> Word
 
 /// The word of a node behind nodes of these words.
 fn node_word(registers: &[Word], inputs: &[Word], words: &[Word], node: NetNode) -> Word
-    ensures { result ≡ spec.word inputs.now registers.now words.now node }
+    ensures { result ≡ computed inputs.now registers.now (at words.now) node }
 {
     match node {
         NetNode::Input(number) => word_at(inputs, number),
@@ -71,9 +74,9 @@ impl Net {
     /// The net of a circuit, where it is in order.
     pub fn new(alloc: Global, circuit: Circuit) -> Result<Option<Net>, OutOfMemory>
         ensures is { IfOk result (λ found. IfSome found (λ net. hand.circuit net ≡ circuit)) }
-        ensures none { IfOk result (λ found. IsNone found → spec.IsCircuit circuit → ⊥) }
+        ensures none { IfOk result (λ found. IsNone found → IsCircuit circuit → ⊥) }
     {
-        if !is_right(alloc, &circuit)? {
+        if !is_circuit(alloc, &circuit)? {
             return Ok(None);
         }
         Ok(Some(Net {

@@ -1,4 +1,5 @@
-ghost use Rattle.std.specs.Prelude.{◌≡◌, ◌+◌, IfOk, OnOk};
+ghost use Rattle.std.specs.Option.{option_copied};
+ghost use Rattle.std.specs.Prelude.{◌≡◌, ◌+◌, IfOk, OnOk, slice_get};
 ghost use Rattle.bsv_prim.specs.Shape.{shape_of};
 ghost use Rattle.bsv_net.specs.Placing as spec;
 
@@ -22,15 +23,15 @@ pub struct MethodPort {
 pub struct Wires<'a> {
     /// The node of the first register of the part; the others stand behind it.
     pub registers: u32,
-    /// Of each method of the part its nodes.
-    pub ports: &'a [MethodPort],
+    /// Of each method of the part its nodes, where they are placed.
+    pub ports: &'a [Option<MethodPort>],
     /// A method that has arguments of its own, and their nodes.
     pub own: u32,
     pub own_args: &'a [u32],
 }
 
 /// The node of this place in a list, or the first node where there is none.
-fn node_at(nodes: &[u32], place: u32) -> u32
+pub fn node_at(nodes: &[u32], place: u32) -> u32
     ensures { result ≡ spec.node_at nodes.now place }
 {
     match at(nodes, place as usize) {
@@ -52,11 +53,21 @@ impl Wires<'_> {
         }
     }
 
+    /// The nodes of a method, where they are placed.
+    fn port(&self, method: u32) -> Option<&MethodPort>
+        ensures { option_copied result ≡ hand.placed (slice_get self.now.ports.now method) }
+    {
+        match at(self.ports, method as usize) {
+            Some(port) => port.as_ref(),
+            None => None,
+        }
+    }
+
     /// The node that is 1 where the method is called.
     fn called(self, method: u32) -> u32
         ensures { result ≡ (hand.wires self.entry).called method }
     {
-        match at(self.ports, method as usize) {
+        match self.port(method) {
             Some(port) => port.called,
             None => 0,
         }
@@ -69,14 +80,13 @@ impl Wires<'_> {
         if method == self.own {
             return node_at(self.own_args, number);
         }
-        match at(self.ports, method as usize) {
+        match self.port(method) {
             Some(port) => node_at(port.args.as_slice(), number),
             None => 0,
         }
     }
 
     /// Places a piece, and gives the node of its word.
-    #[cycle(piece)]
     #[tactic(auto, unfolding(crate::specs::Placing::piece))]
     pub fn place(self, nodes: &mut Items<NetNode>, piece: &Piece) -> Result<u32, OutOfMemory>
         ensures nodes { OnOk result (nodes.new

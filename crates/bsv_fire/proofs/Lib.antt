@@ -1,0 +1,4 @@
+pub mod SamePiece
+pub mod Numbers
+pub mod FirstNodes
+pub mod Frame

@@ -1,0 +1,63 @@
+-- The words of the nodes of a net, one after the other.
+use Rattle.std.proofs.Common.{◌≡◌, ◌∙◌, ℕ, zero, suc, ◌+◌, true, List, [], ◌∷◌, ◌++◌, length, take, Some, refl, ap, subst, arith}
+use Rattle.std.proofs.Math.Bool.{Bool-set}
+use Rattle.std.specs.Prelude.{slice_get}
+use Rattle.std.proofs.lemmas.List.{map-append}
+use Rattle.std.proofs.lemmas.Option.{same_Some}
+use Rattle.std.proofs.Math.Logic.{∥∥₁_elim}
+use Rattle.bsv_bits.specs.Words.{Bits}
+use Rattle.bsv_design.specs.declared.node.Node.{Node}
+use Rattle.bsv_design.specs.Bodies.{at, node_word, values}
+use Rattle.bsv_design.specs.Relations.{no_answers}
+use Rattle.bsv_guard.specs.Fitting.{HaveWidths}
+use Rattle.bsv_guard.proofs.Lists.{holds_at_all}
+use Rattle.bsv_net.specs.declared.net.Net.{Net}
+use Rattle.bsv_net.specs.declared.node.NetNode.{NetNode}
+use Rattle.bsv_net.specs.AtHand.{circuit}
+use Rattle.bsv_net.specs.Circuits.{as_node, as_nodes, is_within, word, words, IsCircuit}
+use Rattle.bsv_net.specs.Equations.{computed}
+use Rattle.bsv_net.proofs.Solution.{same_length, as_computed}
+
+take_one : {A : Type 0} (xs : List A) (i : ℕ) (x : A) → slice_get xs i ≡ Some x → take (i + 1) xs ≡ take i xs ++ x ∷ []
+take_one {A} [] i x e = absurd (let n : ⊥ = cc in n)
+take_one {A} (y ∷ ys) zero x e = ap (λ (z : A). z ∷ []) (same_Some y x e)
+take_one {A} (y ∷ ys) (suc i) x e = let place : suc i + 1 ≡ suc (i + 1) = omega arith in ap (λ (n : ℕ). take n (y ∷ ys)) place ∙ ap (λ (zs : List A). y ∷ zs) (take_one ys i x e)
+
+module _ (arguments : List Bits) where
+  values_append : (ws : List Bits) (xs ys : List Node) → values no_answers arguments [] ws (xs ++ ys) ≡ values no_answers arguments [] (values no_answers arguments [] ws xs) ys
+  unfolding values
+  values_append ws [] ys = refl
+  values_append ws (x ∷ xs) ys = values_append (ws ++ node_word no_answers arguments [] ws x ∷ []) xs ys
+
+  values_one : (ws : List Bits) (x : Node) → values no_answers arguments [] ws (x ∷ []) ≡ ws ++ node_word no_answers arguments [] ws x ∷ []
+  unfolding values
+  values_one ws x = refl
+
+pub words_none : (inputs registers : List Bits) → words [] inputs registers ≡ []
+unfolding words values
+words_none inputs registers = refl
+
+-- the words of one node more
+pub words_more : (xs : List NetNode) (inputs registers : List Bits) (i : ℕ) (x : NetNode) → slice_get xs i ≡ Some x
+    → words (take (i + 1) xs) inputs registers ≡ words (take i xs) inputs registers ++ word inputs registers (words (take i xs) inputs registers) x ∷ []
+unfolding words
+words_more xs inputs registers i x e =
+    let n : ℕ = length inputs in
+    let args : List Bits = inputs ++ registers in
+    ap (λ (ys : List NetNode). values no_answers args [] [] (as_nodes n ys)) (take_one xs i x e)
+    ∙ ap (values no_answers args [] []) (map-append (as_node n) (take i xs) (x ∷ []))
+    ∙ values_append args [] (as_nodes n (take i xs)) (as_node n x ∷ [])
+    ∙ values_one args (values no_answers args [] [] (as_nodes n (take i xs))) (as_node n x)
+
+-- what stands at a place of a net is there
+pub net_within : (n : Net) (inputs : List Bits) → HaveWidths n.inputs inputs → (k : ℕ) (x : NetNode) → slice_get n.nodes k ≡ Some x → is_within (length inputs) (length n.registers) x ≡ true
+net_within n inputs h k x there =
+    subst (λ (m : ℕ). is_within m (length n.registers) x ≡ true) (same_length n.inputs inputs h)
+    (∥∥₁_elim n.right (Bool-set _ _) (λ (right : IsCircuit (circuit n)). holds_at_all (is_within (length n.inputs) (length n.registers)) n.nodes right.within k x there))
+
+-- the word that is computed behind the first words is that of the node
+pub net_word : (n : Net) (inputs registers : List Bits) → HaveWidths n.inputs inputs → (k : ℕ) (x : NetNode) → slice_get n.nodes k ≡ Some x
+    → words (take (k + 1) n.nodes) inputs registers ≡ words (take k n.nodes) inputs registers ++ computed inputs registers (at (words (take k n.nodes) inputs registers)) x ∷ []
+net_word n inputs registers h k x there =
+    words_more n.nodes inputs registers k x there
+    ∙ ap (λ (w : Bits). words (take k n.nodes) inputs registers ++ w ∷ []) (as_computed inputs registers (words (take k n.nodes) inputs registers) (length n.registers) x (net_within n inputs h k x there))

@@ -1,0 +1,10 @@
+use Rattle.std.proofs.Common.{◌≡◌, length}
+use Rattle.std.specs.List.{list_all}
+use Rattle.bsv_net.specs.Circuits.{names}
+use Rattle.bsv_net.proofs.checks.are_names.Given as goal
+
+abbrev pub decreases-loop-node : goal.decreases-loop-node
+decreases-loop-node l = length l.rest
+
+abbrev pub invariant-loop-node : goal.invariant-loop-node
+invariant-loop-node l = list_all (names l.widths) l.rest ≡ list_all (names l.widths) l.nodes
