@@ -50,9 +50,8 @@ module _ (g : Base) (ports : Ports) where
   -- those of the calls that need one
   unfoldable pub guards : List Call → List NetNode → List ℕ → List Need → PlacedAll
   guards cs ns so_far [] = record { nodes = ns; places = so_far }
-  guards cs ns so_far (x ∷ xs) = of (guard_of (slice_get cs x.call) ns) where
-    of : Placed → PlacedAll
-    of p = guards cs p.nodes (so_far ++ p.place ∷ []) xs
+  guards cs ns so_far (x ∷ xs) =
+      guards cs (guard_of (slice_get cs x.call) ns).nodes (so_far ++ (guard_of (slice_get cs x.call) ns).place ∷ []) xs
 
   -- ---- nodes
 
@@ -86,23 +85,20 @@ module _ (g : Base) (ports : Ports) where
   -- the nodes of a body, with their places
   unfoldable pub body : ℕ → List Call → List ℕ → List NetNode → List Node → PlacedAll
   body start cs places ns [] = record { nodes = ns; places = places }
-  body start cs places ns (x ∷ xs) = of (body_node start cs places ns x) where
-    of : Placed → PlacedAll
-    of p = body start cs (places ++ p.place ∷ []) p.nodes xs
+  body start cs places ns (x ∷ xs) =
+      body start cs (places ++ (body_node start cs places ns x).place ∷ []) (body_node start cs places ns x).nodes xs
 
 -- ---- bits
 
 -- the bit that is 1 where all of these are, behind one
 unfoldable pub all_from : List NetNode → ℕ → List ℕ → Placed
 all_from ns a [] = record { nodes = ns; place = a }
-all_from ns a (b ∷ bs) = of (both ns a b) where
-  of : Placed → Placed
-  of p = all_from p.nodes p.place bs
+all_from ns a (b ∷ bs) = all_from (both ns a b).nodes (both ns a b).place bs
 
 -- where there is none of them, the node that is 1
 abbrev pub all_of : ℕ → List NetNode → List ℕ → Placed
 all_of one ns [] = record { nodes = ns; place = one }
-all_of one ns (a ∷ as) = all_from ns a as
+all_of one ns (a ∷ others) = all_from ns a others
 
 -- ---- sites
 

@@ -84,9 +84,9 @@ pub record Blocked : Type 0 where
 
 unfoldable pub all_blocked : ℕ → List NetNode → List (Option ℕ) → List ℕ → Blocked
 all_blocked fire ns blocks [] = record { nodes = ns; blocks = blocks }
-all_blocked fire ns blocks (n ∷ more) = of (blocked_by fire ns (or_nobody (slice_get blocks n))) where
-  of : Placed → Blocked
-  of p = all_blocked fire p.nodes (slice_set blocks n (Some p.place)) more
+all_blocked fire ns blocks (n ∷ more) =
+    all_blocked fire (blocked_by fire ns (or_nobody (slice_get blocks n))).nodes
+    (slice_set blocks n (Some (blocked_by fire ns (or_nobody (slice_get blocks n))).place)) more
 
 module _ (g : Ground) where
   -- ---- methods that are seen

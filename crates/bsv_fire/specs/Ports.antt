@@ -30,9 +30,8 @@ pub record PlacedSoFar : Type 0 where
 
 -- one word for each argument, the first one where the bit is 1
 unfoldable pub all_picked : List NetNode → ℕ → List ℕ → List ℕ → List ℕ → PlacedAll
-all_picked ns live so_far (a ∷ firsts) (b ∷ seconds) = of (add ns (net.Pick live a b)) where
-  of : Placed → PlacedAll
-  of p = all_picked p.nodes live (so_far ++ p.place ∷ []) firsts seconds
+all_picked ns live so_far (a ∷ firsts) (b ∷ seconds) =
+    all_picked (add ns (net.Pick live a b)).nodes live (so_far ++ (add ns (net.Pick live a b)).place ∷ []) firsts seconds
 all_picked ns live so_far _ _ = record { nodes = ns; places = so_far }
 
 -- one more call site, behind those so far
@@ -72,18 +71,18 @@ module _ (fires : List ℕ) (sites : List (List Site)) (method : ℕ) where
   -- these spots, one after the other
   unfoldable pub at_spots : List NetNode → Option MethodPort → List Spot → PlacedSoFar
   at_spots ns o [] = record { nodes = ns; port = o }
-  at_spots ns o (s ∷ ss) = of (at_spot ns o s) where
-    of : PlacedSoFar → PlacedSoFar
-    of p = at_spots p.nodes p.port ss
+  at_spots ns o (s ∷ ss) = at_spots (at_spot ns o s).nodes (at_spot ns o s).port ss
 
 -- ---- a method that is called nowhere
+
+abbrev zero : List NetNode → ℕ → Placed
+zero ns width = add ns (net.Constant (zero_word width))
 
 -- a word that is 0 for each of these arguments
 unfoldable pub zeros : Table → ℕ → List NetNode → List ℕ → List ℕ → PlacedAll
 zeros t method ns so_far [] = record { nodes = ns; places = so_far }
-zeros t method ns so_far (k ∷ ks) = of (add ns (net.Constant (zero_word (t.argument_width method k)))) where
-  of : Placed → PlacedAll
-  of p = zeros t method p.nodes (so_far ++ p.place ∷ []) ks
+zeros t method ns so_far (k ∷ ks) =
+    zeros t method (zero ns (t.argument_width method k)).nodes (so_far ++ (zero ns (t.argument_width method k)).place ∷ []) ks
 
 abbrev pub all_zeros : Table → ℕ → List NetNode → PlacedAll
 all_zeros t method ns = zeros t method ns [] (numbers_below (t.arity method))

@@ -1,6 +1,7 @@
 ghost use Rattle.std.specs.Prelude.{◌≡◌, ◌++◌, [], IfOk, OnOk, map, slice_get};
 ghost use Rattle.std.specs.Option.{option_copied};
 ghost use Rattle.bsv_fire.specs.Bodies as spec;
+ghost use Rattle.bsv_net.specs.Placing as placing;
 
 use bsv_bits::OutOfMemory;
 use bsv_design::{Call, Condition, NamedPart, Need, Node};
@@ -222,7 +223,7 @@ pub fn nodes_at(
     nodes: &[u32],
     places: &[u32],
 ) -> Result<Items<u32>, OutOfMemory>
-    ensures { IfOk result (λ found. found ≡ map (spec.node_at nodes.now) places.now) }
+    ensures { IfOk result (λ found. found ≡ map (placing.node_at nodes.now) places.now) }
 {
     let mut found = Items::new(alloc);
     for place in places {

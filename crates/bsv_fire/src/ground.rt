@@ -1,4 +1,4 @@
-ghost use Rattle.std.specs.Prelude.{◌≡◌, ◌++◌, IfOk, OnOk, OnSome, map};
+ghost use Rattle.std.specs.Prelude.{◌≡◌, ◌++◌, IfOk, IfSome, OnOk, map};
 ghost use Rattle.bsv_clock.specs.Carrying as carrying;
 ghost use Rattle.bsv_design.specs.Schemes.{outline};
 ghost use Rattle.bsv_fire.specs.Grounds as spec;
@@ -61,7 +61,7 @@ pub fn registers_of(alloc: Global, parts: &[NamedPart]) -> Result<Items<Register
 
 /// How many inputs an element has.
 fn input_count(element: &Element) -> Option<u32>
-    ensures { OnSome result (λ count. count ≡ spec.input_count element.now) }
+    ensures { IfSome result (λ count. count ≡ spec.input_count element.now) }
 {
     if element.role.is_rule() {
         return Some(0);
