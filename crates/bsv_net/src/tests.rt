@@ -78,7 +78,7 @@ fn a_next_word_of_another_width(rt: HostRuntime) -> Result<(), Fail> {
 #[test]
 fn a_piece_is_placed(rt: HostRuntime) -> Result<(), Fail> {
     let alloc = rt.alloc();
-    let ports: [MethodPort; 0] = [];
+    let ports: [Option<MethodPort>; 0] = [];
     let wires = Wires {
         registers: 5,
         ports: &ports,
