@@ -3,5 +3,6 @@ pub mod Grounds
 pub mod Ports
 pub mod Bodies
 pub mod Growing
+pub mod Circuits
 pub mod Firing
 pub mod AtHand

@@ -1,4 +1,6 @@
-ghost use Rattle.std.specs.Prelude.{◌≡◌, IfOk, false};
+ghost use Rattle.std.specs.Prelude.{◌≡◌, ◌+◌, IfOk, false, map, unwrap_or};
+ghost use Rattle.bsv_graph.specs.Edges.{numbers_below};
+ghost use Rattle.bsv_fire.specs.Circuits.{IsFireCircuit};
 ghost use Rattle.bsv_clock.specs.Grounds.{IsScheduleOf, KeepsRules};
 ghost use Rattle.bsv_design.specs.Guards.{needs_of};
 ghost use Rattle.bsv_design.specs.Schemes.{design_scheme, kinds_of};
@@ -21,19 +23,20 @@ fn results_of(
     alloc: Global,
     results: &[Option<u32>],
     count: u32,
-) -> Result<Items<u32>, OutOfMemory> {
+) -> Result<Items<u32>, OutOfMemory>
+    ensures { IfOk result (λ found. found ≡ map (λ o. unwrap_or o count) results.now) }
+{
     let mut found = Items::new(alloc);
-    for result in results {
-        found.push(match result {
-            Some(node) => *node,
-            None => count,
-        })?;
+    for given in results {
+        found.push(given.unwrap_or(count))?;
     }
     Ok(found)
 }
 
 /// The nodes of so many registers, of which the first stands here.
-fn kept(alloc: Global, first: u32, count: u32) -> Result<Items<u32>, OutOfMemory> {
+fn kept(alloc: Global, first: u32, count: u32) -> Result<Items<u32>, OutOfMemory>
+    ensures { IfOk result (λ found. found ≡ map (λ k. first + k) (numbers_below count)) }
+{
     let mut found = Items::new(alloc);
     for number in 0..count {
         let Some(node) = first.checked_add(number) else {
@@ -50,7 +53,9 @@ fn fire_circuit(
     design: &Design,
     guards: &Guards,
     schedule: &Schedule,
-) -> Result<Circuit, OutOfMemory> {
+) -> Result<Circuit, OutOfMemory>
+    ensures { IfOk result (IsFireCircuit (blueprint design.now) guards.now.needs schedule.now) }
+{
     let parts = design.parts.as_slice();
     let elements = design.elements.as_slice();
     let widths = inputs_of(alloc, elements)?;
