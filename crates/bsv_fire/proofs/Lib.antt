@@ -1,4 +1,3 @@
-pub mod SamePiece
 pub mod Numbers
 pub mod FirstNodes
 pub mod Frame
