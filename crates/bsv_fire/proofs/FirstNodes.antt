@@ -25,7 +25,7 @@ use Rattle.bsv_fire.proofs.Numbers.{got_before, got_behind}
 -- ---- inputs
 
 -- how many inputs stand before those of an element
-pub inputs_before : List Element → ℕ → ℕ
+unfoldable pub inputs_before : List Element → ℕ → ℕ
 inputs_before [] j = 0
 inputs_before (e ∷ es) zero = 0
 inputs_before (e ∷ es) (suc j) = input_count e + inputs_before es j
@@ -37,7 +37,7 @@ start_of at (e ∷ es) zero l = omega arith
 start_of at (e ∷ es) (suc j) l = start_of (at + input_count e) es j (omega arith) ∙ omega arith
 
 -- no method stands behind a rule
-pub MethodsFirst : List Element → Type 0
+unfoldable pub MethodsFirst : List Element → Type 0
 MethodsFirst es =
     (m n : ℕ) (d e : Element) → slice_get es m ≡ Some d → slice_get es n ≡ Some e → m ≤ n → is_rule d.role ≡ true → is_rule e.role ≡ true
 
@@ -116,7 +116,7 @@ asked_at S q base (x ∷ es) first long (suc j) e there rule =
 -- ---- registers
 
 -- how many registers stand before those of a part
-pub registers_before : List Kind → ℕ → ℕ
+unfoldable pub registers_before : List Kind → ℕ → ℕ
 registers_before [] i = 0
 registers_before (k ∷ ks) zero = 0
 registers_before (k ∷ ks) (suc i) = (kind_table k).registers + registers_before ks i

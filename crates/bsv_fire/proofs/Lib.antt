@@ -1,3 +1,4 @@
 pub mod Numbers
 pub mod FirstNodes
 pub mod Frame
+pub mod GroundTold
