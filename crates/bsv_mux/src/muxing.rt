@@ -1,49 +1,70 @@
+ghost use Rattle.std.specs.Prelude.{◌≡◌, ◌+◌, [], IfOk, OnOk, false, map, length, slice_get};
+ghost use Rattle.bsv_clock.specs.Carrying.{Carries, cell};
+ghost use Rattle.bsv_clock.specs.Grounds.{IsScheduleOf, KeepsRules};
+ghost use Rattle.bsv_design.specs.Schemes.{design_scheme, kinds_of};
+ghost use Rattle.bsv_design.specs.Seen.{blueprint};
+ghost use Rattle.bsv_fire.specs.Bodies.{or_none};
+ghost use Rattle.bsv_fire.specs.Firing.{Fires, gives};
+ghost use Rattle.bsv_net.specs.AtHand.{circuit};
+ghost use Rattle.bsv_mux.specs.AtHand as hand;
+ghost use Rattle.bsv_mux.specs.Nexts as spec;
+ghost use Rattle.bsv_mux.specs.Results.{KeepsResults};
+
 use crate::parts::Muxing;
 use bsv_bits::{OutOfMemory, Word};
 use bsv_design::{Design, NamedPart, Schedule};
 use bsv_fire::{Firing, Spot, all_spots, register_starts};
-use bsv_net::{Circuit, Net, NetNode, add};
+use bsv_net::{Circuit, Net, NetNode, add, node_at};
 use sqlite_items::{Items, at};
 use std::alloc::Global;
 
-/// Nodes of the registers and one that is 0 stand behind the others, and the node of the first register.
-fn add_registers(nodes: &mut Items<NetNode>, count: u32) -> Result<u32, OutOfMemory> {
-    let first = u32::try_from(nodes.len()).map_err(|_| OutOfMemory)?;
+/// So many registers, and a bit that is 0, stand behind the nodes.
+fn add_registers(nodes: &mut Items<NetNode>, count: u32) -> Result<(), OutOfMemory>
+    ensures { OnOk result (nodes.new ≡ spec.with_registers nodes.old count) }
+{
     for number in 0..count {
         add(nodes, NetNode::Register(number))?;
     }
     add(nodes, NetNode::Constant(Word::bit(false)))?;
-    Ok(first)
+    Ok(())
 }
 
-fn spots_on(spots: &[Items<Spot>], part: usize) -> &[Spot] {
-    match at(spots, part) {
+/// The call sites on a part.
+fn spots_on(spots: &[Items<Spot>], part: u32) -> &[Spot]
+    ensures { result.now ≡ or_none (slice_get spots.now part) }
+{
+    match at(spots, part as usize) {
         Some(found) => found.as_slice(),
         None => &[],
     }
 }
 
 /// The next words of all registers.
+#[tactic(auto, unfolding(crate::specs::Nexts::nexts))]
 fn next_words(
     muxing: Muxing<'_>,
     nodes: &mut Items<NetNode>,
     parts: &[NamedPart],
     starts: &[u32],
     spots: &[Items<Spot>],
-) -> Result<Items<u32>, OutOfMemory> {
+) -> Result<Items<u32>, OutOfMemory>
+    ensures nodes { OnOk result (nodes.new ≡ (spec.nexts (hand.told muxing.entry) starts.now
+        spots.now 0 nodes.old [] (map (λ p. p.kind) parts.now)).nodes) }
+    ensures nexts { IfOk result (λ nexts. nexts ≡ (spec.nexts (hand.told muxing.entry)
+        starts.now spots.now 0 nodes.old [] (map (λ p. p.kind) parts.now)).places) }
+{
     let mut nexts = Items::new(muxing.alloc);
-    for part in 0..parts.len() {
-        let start = match starts.get(part) {
-            Some(start) => *start,
-            None => 0,
+    let mut number = 0u32;
+    let mut rest = parts;
+    while let Some((part, after)) = rest.split_first() {
+        let start = node_at(starts, number);
+        let found = spots_on(spots, number);
+        muxing.part_nexts(nodes, &mut nexts, &part.kind, start, found)?;
+        let Some(next) = number.checked_add(1) else {
+            return Err(OutOfMemory);
         };
-        muxing.next_words(
-            nodes,
-            &mut nexts,
-            &parts[part].kind,
-            start,
-            spots_on(spots, part),
-        )?;
+        number = next;
+        rest = after;
     }
     Ok(nexts)
 }
@@ -53,55 +74,59 @@ fn results_of(
     alloc: Global,
     results: &[u32],
     before: usize,
-    behind: usize,
-) -> Result<Items<u32>, OutOfMemory> {
+    behind: u32,
+) -> Result<Items<u32>, OutOfMemory>
+    ensures { IfOk result (λ found. found ≡ map (spec.renamed before behind) results.now) }
+{
     let mut found = Items::new(alloc);
-    for result in results {
-        let place = if (*result as usize) < before {
-            *result
+    for place in results {
+        let renamed = if (*place as usize) < before {
+            *place
         } else {
-            behind as u32
+            behind
         };
-        found.push(place)?;
+        found.push(renamed)?;
     }
     Ok(found)
 }
 
-/// The net with the next word of each register.
-pub fn add_next(
+/// The circuit of a net with the next word of each register.
+fn next_circuit(
     alloc: Global,
     design: &Design,
     schedule: &Schedule,
     net: Net,
-) -> Result<Net, OutOfMemory> {
+) -> Result<Circuit, OutOfMemory>
+    ensures { IfOk result (spec.IsNextCircuit (blueprint design.now) schedule.now (circuit net)) }
+{
     let parts = design.parts.as_slice();
     let before = net.nodes.len();
-    let mut nodes = net.nodes;
-    let Ok(count) = u32::try_from(net.registers.len()) else {
+    let (Ok(first), Ok(count)) = (u32::try_from(before), u32::try_from(net.registers.len())) else {
         return Err(OutOfMemory);
     };
-    let first = add_registers(&mut nodes, count)?;
     let Some(none) = first.checked_add(count) else {
         return Err(OutOfMemory);
     };
-    let spots = all_spots(
-        alloc,
-        parts,
-        design.elements.as_slice(),
-        schedule.execution.as_slice(),
-    )?;
+    let mut nodes = net.nodes;
+    add_registers(&mut nodes, count)?;
+    let execution = schedule.execution.as_slice();
+    let spots = all_spots(alloc, parts, design.elements.as_slice(), execution)?;
     let starts = register_starts(alloc, first, parts)?;
+    let firing = Firing {
+        fires: net.fires.as_slice(),
+        sites: net.sites.as_slice(),
+    };
     let muxing = Muxing {
         alloc,
-        firing: Firing {
-            fires: net.fires.as_slice(),
-            sites: net.sites.as_slice(),
-        },
+        firing,
         none,
     };
     let nexts = next_words(muxing, &mut nodes, parts, &starts, &spots)?;
-    let results = results_of(alloc, net.results.as_slice(), before, nodes.len())?;
-    let circuit = Circuit {
+    let Ok(behind) = u32::try_from(nodes.len()) else {
+        return Err(OutOfMemory);
+    };
+    let results = results_of(alloc, net.results.as_slice(), before, behind)?;
+    Ok(Circuit {
         inputs: net.inputs,
         registers: net.registers,
         nodes,
@@ -110,9 +135,30 @@ pub fn add_next(
         readies: net.readies,
         results,
         sites: Items::new(alloc),
-    };
+    })
+}
+
+/// The net of a design: in each clock it tells which elements fire, which are ready and what those give, and the next word
+/// of each register, so that the registers show the state behind the clock. The net that is given tells of the design what
+/// `add_fire` promises.
+pub fn add_next(
+    alloc: Global,
+    design: &Design,
+    schedule: &Schedule,
+    net: Net,
+) -> Result<Net, OutOfMemory>
+    requires rules { KeepsRules (design_scheme (blueprint design.now)) }
+    requires schedule { IsScheduleOf (design_scheme (blueprint design.now)) schedule.now }
+    requires fires { Fires false (design_scheme (blueprint design.now)) schedule.now (circuit net) }
+    ensures carries { IfOk result (λ made. Carries false (design_scheme (blueprint design.now))
+        schedule.now (map cell made.registers) made.inputs (gives (circuit made))) }
+    ensures no_result { IfOk result (λ made.
+        KeepsResults (design_scheme (blueprint design.now)) (circuit made)) }
+    ensures sites { IfOk result (λ made. made.sites ≡ []) }
+{
+    let circuit = next_circuit(alloc, design, schedule, net)?;
     match Net::new(alloc, circuit)? {
-        Some(net) => Ok(net),
+        Some(made) => Ok(made),
         None => Err(OutOfMemory),
     }
 }

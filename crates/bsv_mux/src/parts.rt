@@ -1,4 +1,6 @@
-ghost use Rattle.std.specs.Prelude.{◌≡◌, ◌+◌, IfOk, OnOk};
+ghost use Rattle.std.specs.Prelude.{◌≡◌, ◌++◌, [], IfOk, OnOk};
+ghost use Rattle.bsv_design.specs.Kinds.{kind_table};
+ghost use Rattle.bsv_net.specs.AtHand.{wires};
 ghost use Rattle.bsv_mux.specs.Nexts as spec;
 
 use bsv_bits::OutOfMemory;
@@ -19,58 +21,84 @@ pub struct Muxing<'a> {
 }
 
 impl Muxing<'_> {
-    /// The nodes of the methods of a part that act; the others have none.
+    ghost use Rattle.bsv_mux.specs.AtHand as hand;
+
+    /// The nodes of the methods of a part.
+    #[tactic(auto, unfolding(crate::specs::Nexts::ports))]
     fn ports(
         self,
         nodes: &mut Items<NetNode>,
         kind: &Kind,
         spots: &[Spot],
-    ) -> Result<Items<Option<MethodPort>>, OutOfMemory> {
+    ) -> Result<Items<Option<MethodPort>>, OutOfMemory>
+        ensures nodes { OnOk result (nodes.new ≡ (spec.all_ports (hand.told self.entry)
+            (kind_table kind.now) spots.now nodes.old).nodes) }
+        ensures ports { IfOk result (λ ports. ports ≡ (spec.all_ports (hand.told self.entry)
+            (kind_table kind.now) spots.now nodes.old).ports) }
+    {
         let mut ports = Items::new(self.alloc);
         for method in 0..kind.methods() {
-            let found = if kind.is_action(method) {
-                Some(port(
-                    self.alloc,
-                    nodes,
-                    kind,
-                    method,
-                    self.firing,
-                    spots,
-                    self.none,
-                )?)
-            } else {
-                None
-            };
-            ports.push(found)?;
+            let found = port(
+                self.alloc,
+                nodes,
+                kind,
+                method,
+                self.firing,
+                spots,
+                self.none,
+            )?;
+            ports.push(Some(found))?;
         }
         Ok(ports)
     }
 
-    /// The next words of the registers of a part, of which the first has this node, stand behind the others.
-    pub fn next_words(
+    /// The next words of the registers of a part stand behind the others.
+    #[tactic(auto, unfolding(crate::specs::Nexts::pieces))]
+    fn place_pieces(
         self,
         nodes: &mut Items<NetNode>,
         nexts: &mut Items<u32>,
         kind: &Kind,
-        registers: u32,
+        found: Wires<'_>,
+    ) -> Result<(), OutOfMemory>
+        ensures nodes { OnOk result (nodes.new ≡ (spec.all_pieces (hand.told self.entry)
+            (kind_table kind.now) (wires found.entry) nodes.old nexts.old).nodes) }
+        ensures nexts { OnOk result (nexts.new ≡ (spec.all_pieces (hand.told self.entry)
+            (kind_table kind.now) (wires found.entry) nodes.old nexts.old).places) }
+    {
+        for number in 0..kind.registers() {
+            let piece = kind.next_piece(self.alloc, number)?;
+            let place = found.place(nodes, &piece)?;
+            nexts.push(place)?;
+        }
+        Ok(())
+    }
+
+    /// The next words of a part, of which the first register has this node, stand behind the others.
+    #[tactic(auto, unfolding(crate::specs::Nexts::part_nexts))]
+    pub fn part_nexts(
+        self,
+        nodes: &mut Items<NetNode>,
+        nexts: &mut Items<u32>,
+        kind: &Kind,
+        start: u32,
         spots: &[Spot],
-    ) -> Result<(), OutOfMemory> {
-        let count = kind.registers();
-        if count == 0 {
+    ) -> Result<(), OutOfMemory>
+        ensures nodes { OnOk result (nodes.new ≡ (spec.part_nexts (hand.told self.entry)
+            kind.now start spots.now nodes.old nexts.old).nodes) }
+        ensures nexts { OnOk result (nexts.new ≡ (spec.part_nexts (hand.told self.entry)
+            kind.now start spots.now nodes.old nexts.old).places) }
+    {
+        if kind.registers() == 0 {
             return Ok(());
         }
         let ports = self.ports(nodes, kind, spots)?;
-        let wires = Wires {
-            registers,
+        let found = Wires {
+            registers: start,
             ports: ports.as_slice(),
             own: kind.methods(),
             own_args: &[],
         };
-        for number in 0..count {
-            let piece = kind.next_piece(self.alloc, number)?;
-            let place = wires.place(nodes, &piece)?;
-            nexts.push(place)?;
-        }
-        Ok(())
+        self.place_pieces(nodes, nexts, kind, found)
     }
 }

@@ -1,0 +1,3 @@
+pub mod Nexts
+pub mod Results
+pub mod AtHand
