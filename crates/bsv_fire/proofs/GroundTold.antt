@@ -100,7 +100,7 @@ long_cells : (k : Kind) → length (cells_in k) ≡ (kind_table k).registers
 long_cells k = length-map (numbers_below (kind_table k).registers) _ ∙ count_below (kind_table k).registers
 
 -- the registers of a part are among all of them
-registers_within : (ks : List Kind) (i : ℕ) (k : Kind) → slice_get ks i ≡ Some k → registers_before ks i + (kind_table k).registers ≤ length (cells_of ks)
+pub registers_within : (ks : List Kind) (i : ℕ) (k : Kind) → slice_get ks i ≡ Some k → registers_before ks i + (kind_table k).registers ≤ length (cells_of ks)
 unfolding registers_before cells_of
 registers_within [] i k there = absurd (let n : ⊥ = cc in n)
 registers_within (x ∷ ks) zero k there =

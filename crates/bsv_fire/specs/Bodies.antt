@@ -34,7 +34,7 @@ module _ (g : Base) (ports : Ports) where
 
   -- ---- guards
 
-  abbrev guard_in : Option Kind → ℕ → ℕ → List NetNode → Placed
+  abbrev pub guard_in : Option Kind → ℕ → ℕ → List NetNode → Placed
   guard_in None i m ns = record { nodes = ns; place = g.none }
   guard_in (Some k) i m ns =
       cond (nat_lt m (kind_table k).methods) (piece (wires_of i m []) ns ((kind_table k).guard_piece m)) (record { nodes = ns; place = g.none })
@@ -55,7 +55,7 @@ module _ (g : Base) (ports : Ports) where
 
   -- ---- nodes
 
-  abbrev result_in : Option Kind → ℕ → ℕ → List ℕ → List NetNode → Placed
+  abbrev pub result_in : Option Kind → ℕ → ℕ → List ℕ → List NetNode → Placed
   result_in None i m args ns = record { nodes = ns; place = g.none }
   result_in (Some k) i m args ns =
       cond (nat_lt m (kind_table k).methods && not ((kind_table k).is_action m))

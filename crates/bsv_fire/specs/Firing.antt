@@ -1,6 +1,6 @@
 -- What is promised of a net that tells what fires: it carries the scheme but for the next words, which keep every register,
 -- and its sites tell the calls of the elements that fire.
-use Rattle.std.specs.Prelude.{◌≡◌, ℕ, Bool, true, false, List, map, length, slice_get, Option, Some, None}
+use Rattle.std.specs.Prelude.{◌≡◌, ◌<◌, ℕ, Bool, true, false, List, [], map, length, slice_get, Option, Some, None}
 use Rattle.bsv_bits.specs.Words.{Bits, bit}
 use Rattle.bsv_prim.specs.declared.part.Part.{Part}
 use Rattle.bsv_design.specs.declared.schedule.Schedule.{Schedule}
@@ -19,12 +19,9 @@ use Rattle.bsv_clock.specs.Looks.{clock_look}
 use Rattle.bsv_net.specs.declared.circuit.Circuit.{Circuit}
 use Rattle.bsv_net.specs.declared.node.Site.{Site as NetSite}
 use Rattle.bsv_net.specs.Circuits.{words}
+use Rattle.bsv_fire.specs.Bodies.{or_none}
 
-abbrev pub arity_of : Option Kind → ℕ → ℕ
-arity_of None m = 0
-arity_of (Some k) m = (kind_table k).arity m
-
--- the words that a circuit gives, where its registers and its inputs have these
+-- the words that a circuit gives, where its nodes have these
 abbrev pub given_at : Circuit → List Bits → Given
 given_at c vs = record {
   fires = map (at vs) c.fires;
@@ -33,38 +30,51 @@ given_at c vs = record {
   nexts = map (at vs) c.nexts;
 }
 
+-- and where its registers and its inputs have these
 abbrev pub gives : Circuit → List Bits → List Bits → Given
 gives c registers inputs = given_at c (words c.nodes inputs registers)
+
+-- ---- calls
+
+abbrev pub arity_of : Option Kind → ℕ → ℕ
+arity_of None m = 0
+arity_of (Some k) m = (kind_table k).arity m
+
+-- the nodes of the calls of an element
+abbrev pub sites_of : Circuit → ℕ → List NetSite
+sites_of c n = or_none (slice_get c.sites n)
 
 -- the words of the nodes of a call tell the call: whether it is taken, and its arguments where it is
 pub record TellsSite (vs : List Bits) (x : Site) (s : NetSite) : Type 0 where
   pub taken : at vs s.taken ≡ bit x.taken
   pub args : x.taken ≡ true → map (at vs) s.args ≡ x.arguments
 
-abbrev pub TellsSites : List Bits → List Site → List NetSite → Type 0
-TellsSites vs xs ss = (k : ℕ) (x : Site) → slice_get xs k ≡ Some x → (s : NetSite) × (slice_get ss k ≡ Some s) × TellsSite vs x s
+-- ---- clocks
 
 -- what a circuit tells of a clock in which these elements fire, whose nodes have these words
 pub record TellsFiring (aggressive : Bool) (S : Scheme) (q : Asking) (s : List Part) (fired : List ℕ) (c : Circuit) (vs : List Bits) : Type 0 where
   pub elements : TellsElements aggressive S q s fired (given_at c vs)
   -- the calls of an element that fires, as it makes them under the look of the clock
-  pub sites : (n : ℕ) → In fired n → (ss : List NetSite) × (slice_get c.sites n ≡ Some ss)
-      × TellsSites vs (seen S q n (clock_look S q s fired)).sites ss
+  pub sites : (n : ℕ) → In fired n → (k : ℕ) (x : Site) (y : NetSite)
+      → slice_get (seen S q n (clock_look S q s fired)).sites k ≡ Some x → slice_get (sites_of c n) k ≡ Some y
+      → TellsSite vs x y
 
 pub record Fires (aggressive : Bool) (S : Scheme) (made : Schedule) (c : Circuit) : Type 0 where
   pub registers : map cell c.registers ≡ cells_of S.kinds
   pub inputs : c.inputs ≡ input_widths S
+  pub count : length c.fires ≡ length S.elements
+  pub count_sites : length c.sites ≡ length S.elements
   -- what gives nothing names no node
   pub no_result : (n : ℕ) (o : Outline) → slice_get S.elements n ≡ Some o → gives_value o.role ≡ false
       → slice_get c.results n ≡ Some (length c.nodes)
+  -- there are nodes for each call of each element, one for each of its arguments
+  pub calls : (n : ℕ) → n < length S.elements → length (sites_of c n) ≡ length (S.uses n)
+  pub arguments : (n k : ℕ) (t : Target) (y : NetSite) → slice_get (S.uses n) k ≡ Some t
+      → slice_get (sites_of c n) k ≡ Some y → length y.args ≡ arity_of (kind_at S.kinds t) t.method
   pub clock : (q : Asking) (s : List Part) (ws : List Bits) (fired : List ℕ) (after : List Part) → Fit S q s
       → HaveWidths (cell_widths (cells_of S.kinds)) ws → Shows S.kinds s ws
       → IsClock aggressive S made q s fired after
       → TellsFiring aggressive S q s fired c (words c.nodes (inputs_of S q) ws)
-  -- there are nodes for each call, one for each of its arguments
-  pub sites : (n k : ℕ) (t : Target) → slice_get (S.uses n) k ≡ Some t
-      → (ss : List NetSite) × (s : NetSite) × (slice_get c.sites n ≡ Some ss) × (slice_get ss k ≡ Some s)
-      × (length s.args ≡ arity_of (kind_at S.kinds t) t.method)
   -- every register keeps its word
   pub kept : (ws inputs : List Bits) → HaveWidths (cell_widths (cells_of S.kinds)) ws → HaveWidths c.inputs inputs
       → (gives c ws inputs).nexts ≡ ws

@@ -52,12 +52,7 @@ impl<'a> Pieces<'a> {
 
     /// The bit that is 1 where the guard of the method holds.
     #[tactic(auto, unfolding(crate::specs::Bodies::guard))]
-    fn guard(
-        self,
-        nodes: &mut Items<NetNode>,
-        part: u32,
-        method: u32,
-    ) -> Result<u32, OutOfMemory>
+    fn guard(self, nodes: &mut Items<NetNode>, part: u32, method: u32) -> Result<u32, OutOfMemory>
         ensures nodes { OnOk result (nodes.new ≡ (spec.guard (hand.base self.entry)
             self.entry.ports.now part method nodes.old).nodes) }
         ensures place { IfOk result (λ n. n ≡ (spec.guard (hand.base self.entry)
@@ -74,11 +69,7 @@ impl<'a> Pieces<'a> {
     }
 
     /// That of a call.
-    fn guard_of(
-        self,
-        nodes: &mut Items<NetNode>,
-        call: Option<&Call>,
-    ) -> Result<u32, OutOfMemory>
+    fn guard_of(self, nodes: &mut Items<NetNode>, call: Option<&Call>) -> Result<u32, OutOfMemory>
         ensures nodes { OnOk result (nodes.new ≡ (spec.guard_of (hand.base self.entry)
             self.entry.ports.now (option_copied call.entry) nodes.old).nodes) }
         ensures place { IfOk result (λ n. n ≡ (spec.guard_of (hand.base self.entry)
@@ -181,7 +172,11 @@ impl<'a> Pieces<'a> {
             ),
             Node::Pick(test, a, b) => add(
                 nodes,
-                NetNode::Pick(node_at(places, test), node_at(places, a), node_at(places, b)),
+                NetNode::Pick(
+                    node_at(places, test),
+                    node_at(places, a),
+                    node_at(places, b),
+                ),
             ),
             Node::Slice(a, high, low) => add(nodes, NetNode::Slice(node_at(places, a), high, low)),
             Node::Join(a, b) => add(nodes, NetNode::Join(node_at(places, a), node_at(places, b))),
@@ -218,11 +213,7 @@ impl<'a> Pieces<'a> {
 }
 
 /// The nodes at these places of a list.
-pub fn nodes_at(
-    alloc: Global,
-    nodes: &[u32],
-    places: &[u32],
-) -> Result<Items<u32>, OutOfMemory>
+pub fn nodes_at(alloc: Global, nodes: &[u32], places: &[u32]) -> Result<Items<u32>, OutOfMemory>
     ensures { IfOk result (λ found. found ≡ map (placing.node_at nodes.now) places.now) }
 {
     let mut found = Items::new(alloc);
@@ -259,11 +250,7 @@ pub fn all_of(nodes: &mut Items<NetNode>, one: u32, bits: &[u32]) -> Result<u32,
 }
 
 /// The nodes of the calls of an element, whose own nodes have these places.
-pub fn sites(
-    alloc: Global,
-    places: &[u32],
-    calls: &[Call],
-) -> Result<Items<Site>, OutOfMemory>
+pub fn sites(alloc: Global, places: &[u32], calls: &[Call]) -> Result<Items<Site>, OutOfMemory>
     ensures { IfOk result (λ found. found ≡ spec.sites places.now calls.now) }
 {
     let mut found = Items::new(alloc);

@@ -1,9 +1,11 @@
-ghost use Rattle.std.specs.Prelude.{◌≡◌, ◌+◌, IfOk, false, map, unwrap_or};
+ghost use Rattle.std.specs.Prelude.{◌≡◌, ◌+◌, IfOk, false, length, map, unwrap_or};
 ghost use Rattle.bsv_graph.specs.Edges.{numbers_below};
-ghost use Rattle.bsv_fire.specs.Circuits.{IsFireCircuit};
+ghost use Rattle.bsv_fire.specs.AtHand as hand;
+ghost use Rattle.bsv_fire.specs.Circuits as spec;
+ghost use Rattle.bsv_clock.specs.Carrying.{cells_of, input_widths_of};
 ghost use Rattle.bsv_clock.specs.Grounds.{IsScheduleOf, KeepsRules};
 ghost use Rattle.bsv_design.specs.Guards.{needs_of};
-ghost use Rattle.bsv_design.specs.Schemes.{design_scheme, kinds_of};
+ghost use Rattle.bsv_design.specs.Schemes.{design_scheme, kinds_of, outline};
 ghost use Rattle.bsv_design.specs.Seen.{blueprint};
 ghost use Rattle.bsv_fire.specs.Firing.{Fires};
 ghost use Rattle.bsv_net.specs.AtHand.{circuit};
@@ -19,11 +21,7 @@ use sqlite_items::Items;
 use std::alloc::Global;
 
 /// Of each element the node of what it gives, or their number where it gives nothing.
-fn results_of(
-    alloc: Global,
-    results: &[Option<u32>],
-    count: u32,
-) -> Result<Items<u32>, OutOfMemory>
+fn results_of(alloc: Global, results: &[Option<u32>], count: u32) -> Result<Items<u32>, OutOfMemory>
     ensures { IfOk result (λ found. found ≡ map (λ o. unwrap_or o count) results.now) }
 {
     let mut found = Items::new(alloc);
@@ -47,29 +45,31 @@ fn kept(alloc: Global, first: u32, count: u32) -> Result<Items<u32>, OutOfMemory
     Ok(found)
 }
 
-/// The circuit of a design, in which every register keeps its word.
-fn fire_circuit(
+/// The net in which all elements of the design stand, behind so many inputs and registers.
+#[tactic(auto, unfolding(crate::specs::Circuits::net))]
+fn whole_draft(
     alloc: Global,
     design: &Design,
     guards: &Guards,
     schedule: &Schedule,
-) -> Result<Circuit, OutOfMemory>
-    ensures { IfOk result (IsFireCircuit (blueprint design.now) guards.now.needs schedule.now) }
+    inputs: u32,
+    registers: u32,
+) -> Result<Draft, OutOfMemory>
+    requires inputs { inputs ≡ length (input_widths_of (map outline design.now.elements)) }
+    requires registers { registers ≡ length (cells_of (kinds_of (blueprint design.now))) }
+    ensures { IfOk result (λ draft. hand.draft draft
+        ≡ spec.net (blueprint design.now) guards.now.needs schedule.now) }
 {
     let parts = design.parts.as_slice();
     let elements = design.elements.as_slice();
-    let widths = inputs_of(alloc, elements)?;
-    let registers = registers_of(alloc, parts)?;
-    let (Ok(inputs), Ok(count)) = (u32::try_from(widths.len()), u32::try_from(registers.len())) else {
+    let Some(none) = inputs.checked_add(registers) else {
         return Err(OutOfMemory);
     };
-    let Some(none) = inputs.checked_add(count) else {
-        return Err(OutOfMemory);
-    };
-    let nodes = first_nodes(alloc, inputs, count)?;
     let spots = all_spots(alloc, parts, elements, schedule.execution.as_slice())?;
     let input_starts = input_starts(alloc, elements)?;
     let register_starts = register_starts(alloc, inputs, parts)?;
+    let nodes = first_nodes(alloc, inputs, registers)?;
+    let mut draft = Draft::new(alloc, nodes, parts, elements.len())?;
     let growing = Growing {
         alloc,
         design,
@@ -80,8 +80,29 @@ fn fire_circuit(
         registers: &register_starts,
         none,
     };
-    let mut draft = Draft::new(alloc, nodes, parts, elements.len())?;
     growing.grow(&mut draft)?;
+    Ok(draft)
+}
+
+/// The circuit of a design, in which every register keeps its word.
+fn fire_circuit(
+    alloc: Global,
+    design: &Design,
+    guards: &Guards,
+    schedule: &Schedule,
+) -> Result<Circuit, OutOfMemory>
+    ensures { IfOk result
+        (spec.IsFireCircuit (blueprint design.now) guards.now.needs schedule.now) }
+{
+    let widths = inputs_of(alloc, design.elements.as_slice())?;
+    let registers = registers_of(alloc, design.parts.as_slice())?;
+    let Ok(inputs) = u32::try_from(widths.len()) else {
+        return Err(OutOfMemory);
+    };
+    let Ok(count) = u32::try_from(registers.len()) else {
+        return Err(OutOfMemory);
+    };
+    let draft = whole_draft(alloc, design, guards, schedule, inputs, count)?;
     let Ok(last) = u32::try_from(draft.nodes.len()) else {
         return Err(OutOfMemory);
     };

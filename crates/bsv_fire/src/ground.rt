@@ -1,16 +1,30 @@
-ghost use Rattle.std.specs.Prelude.{◌≡◌, ◌++◌, IfOk, IfSome, OnOk, map};
+ghost use Rattle.std.specs.Prelude.{◌≡◌, ◌++◌, ◌∷◌, [], IfOk, IfSome, OnOk, map};
 ghost use Rattle.bsv_clock.specs.Carrying as carrying;
 ghost use Rattle.bsv_design.specs.Schemes.{outline};
 ghost use Rattle.bsv_fire.specs.Grounds as spec;
+ghost use Rattle.bsv_graph.specs.Edges.{numbers_below};
+ghost use Rattle.bsv_net.specs.declared.node.NetNode.TheVariants as net;
 
 use bsv_bits::{OutOfMemory, Word};
-use bsv_design::{Element, NamedPart};
+use bsv_design::{Element, NamedPart, Port};
 use bsv_net::NetNode;
 use bsv_prim::{Primitive, RegisterInfo};
 use sqlite_items::Items;
 use std::alloc::Global;
 
-/// The widths of the inputs: of each method those of its arguments, and one bit.
+/// Those of a method: the widths of its arguments, and one bit.
+fn push_inputs(widths: &mut Items<u32>, ports: &[Port]) -> Result<(), OutOfMemory>
+    ensures { OnOk result
+        (widths.new ≡ widths.old ++ (map (λ p. p.width) ports.now ++ 1 ∷ [])) }
+{
+    for port in ports {
+        widths.push(port.width)?;
+    }
+    widths.push(1)?;
+    Ok(())
+}
+
+/// The widths of the inputs, of each method its own. Behind the first rule there are no methods.
 pub fn inputs_of(alloc: Global, elements: &[Element]) -> Result<Items<u32>, OutOfMemory>
     ensures { IfOk result (λ widths. widths
         ≡ carrying.input_widths_of (map outline elements.now)) }
@@ -19,22 +33,16 @@ pub fn inputs_of(alloc: Global, elements: &[Element]) -> Result<Items<u32>, OutO
     let mut rest = elements;
     while let Some((element, after)) = rest.split_first() {
         if element.role.is_rule() {
-            break;
+            return Ok(widths);
         }
-        for port in element.arguments.as_slice() {
-            widths.push(port.width)?;
-        }
-        widths.push(1)?;
+        push_inputs(&mut widths, element.arguments.as_slice())?;
         rest = after;
     }
     Ok(widths)
 }
 
 /// The registers of a part.
-fn push_registers(
-    registers: &mut Items<RegisterInfo>,
-    part: &NamedPart,
-) -> Result<(), OutOfMemory>
+fn push_registers(registers: &mut Items<RegisterInfo>, part: &NamedPart) -> Result<(), OutOfMemory>
     ensures { OnOk result (map carrying.cell registers.new
         ≡ map carrying.cell registers.old ++ carrying.cells_in part.now.kind) }
 {
@@ -118,6 +126,26 @@ pub fn register_starts(
     Ok(starts)
 }
 
+/// So many inputs as nodes.
+fn push_input_nodes(nodes: &mut Items<NetNode>, count: u32) -> Result<(), OutOfMemory>
+    ensures { OnOk result (nodes.new ≡ nodes.old ++ map net.Input (numbers_below count)) }
+{
+    for number in 0..count {
+        nodes.push(NetNode::Input(number))?;
+    }
+    Ok(())
+}
+
+/// So many registers as nodes.
+fn push_register_nodes(nodes: &mut Items<NetNode>, count: u32) -> Result<(), OutOfMemory>
+    ensures { OnOk result (nodes.new ≡ nodes.old ++ map net.Register (numbers_below count)) }
+{
+    for number in 0..count {
+        nodes.push(NetNode::Register(number))?;
+    }
+    Ok(())
+}
+
 /// The inputs and the registers as nodes, and behind them a bit that is 0 and one that is 1.
 pub fn first_nodes(
     alloc: Global,
@@ -127,12 +155,8 @@ pub fn first_nodes(
     ensures { IfOk result (λ nodes. nodes ≡ spec.first_nodes inputs registers) }
 {
     let mut nodes = Items::new(alloc);
-    for number in 0..inputs {
-        nodes.push(NetNode::Input(number))?;
-    }
-    for number in 0..registers {
-        nodes.push(NetNode::Register(number))?;
-    }
+    push_input_nodes(&mut nodes, inputs)?;
+    push_register_nodes(&mut nodes, registers)?;
     nodes.push(NetNode::Constant(Word::bit(false)))?;
     nodes.push(NetNode::Constant(Word::bit(true)))?;
     Ok(nodes)

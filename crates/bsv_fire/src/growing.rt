@@ -41,11 +41,7 @@ struct Telling {
 }
 
 /// The bit that is 1 where that one is and the other one, if there is one, is not.
-fn unless(
-    nodes: &mut Items<NetNode>,
-    bit: u32,
-    block: Option<u32>,
-) -> Result<u32, OutOfMemory>
+fn unless(nodes: &mut Items<NetNode>, bit: u32, block: Option<u32>) -> Result<u32, OutOfMemory>
     ensures nodes { OnOk result (nodes.new
         ≡ (spec.unless (record { nodes = nodes.old; place = bit }) block).nodes) }
     ensures place { IfOk result (λ n. n
@@ -59,11 +55,7 @@ fn unless(
 }
 
 /// The node of an element that fires stands for those that stop another one, beside that one if there is one.
-fn blocked_by(
-    nodes: &mut Items<NetNode>,
-    fire: u32,
-    block: Option<u32>,
-) -> Result<u32, OutOfMemory>
+fn blocked_by(nodes: &mut Items<NetNode>, fire: u32, block: Option<u32>) -> Result<u32, OutOfMemory>
     ensures nodes { OnOk result (nodes.new ≡ (spec.blocked_by fire nodes.old block).nodes) }
     ensures place { IfOk result (λ n. n ≡ (spec.blocked_by fire nodes.old block).place) }
 {
@@ -202,7 +194,7 @@ impl<'a> Growing<'a> {
     }
 
     /// Those of the methods of a part that this one sees.
-    #[tactic(auto, unfolding(crate::specs::Growing::with_seen))]
+    #[tactic(auto, using(crate::proofs::Onward::with_seen_more), unfolding(crate::specs::Growing::with_seen))]
     fn place_seen(
         self,
         draft: &mut Draft,
@@ -257,7 +249,12 @@ impl<'a> Growing<'a> {
         let start = node_at(self.inputs, number);
         let pieces = self.pieces(draft.ports.as_slice());
         let nodes = &mut draft.nodes;
-        pieces.body(nodes, start, element.calls.as_slice(), element.nodes.as_slice())
+        pieces.body(
+            nodes,
+            start,
+            element.calls.as_slice(),
+            element.nodes.as_slice(),
+        )
     }
 
     /// The bit that is 1 where the element is ready. The nodes of its body have these places.

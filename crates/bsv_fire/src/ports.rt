@@ -128,6 +128,7 @@ fn at_spots(
 }
 
 /// A word that is 0 for each argument of the method.
+#[tactic(auto, using(crate::proofs::Onward::zeros_more), unfolding(crate::specs::Ports::zeros))]
 fn zeros(
     alloc: Global,
     nodes: &mut Items<NetNode>,

@@ -1,5 +1,4 @@
-ghost use Rattle.std.specs.Prelude.{◌≡◌, IfOk, OnOk, map, length};
-ghost use Rattle.std.specs.Option.{option_copied};
+ghost use Rattle.std.specs.Prelude.{◌≡◌, [], IfOk, OnOk, Some, map, replicate};
 ghost use Rattle.bsv_fire.specs.Spots as spec;
 
 use bsv_bits::OutOfMemory;
@@ -72,8 +71,39 @@ fn add_calls(
     Ok(())
 }
 
-/// Of each part the call sites of methods that act, in the order in which their calls take effect.
+/// No call sites on each of so many parts.
+fn no_spots(alloc: Global, parts: usize) -> Result<Vec<Items<Spot>>, OutOfMemory>
+    ensures { IfOk result (λ spots. spots.items ≡ replicate parts []) }
+{
+    let mut spots = Vec::new(alloc);
+    for _ in 0..parts {
+        spots.push(Items::new(alloc))?;
+    }
+    Ok(spots)
+}
+
+/// Those of the elements, one after the other.
 #[tactic(auto, unfolding(crate::specs::Spots::with_elements))]
+fn add_elements(
+    parts: &[NamedPart],
+    spots: &mut Vec<Items<Spot>>,
+    elements: &[Element],
+    execution: &[u32],
+) -> Result<(), OutOfMemory>
+    ensures { OnOk result (spots.new.items ≡ spec.with_elements (map (λ p. p.kind) parts.now)
+        elements.now spots.old.items execution.now) }
+{
+    let mut rest = execution;
+    while let Some((number, after)) = rest.split_first() {
+        if let Some(element) = at(elements, *number as usize) {
+            add_calls(parts, spots, *number, element.calls.as_slice())?;
+        }
+        rest = after;
+    }
+    Ok(())
+}
+
+/// Of each part the call sites of methods that act, in the order in which their calls take effect.
 pub fn all_spots(
     alloc: Global,
     parts: &[NamedPart],
@@ -83,16 +113,7 @@ pub fn all_spots(
     ensures { IfOk result (λ spots. spots.items
         ≡ spec.all_spots (map (λ p. p.kind) parts.now) elements.now execution.now) }
 {
-    let mut spots = Vec::new(alloc);
-    for _ in 0..parts.len() {
-        spots.push(Items::new(alloc))?;
-    }
-    let mut rest = execution;
-    while let Some((number, after)) = rest.split_first() {
-        if let Some(element) = at(elements, *number as usize) {
-            add_calls(parts, &mut spots, *number, element.calls.as_slice())?;
-        }
-        rest = after;
-    }
+    let mut spots = no_spots(alloc, parts.len())?;
+    add_elements(parts, &mut spots, elements, execution)?;
     Ok(spots)
 }

@@ -90,28 +90,41 @@ fn results_of(
     Ok(found)
 }
 
-/// The circuit of a net with the next word of each register.
-fn next_circuit(
+/// The nodes of a net, and behind them those of the next words; and which these are.
+#[derive(Drop)]
+struct Extended {
+    nodes: Items<NetNode>,
+    nexts: Items<u32>,
+}
+
+/// The nodes of the next words stand behind those of the net.
+#[tactic(auto, unfolding(crate::specs::Nexts::next_words))]
+fn with_next_words(
     alloc: Global,
     design: &Design,
     schedule: &Schedule,
-    net: Net,
-) -> Result<Circuit, OutOfMemory>
-    ensures { IfOk result (spec.IsNextCircuit (blueprint design.now) schedule.now (circuit net)) }
+    net: &Net,
+) -> Result<Extended, OutOfMemory>
+    ensures nodes { IfOk result (λ made. made.nodes
+        ≡ (spec.next_words (blueprint design.now) schedule.now (circuit net.now)).nodes) }
+    ensures nexts { IfOk result (λ made. made.nexts
+        ≡ (spec.next_words (blueprint design.now) schedule.now (circuit net.now)).places) }
 {
     let parts = design.parts.as_slice();
-    let before = net.nodes.len();
-    let (Ok(first), Ok(count)) = (u32::try_from(before), u32::try_from(net.registers.len())) else {
+    let Ok(first) = u32::try_from(net.nodes.len()) else {
+        return Err(OutOfMemory);
+    };
+    let Ok(count) = u32::try_from(net.registers.len()) else {
         return Err(OutOfMemory);
     };
     let Some(none) = first.checked_add(count) else {
         return Err(OutOfMemory);
     };
-    let mut nodes = net.nodes;
-    add_registers(&mut nodes, count)?;
     let execution = schedule.execution.as_slice();
     let spots = all_spots(alloc, parts, design.elements.as_slice(), execution)?;
     let starts = register_starts(alloc, first, parts)?;
+    let mut nodes = Items::from_slice(alloc, net.nodes.as_slice())?;
+    add_registers(&mut nodes, count)?;
     let firing = Firing {
         fires: net.fires.as_slice(),
         sites: net.sites.as_slice(),
@@ -122,15 +135,29 @@ fn next_circuit(
         none,
     };
     let nexts = next_words(muxing, &mut nodes, parts, &starts, &spots)?;
-    let Ok(behind) = u32::try_from(nodes.len()) else {
+    Ok(Extended { nodes, nexts })
+}
+
+/// The circuit of a net with the next word of each register.
+fn next_circuit(
+    alloc: Global,
+    design: &Design,
+    schedule: &Schedule,
+    net: Net,
+) -> Result<Circuit, OutOfMemory>
+    ensures { IfOk result (spec.IsNextCircuit (blueprint design.now) schedule.now (circuit net)) }
+{
+    let made = with_next_words(alloc, design, schedule, &net)?;
+    let before = net.nodes.len();
+    let Ok(behind) = u32::try_from(made.nodes.len()) else {
         return Err(OutOfMemory);
     };
     let results = results_of(alloc, net.results.as_slice(), before, behind)?;
     Ok(Circuit {
         inputs: net.inputs,
         registers: net.registers,
-        nodes,
-        nexts,
+        nodes: made.nodes,
+        nexts: made.nexts,
         fires: net.fires,
         readies: net.readies,
         results,

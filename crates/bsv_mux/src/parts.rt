@@ -1,6 +1,7 @@
-ghost use Rattle.std.specs.Prelude.{◌≡◌, ◌++◌, [], IfOk, OnOk};
+ghost use Rattle.std.specs.Prelude.{◌≡◌, ◌<◌, IfOk, OnOk};
 ghost use Rattle.bsv_design.specs.Kinds.{kind_table};
 ghost use Rattle.bsv_net.specs.AtHand.{wires};
+ghost use Rattle.bsv_net.specs.Placing as placing;
 ghost use Rattle.bsv_mux.specs.Nexts as spec;
 
 use bsv_bits::OutOfMemory;
@@ -24,7 +25,7 @@ impl Muxing<'_> {
     ghost use Rattle.bsv_mux.specs.AtHand as hand;
 
     /// The nodes of the methods of a part.
-    #[tactic(auto, unfolding(crate::specs::Nexts::ports))]
+    #[tactic(auto, using(crate::proofs::Onward::ports_more), unfolding(crate::specs::Nexts::ports))]
     fn ports(
         self,
         nodes: &mut Items<NetNode>,
@@ -52,6 +53,24 @@ impl Muxing<'_> {
         Ok(ports)
     }
 
+    /// The next word of one register of a part.
+    fn place_piece(
+        self,
+        nodes: &mut Items<NetNode>,
+        kind: &Kind,
+        found: Wires<'_>,
+        number: u32,
+    ) -> Result<u32, OutOfMemory>
+        requires { number < (kind_table kind.now).registers }
+        ensures nodes { OnOk result (nodes.new ≡ (placing.piece (wires found.entry) nodes.old
+            ((kind_table kind.now).next_piece number)).nodes) }
+        ensures place { IfOk result (λ n. n ≡ (placing.piece (wires found.entry) nodes.old
+            ((kind_table kind.now).next_piece number)).place) }
+    {
+        let piece = kind.next_piece(self.alloc, number)?;
+        found.place(nodes, &piece)
+    }
+
     /// The next words of the registers of a part stand behind the others.
     #[tactic(auto, unfolding(crate::specs::Nexts::pieces))]
     fn place_pieces(
@@ -67,8 +86,7 @@ impl Muxing<'_> {
             (kind_table kind.now) (wires found.entry) nodes.old nexts.old).places) }
     {
         for number in 0..kind.registers() {
-            let piece = kind.next_piece(self.alloc, number)?;
-            let place = found.place(nodes, &piece)?;
+            let place = self.place_piece(nodes, kind, found, number)?;
             nexts.push(place)?;
         }
         Ok(())

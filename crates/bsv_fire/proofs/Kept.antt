@@ -1,0 +1,52 @@
+-- The promise of the net of a design up to its firing.
+use Rattle.std.proofs.Common.{◌≡◌, ◌∙◌, ℕ, false, List, [], ◌++◌, length, refl, sym, ap, subst}
+use Rattle.bsv_design.specs.declared.design.Design.{Design}
+use Rattle.bsv_design.specs.declared.schedule.Need.{Need}
+use Rattle.bsv_design.specs.declared.schedule.Schedule.{Schedule}
+use Rattle.bsv_design.specs.Designs.{IsDesign}
+use Rattle.bsv_design.specs.Guards.{needs_of}
+use Rattle.bsv_design.specs.Schemes.{Scheme, design_scheme, kinds_of}
+use Rattle.bsv_design.specs.Seen.{blueprint}
+use Rattle.bsv_clock.specs.Carrying.{Shows}
+use Rattle.bsv_clock.specs.Grounds.{IsScheduleOf, KeepsRules}
+use Rattle.bsv_net.specs.declared.circuit.Circuit.{Circuit}
+use Rattle.bsv_net.specs.declared.node.NetNode.{NetNode}
+use Rattle.bsv_net.specs.Circuits.{IsCircuit}
+use Rattle.bsv_net.proofs.Grows.{Grows, grows_refl}
+use Rattle.bsv_fire.specs.Circuits.{IsFireCircuit, ground, net, inputs, count}
+use Rattle.bsv_fire.specs.Firing.{Fires}
+use Rattle.bsv_fire.specs.Grounds.{first_nodes}
+use Rattle.bsv_fire.specs.Growing.{none_placed}
+use Rattle.bsv_fire.proofs.AllTold.{net_told}
+use Rattle.bsv_fire.proofs.Firings.{scene}
+use Rattle.bsv_fire.proofs.Frame.{Scene, S, Tells}
+use Rattle.bsv_fire.proofs.GroundTold.{ground_told}
+use Rattle.bsv_fire.proofs.Promise.{fires, lawful}
+use Rattle.bsv_fire.proofs.Steps.{grown_grows}
+use Rattle.bsv_fire.proofs.Structure.{Holds, grown_holds, none_holds}
+
+module _ (d : Design) (needs : List (List Need)) (made : Schedule) where
+  abbrev first : List NetNode
+  first = first_nodes (length (inputs (blueprint d) needs made)) (count (blueprint d) needs made)
+
+  holds : Holds d.elements (net (blueprint d) needs made) made.urgency
+  unfolding net design_scheme
+  holds =
+      grown_holds (ground (blueprint d) needs made) (none_placed (kinds_of (blueprint d)) (length d.elements) first) [] made.urgency
+      (none_holds (kinds_of (blueprint d)) d.elements first)
+
+  grows : Grows first (net (blueprint d) needs made).nodes
+  unfolding net design_scheme
+  grows = grown_grows (ground (blueprint d) needs made) (none_placed (kinds_of (blueprint d)) (length d.elements) first) made.urgency
+
+  pub kept : KeepsRules (design_scheme (blueprint d)) → IsScheduleOf (design_scheme (blueprint d)) made → needs ≡ needs_of (kinds_of (blueprint d)) d.elements
+      → (c : Circuit) → IsFireCircuit (blueprint d) needs made c → ∥ IsCircuit c ∥₁ → Fires false (design_scheme (blueprint d)) made c
+  unfolding net design_scheme
+  kept rules scheduled are c is ordered =
+      fires d needs made rules scheduled are c is ordered holds here
+      (λ right in_order q s ws fit have shows.
+      let z = scene (blueprint d) right needs made (lawful d needs made rules scheduled are c is ordered holds here) scheduled are c is in_order q s ws fit have in
+      net_told z (ground (blueprint d) needs made) (ground_told z needs are refl shows here) first (subst (λ (ns : List NetNode). Grows ns c.nodes) is.nodes (grows_refl c.nodes)))
+    where
+      here : Grows first c.nodes
+      here = subst (λ (ns : List NetNode). Grows first ns) (sym is.nodes) grows

@@ -1,0 +1,246 @@
+-- The promise of a circuit in which all elements stand, out of what the net tells in each scene.
+use Rattle.std.proofs.Common.{◌≡◌, ◌∙◌, ◌<◌, ◌≤◌, ◌+◌, ◌⊎◌, inl, inr, ℕ, zero, suc, Bool, true, false, List, [], ◌∷◌, ◌++◌, Option, Some, None, refl, sym, ap, ap₂, subst, arith, length, map, option_map, IsTrue}
+use Rattle.std.specs.Prelude.{slice_get, unwrap_or, nat_lt, ◌&&◌}
+use Rattle.std.proofs.lemmas.Bool.{and_parts, eqb-true, cases_lt}
+use Rattle.std.proofs.Math.Bool.{Bool-set}
+use Rattle.std.proofs.Math.Nat.{ℕ_set}
+use Rattle.std.proofs.Math.Logic.{∥∥₁_elim}
+use Rattle.std.proofs.lemmas.List.{length-map}
+use Rattle.std.proofs.lemmas.Option.{slice_get_within, slice_get_past}
+use mathlib.Core.Sum.{⊎_set}
+use mathlib.Core.List.{is_set as list_set}
+use Rattle.bsv_bits.specs.Words.{Bits}
+use Rattle.bsv_prim.specs.Table.{Table, word_at}
+use Rattle.bsv_prim.specs.declared.part.Part.{Part}
+use Rattle.bsv_design.specs.declared.design.Design.{Design}
+use Rattle.bsv_design.specs.declared.element.Call.{Call}
+use Rattle.bsv_design.specs.declared.element.Element.{Element}
+use Rattle.bsv_design.specs.declared.kind.Kind.{Kind}
+use Rattle.bsv_design.specs.declared.schedule.Need.{Need}
+use Rattle.bsv_design.specs.declared.schedule.Schedule.{Schedule}
+use Rattle.bsv_design.specs.Bodies.{Target, target, at}
+use Rattle.bsv_design.specs.Designs.{Blueprint, IsDesign}
+use Rattle.bsv_design.specs.Guards.{needs_of}
+use Rattle.bsv_design.specs.Roles.{gives_value}
+use Rattle.bsv_design.specs.Schemes.{Scheme, Outline, Asking, calls_of, design_scheme, kinds_of, outline}
+use Rattle.bsv_design.specs.Seen.{blueprint}
+use Rattle.bsv_design.specs.Kinds.{kind_table}
+use Rattle.bsv_design.specs.Traces.{kind_at}
+use Rattle.bsv_design.specs.Widths.{args_fit, call_fits, has_width, method_fits, result_fits}
+use Rattle.bsv_graph.specs.Edges.{numbers_below}
+use Rattle.bsv_graph.specs.Orders.{In}
+use Rattle.bsv_guard.specs.Fitting.{HaveWidths}
+use Rattle.bsv_guard.proofs.Lists.{mapped_at, item_of, holds_at_all}
+use Rattle.bsv_clock.specs.Carrying.{Shows, cell, cells_of, cell_widths, inputs_of, input_widths}
+use Rattle.bsv_clock.specs.Clocks.{IsClock}
+use Rattle.bsv_clock.specs.Grounds.{Fit, IsLawful, IsScheduleOf, KeepsRules}
+use Rattle.bsv_clock.proofs.Belonging.{lawful_design}
+use Rattle.bsv_clock.proofs.Stopping.{urgency_order}
+use Rattle.bsv_net.specs.declared.circuit.Circuit.{Circuit}
+use Rattle.bsv_net.specs.declared.node.NetNode.{NetNode}
+use Rattle.bsv_net.specs.declared.node.NetNode.TheVariants as net_node
+use Rattle.bsv_net.specs.declared.node.Site.{Site as NetSite}
+use Rattle.bsv_net.specs.Circuits.{IsCircuit, register_widths, words}
+use Rattle.bsv_net.specs.Placing.{node_at, or_first}
+use Rattle.bsv_net.proofs.Grows.{Grows, kept}
+use Rattle.bsv_net.proofs.Solution.{satisfies, same_length}
+use Rattle.bsv_fire.specs.Bodies.{or_none, site, sites}
+use Rattle.bsv_fire.specs.Circuits.{IsFireCircuit, net, inputs, count}
+use Rattle.bsv_fire.specs.Firing.{Fires, TellsFiring, arity_of, sites_of}
+use Rattle.bsv_fire.specs.Grounds.{first_nodes}
+use Rattle.bsv_fire.proofs.FirstNodes.{word_is_at}
+use Rattle.bsv_fire.proofs.Firings.{scene, tells_firing, cells_have, same_words}
+use Rattle.bsv_fire.proofs.Frame.{Scene, Tells}
+use Rattle.bsv_fire.proofs.GroundTold.{register_there}
+use Rattle.bsv_fire.proofs.Numbers.{count_below, number_at}
+use Rattle.bsv_fire.proofs.Structure.{Holds, some_same}
+
+bits_set : IsSet Bits
+bits_set = hlevel ℕ_set
+
+option_set : {A : Type 0} → IsSet A → IsSet (Option A)
+option_set set = hlevel (⊎_set, set)
+
+told_prop : (T : Scheme) (q : Asking) (s : List Part) (fired : List ℕ) (c : Circuit) (vs : List Bits) → IsProp (TellsFiring false T q s fired c vs)
+told_prop T q s fired c vs = hlevel (option_set bits_set, list_set bits_set, bits_set)
+
+-- ---- what stands beside the nodes
+
+args_long : (t : Table) (m : ℕ) (us : List ℕ) (k : ℕ) (args : List ℕ) → args_fit t m us k args ≡ true → k + length args ≡ t.arity m
+args_long t m us k [] h = let e = eqb-true k (t.arity m) h in omega arith
+args_long t m us k (a ∷ args) h =
+    let first = and_parts (nat_lt k (t.arity m) && has_width (slice_get us a) (t.argument_width m k)) (args_fit t m us (k + 1) args) h in
+    let rest = args_long t m us (k + 1) args first.1 in
+    omega arith
+
+call_long : (o : Option Kind) (us : List ℕ) (c : Call) → method_fits o us c ≡ true → length c.args ≡ arity_of o c.method
+call_long None us c h = absurd (let n : ⊥ = cc in n)
+call_long (Some k) us c h =
+    let parts = and_parts (nat_lt c.method (kind_table k).methods) (args_fit (kind_table k) c.method us 0 c.args) h in
+    let long = args_long (kind_table k) c.method us 0 c.args parts.1 in
+    omega arith
+
+nothing_given : (us : List ℕ) (b : Bool) (o : Option ℕ) → result_fits us b o ≡ true → b ≡ false → o ≡ None
+nothing_given us true o h e = absurd (let n : ⊥ = cc in n)
+nothing_given us false None h e = refl
+nothing_given us false (Some k) h e = absurd (let n : ⊥ = cc in n)
+
+module _ (d : Design) (needs : List (List Need)) (made : Schedule) (rules : KeepsRules (design_scheme (blueprint d))) (scheduled : IsScheduleOf (design_scheme (blueprint d)) made)
+    (are : needs ≡ needs_of (kinds_of (blueprint d)) d.elements) (c : Circuit) (is : IsFireCircuit (blueprint d) needs made c) (ordered : ∥ IsCircuit c ∥₁)
+    (holds : Holds d.elements (net (blueprint d) needs made) made.urgency)
+    (first : Grows (first_nodes (length (inputs (blueprint d) needs made)) (count (blueprint d) needs made)) c.nodes) where
+  abbrev b : Blueprint
+  b = blueprint d
+
+  abbrev T : Scheme
+  T = design_scheme b
+
+  pub lawful : IsLawful T
+  lawful = lawful_design d rules
+
+  elements_are : length T.elements ≡ length d.elements
+  unfolding design_scheme
+  elements_are = length-map d.elements outline
+
+  among : (n : ℕ) → n < length T.elements → In made.urgency n
+  among n l = (urgency_order T made scheduled).each n l
+
+  record At (n : ℕ) (o : Outline) : Type 0 where
+    element : Element
+    there : slice_get d.elements n ≡ Some element
+    gives : outline element ≡ o
+
+  element_of : (n : ℕ) (o : Outline) → slice_get T.elements n ≡ Some o → At n o
+  unfolding design_scheme
+  element_of n o at_o = let found = item_of outline d.elements n o at_o in record { element = found.item; there = found.is; gives = found.gives }
+
+  no_result_told : (n : ℕ) (o : Outline) → slice_get T.elements n ≡ Some o → gives_value o.role ≡ false → slice_get c.results n ≡ Some (length c.nodes)
+  no_result_told n o at_o gives_none =
+      let found = element_of n o at_o in
+      let placed = holds.each n found.element (among n (slice_get_within T.elements n o at_o)) found.there in
+      let nothing : found.element.result ≡ None =
+          ∥∥₁_elim d.right (option_set ℕ_set _ _) (λ (right : IsDesign b).
+          let fits = (right.elements n found.element found.there).fits in
+          nothing_given fits.widths (gives_value found.element.role) found.element.result fits.result (ap (λ (x : Outline). gives_value x.role) found.gives ∙ gives_none)) in
+      ap (λ (ns : List ℕ). slice_get ns n) is.results
+      ∙ (mapped_at (λ x. unwrap_or x (length (net b needs made).nodes)) (net b needs made).results n None
+      (placed.1 ∙ ap (λ (x : Option ℕ). Some (option_map (node_at placed.0) x)) nothing)
+      ∙ ap (λ (ns : List NetNode). Some (length ns)) (sym is.nodes))
+
+  -- the sites of an element are those of its calls
+  record Sites (n : ℕ) : Type 0 where
+    element : Element
+    there : slice_get d.elements n ≡ Some element
+    places : List ℕ
+    are_sites : sites_of c n ≡ sites places element.calls
+
+  there_is : (es : List Element) (n : ℕ) → n < length es → (e : Element) × (slice_get es n ≡ Some e)
+  there_is [] n l = absurd (omega arith)
+  there_is (e ∷ es) zero l = (e, refl)
+  there_is (e ∷ es) (suc n) l = there_is es n (omega arith)
+
+  sites_there : (n : ℕ) → n < length T.elements → Sites n
+  sites_there n l =
+      let found = there_is d.elements n (omega (arith, l, elements_are)) in
+      let placed = holds.each n found.0 (among n l) found.1 in
+      record {
+        element = found.0;
+        there = found.1;
+        places = placed.0;
+        are_sites = ap (λ (ss : List (List NetSite)). or_none (slice_get ss n)) is.sites ∙ ap or_none placed.2;
+      }
+
+  uses_are : (n : ℕ) (e : Element) → slice_get d.elements n ≡ Some e → T.uses n ≡ map target e.calls
+  unfolding design_scheme
+  uses_are n e there = ap calls_of there
+
+  calls_told : (n : ℕ) → n < length T.elements → length (sites_of c n) ≡ length (T.uses n)
+  calls_told n l =
+      let found = sites_there n l in
+      ap length found.are_sites ∙ (length-map found.element.calls (site found.places)
+      ∙ (sym (length-map found.element.calls target) ∙ ap length (sym (uses_are n found.element found.there))))
+
+  arguments_told : (n k : ℕ) (t : Target) (y : NetSite) → slice_get (T.uses n) k ≡ Some t → slice_get (sites_of c n) k ≡ Some y
+      → (n < length T.elements) ⊎ (length T.elements ≤ n) → length y.args ≡ arity_of (kind_at T.kinds t) t.method
+  unfolding design_scheme
+  arguments_told n k t y used at_y (inr past) = absurd (let e = no_uses n past in let f : None ≡ Some t = ap (λ (ts : List Target). slice_get ts k) (sym e) ∙ used in let g : ⊥ = cc in g)
+    where
+      no_uses : (n : ℕ) → length T.elements ≤ n → T.uses n ≡ []
+      no_uses n past = ap calls_of (slice_get_past d.elements n (omega (arith, elements_are)))
+  arguments_told n k t y used at_y (inl l) =
+      let found = sites_there n l in
+      let e = found.element in
+      let call = item_of target e.calls k t (ap (λ (ts : List Target). slice_get ts k) (sym (uses_are n e found.there)) ∙ used) in
+      let y_is : site found.places call.item ≡ y =
+          some_same (site found.places call.item) y
+          (sym (mapped_at (site found.places) e.calls k call.item call.is) ∙ (ap (λ (ss : List NetSite). slice_get ss k) (sym found.are_sites) ∙ at_y)) in
+      let long : length call.item.args ≡ arity_of (kind_at T.kinds (target call.item)) call.item.method =
+          ∥∥₁_elim d.right (ℕ_set _ _) (λ (right : IsDesign b).
+          let fits = (right.elements n e found.there).fits in
+          call_long (slice_get (kinds_of b) call.item.part) fits.widths call.item
+          (and_parts (has_width (slice_get fits.widths call.item.taken) 1) (method_fits (slice_get (kinds_of b) call.item.part) fits.widths call.item)
+          (holds_at_all (call_fits (kinds_of b) fits.widths) e.calls fits.calls k call.item call.is)).1) in
+      ap (λ (s : NetSite). length s.args) (sym y_is)
+      ∙ (length-map call.item.args (node_at found.places)
+      ∙ (long ∙ ap (λ (x : Target). arity_of (kind_at T.kinds x) x.method) call.gives))
+
+  -- ---- registers
+
+  registers_are : map cell c.registers ≡ cells_of T.kinds
+  unfolding design_scheme
+  registers_are = is.registers
+
+  inputs_are : c.inputs ≡ input_widths T
+  unfolding design_scheme input_widths
+  inputs_are = is.inputs_are
+
+  long_nexts : length c.nexts ≡ count b needs made
+  long_nexts = ap length is.nexts ∙ (length-map (numbers_below (count b needs made)) _ ∙ count_below (count b needs made))
+
+  next_there : (k : ℕ) → k < count b needs made → node_at c.nexts k ≡ length (inputs b needs made) + k
+  next_there k l =
+      ap (λ (ns : List ℕ). node_at ns k) is.nexts
+      ∙ ap or_first (mapped_at (λ j. length (inputs b needs made) + j) (numbers_below (count b needs made)) k k (number_at (count b needs made) k l))
+
+  kept_told : (ws given : List Bits) → HaveWidths (cell_widths (cells_of T.kinds)) ws → HaveWidths c.inputs given → map (at (words c.nodes given ws)) c.nexts ≡ ws
+  unfolding design_scheme
+  kept_told ws given have fit =
+      let have_registers : HaveWidths (register_widths c.registers) ws =
+          subst (λ (us : List ℕ). HaveWidths us ws) (sym (ap cell_widths is.registers) ∙ cells_have c.registers) have in
+      let long : count b needs made ≡ length ws = sym (length-map (cells_of (kinds_of b)) _) ∙ same_length (cell_widths (cells_of (kinds_of b))) ws have in
+      same_words (at (words c.nodes given ws)) c.nexts ws (long_nexts ∙ long)
+      (λ k l.
+      ap (at (words c.nodes given ws)) (next_there k (omega (arith, long)))
+      ∙ (∥∥₁_elim ordered (bits_set _ _) (λ (right : IsCircuit c).
+      (satisfies c right given ws fit have_registers).operates (length (inputs b needs made) + k) (net_node.Register k)
+      (kept first (length (inputs b needs made) + k) (net_node.Register k)
+      (register_there (length (inputs b needs made)) (count b needs made) k (omega (arith, long)))))
+      ∙ sym (word_is_at ws k)))
+
+  -- ---- the whole
+
+  module _ (told : (right : IsDesign b) (in_order : IsCircuit c) (q : Asking) (s : List Part) (ws : List Bits) (fit : Fit T q s)
+          (have : HaveWidths (cell_widths (cells_of (kinds_of b))) ws) → Shows T.kinds s ws
+          → Tells (scene b right needs made lawful scheduled are c is in_order q s ws fit have) (net b needs made) made.urgency) where
+    clock_told : (q : Asking) (s : List Part) (ws : List Bits) (fired : List ℕ) (after : List Part) → Fit T q s
+        → HaveWidths (cell_widths (cells_of T.kinds)) ws → Shows T.kinds s ws → IsClock false T made q s fired after
+        → TellsFiring false T q s fired c (words c.nodes (inputs_of T q) ws)
+    unfolding design_scheme
+    clock_told q s ws fired after fit have shows clock =
+        ∥∥₁_elim d.right (told_prop T q s fired c _) (λ (right : IsDesign b).
+        ∥∥₁_elim ordered (told_prop T q s fired c _) (λ (in_order : IsCircuit c).
+        tells_firing b right needs made lawful scheduled are c is in_order q s ws fit have
+        (told right in_order q s ws fit have shows) fired after clock))
+
+    pub fires : Fires false T made c
+    fires = record {
+      registers = registers_are;
+      inputs = inputs_are;
+      count = ap length is.fires ∙ (holds.long_fires ∙ sym elements_are);
+      count_sites = ap length is.sites ∙ (holds.long_sites ∙ sym elements_are);
+      no_result = no_result_told;
+      calls = calls_told;
+      arguments = λ n k t y used at_y. arguments_told n k t y used at_y (cases_lt n (length T.elements));
+      clock = clock_told;
+      kept = kept_told;
+    }

@@ -1,0 +1,386 @@
+-- The net with the next words of the registers carries the design: it tells what the net before told, and its next words
+-- show the parts behind the clock.
+use Rattle.std.proofs.Common.{◌≡◌, ◌∙◌, ◌<◌, ◌≤◌, ◌+◌, ◌⊎◌, inl, inr, ℕ, zero, suc, Bool, true, false, List, [], ◌∷◌, ◌++◌, Option, Some, None, is_some, refl, sym, ap, ap₂, subst, arith, length, map, drop, append-nil, IsTrue}
+use Rattle.std.specs.Prelude.{slice_get, nat_lt, if◌then◌else◌}
+use Rattle.std.proofs.Math.Nat.{ℕ_set}
+use Rattle.std.proofs.Math.Logic.{∥∥₁_elim}
+use Rattle.std.proofs.lemmas.Bool.{cases_lt, ltb-true}
+use mathlib.Core.Sum.{⊎_set}
+use Rattle.std.proofs.lemmas.List.{length-map}
+use Rattle.std.proofs.lemmas.Option.{slice_get_within, slice_get_past}
+use Rattle.bsv_bits.specs.Words.{Bits, bit}
+use Rattle.bsv_prim.specs.Table.{word_at}
+use Rattle.bsv_prim.specs.declared.part.Part.{Part}
+use Rattle.bsv_design.specs.declared.design.Design.{Design}
+use Rattle.bsv_design.specs.declared.kind.Kind.{Kind}
+use Rattle.bsv_design.specs.declared.kind.Kind.TheVariants.{Reg, RegU, Wire, DWire, RWire, Pulse, Plain, Pipeline, Bypass}
+use Rattle.bsv_design.specs.declared.schedule.Schedule.{Schedule}
+use Rattle.bsv_design.specs.Bodies.{Target, at}
+use Rattle.bsv_design.specs.Designs.{Blueprint, IsDesign}
+use Rattle.bsv_design.specs.Kinds.{kind_table}
+use Rattle.bsv_design.specs.Running.{or_zero}
+use Rattle.bsv_design.specs.Roles.{gives_value}
+use Rattle.bsv_design.specs.Seen.{blueprint}
+use Rattle.bsv_design.specs.Schemes.{Scheme, Outline, Asking, Look, calls_of, design_scheme, kinds_of, given, outline, ports_of, ready, seen, value}
+use Rattle.bsv_design.specs.States.{AreWordsOf, FitsKinds, part_at}
+use Rattle.bsv_design.specs.Traces.{Site, kind_at}
+use Rattle.bsv_graph.specs.Edges.{numbers_below}
+use Rattle.bsv_graph.specs.Orders.{In}
+use Rattle.bsv_guard.specs.ElementLaws.{IsUse}
+use Rattle.bsv_guard.specs.Fitting.{HaveWidths}
+use Rattle.bsv_guard.proofs.Lists.{mapped_at}
+use Rattle.bsv_clock.specs.Carrying.{Cell, Given, Shows, TellsElements, TellsClock, Carries, cell, cells_of, cell_widths, inputs_of, input_widths}
+use Rattle.bsv_clock.specs.Clocks.{IsClock, is_in}
+use Rattle.bsv_clock.specs.Grounds.{BelongTogether, Fit, IsLawful, IsScheduleOf, KeepsRules}
+use Rattle.bsv_clock.specs.Looks.{clock_look}
+use Rattle.bsv_clock.specs.Settling.{end_of, fires, fired_in}
+use Rattle.bsv_clock.proofs.Belonging.{lawful_design}
+use Rattle.bsv_clock.proofs.Clocks.{clock_fed}
+use Rattle.bsv_clock.proofs.Members.{in_kept}
+use Rattle.bsv_clock.proofs.Steadily.{steady_scheme}
+use Rattle.bsv_clock.proofs.Stopping.{execution_order}
+use Rattle.bsv_net.specs.declared.circuit.Circuit.{Circuit}
+use Rattle.bsv_net.specs.declared.node.NetNode.{NetNode}
+use Rattle.bsv_net.specs.declared.node.NetNode.TheVariants as net
+use Rattle.bsv_net.specs.declared.node.Site.{Site as NetSite}
+use Rattle.bsv_net.specs.Circuits.{IsCircuit, register_widths, words}
+use Rattle.bsv_net.specs.Placing.{node_at}
+use Rattle.bsv_net.proofs.Grows.{Grows, grows_trans, kept, length_grows}
+use Rattle.bsv_net.proofs.Solution.{satisfies, same_length, words_have}
+use Rattle.bsv_fire.specs.Bodies.{or_none}
+use Rattle.bsv_fire.specs.Firing as firing
+use Rattle.bsv_fire.specs.Firing.{Fires, gives, given_at}
+use Rattle.bsv_fire.specs.Grounds.{register_starts}
+use Rattle.bsv_fire.specs.Spots.{all_spots}
+use Rattle.bsv_fire.proofs.FirstNodes.{part_shown, register_start, registers_before, word_behind}
+use Rattle.bsv_fire.proofs.Firings.{cells_have, node_there}
+use Rattle.bsv_fire.proofs.Frame.{Scene, S, does, looks, TellsFiring, TellsSite}
+use Rattle.bsv_fire.proofs.GroundTold.{registers_within}
+use Rattle.bsv_fire.proofs.Numbers.{count_below, got_before, got_behind, number_at}
+use Rattle.bsv_fire.proofs.Structure.{some_same}
+use Rattle.bsv_fire.proofs.Whole.{after_is, fired_is, fires_is, inputs_have, look_is}
+use Rattle.bsv_mux.specs.Nexts.{IsNextCircuit, Told, next_words, renamed, told, with_registers}
+use Rattle.bsv_mux.specs.Results.{KeepsResults}
+use Rattle.bsv_mux.proofs.NextsTold.{NextsTold, nexts_grow, nexts_told, words_are}
+use Rattle.bsv_mux.proofs.Older.{Named, named, results_renamed, words_grown, words_long}
+
+-- ---- lists
+
+there_is : {X : Type 0} (xs : List X) (n : ℕ) → n < length xs → (x : X) × (slice_get xs n ≡ Some x)
+there_is [] n l = absurd (omega arith)
+there_is (x ∷ xs) zero l = (x, refl)
+there_is (x ∷ xs) (suc n) l = there_is xs n (omega arith)
+
+-- ---- registers behind the nodes
+
+module _ (ns : List NetNode) (count : ℕ) where
+  abbrev behind : List NetNode
+  behind = map net.Register (numbers_below count) ++ (net.Constant (bit false) ∷ [])
+
+  many : length (map net.Register (numbers_below count)) ≡ count
+  many = length-map (numbers_below count) net.Register ∙ count_below count
+
+  pub register_stands : (k : ℕ) → k < count → slice_get (with_registers ns count) (length ns + k) ≡ Some (net.Register k)
+  register_stands k l =
+      got_behind ns behind k
+      ∙ (got_before (map net.Register (numbers_below count)) (net.Constant (bit false) ∷ []) k (omega (arith, many))
+      ∙ mapped_at net.Register (numbers_below count) k k (number_at count k l))
+
+  pub zero_stands : slice_get (with_registers ns count) (length ns + count) ≡ Some (net.Constant (bit false))
+  zero_stands =
+      got_behind ns behind count
+      ∙ (ap (slice_get behind) (omega (arith, many)) ∙ got_behind (map net.Register (numbers_below count)) (net.Constant (bit false) ∷ []) 0)
+
+-- ---- a clock
+
+module _ (b : Blueprint) (right : IsDesign b) (made : Schedule) (lawful : IsLawful (design_scheme b)) (scheduled : IsScheduleOf (design_scheme b) made)
+    (c : Circuit) (before : IsCircuit c) (promise : Fires false (design_scheme b) made c) (e : Circuit) (is : IsNextCircuit b made c e) (ordered : IsCircuit e)
+    (q : Asking) (s : List Part) (ws : List Bits) (fit : Fit (design_scheme b) q s) (have : HaveWidths (cell_widths (cells_of (kinds_of b))) ws)
+    (shows : Shows (kinds_of b) s ws) where
+  abbrev T : Scheme
+  T = design_scheme b
+
+  cells_are : map cell c.registers ≡ cells_of (kinds_of b)
+  unfolding design_scheme
+  cells_are = promise.registers
+
+  before_inputs : HaveWidths c.inputs (inputs_of T q)
+  unfolding inputs_of input_widths design_scheme
+  before_inputs =
+      subst (λ (us : List ℕ). HaveWidths us (inputs_of T q)) (sym promise.inputs)
+      (inputs_have T q 0 (map outline b.elements) (λ j o there.
+      subst (λ n. AreWordsOf o.ports (given T q n)) (omega arith)
+      (subst (λ (x : Option Outline). AreWordsOf (ports_of x) (given T q j)) there (fit.requests j))))
+
+  before_registers : HaveWidths (register_widths c.registers) ws
+  before_registers = subst (λ (us : List ℕ). HaveWidths us ws) (sym (ap cell_widths cells_are) ∙ cells_have c.registers) have
+
+  inputs_fit : HaveWidths e.inputs (inputs_of T q)
+  inputs_fit = subst (λ (us : List ℕ). HaveWidths us (inputs_of T q)) (sym is.inputs) before_inputs
+
+  registers_fit : HaveWidths (register_widths e.registers) ws
+  registers_fit = subst (λ (rs : List _). HaveWidths (register_widths rs) ws) (sym is.registers) before_registers
+
+  -- the words of the nodes, and those of the net before
+  abbrev vs : List Bits
+  vs = words e.nodes (inputs_of T q) ws
+
+  abbrev old : List Bits
+  old = words c.nodes (inputs_of T q) ws
+
+  abbrev scene : Scene
+  scene = record {
+    b = b;
+    right = right;
+    made = made;
+    lawful = lawful;
+    scheduled = scheduled;
+    q = q;
+    s = s;
+    fit = fit;
+    full = e.nodes;
+    widths = ordered.widths;
+    V = at vs;
+    inputs = inputs_of T q;
+    registers = ws;
+    solved = satisfies e ordered (inputs_of T q) ws inputs_fit registers_fit;
+  }
+
+  abbrev count : ℕ
+  count = length c.registers
+
+  abbrev x : Told
+  x = told b made c
+
+  grown_registers : Grows (with_registers c.nodes count) e.nodes
+  unfolding next_words
+  grown_registers =
+      subst (λ (ns : List NetNode). Grows (with_registers c.nodes count) ns) (sym is.nodes)
+      (nexts_grow x (register_starts (length c.nodes) (kinds_of b)) (all_spots (kinds_of b) b.elements made.execution) 0 (with_registers c.nodes count) [] (kinds_of b))
+
+  grown_nodes : Grows c.nodes e.nodes
+  grown_nodes = grows_trans (record { more = behind c.nodes count; is = refl }) grown_registers
+
+  -- the nodes of the net before keep their words
+  old_long : length before.widths ≡ length old
+  old_long = same_length before.widths old (words_have c before (inputs_of T q) ws before_inputs before_registers)
+
+  same_word : (n : ℕ) → n < length old → at vs n ≡ at old n
+  same_word n l =
+      let g = words_grown c.nodes e.nodes grown_nodes (inputs_of T q) ws in
+      ap (λ (us : List Bits). at us n) g.1 ∙ ap or_zero (got_before old g.0 n l)
+
+  names : Named vs old c
+  names = named vs old before.widths (λ n l. same_word n (omega (arith, old_long, l))) c before.in_order
+
+  module _ (fired : List ℕ) (after : List Part) (clock : IsClock false T made q s fired after) where
+    together : BelongTogether T made q s
+    together = record { lawful = lawful; schedule = scheduled; fit = fit }
+
+    tells : firing.TellsFiring false T q s fired c old
+    unfolding design_scheme
+    tells = promise.clock q s ws fired after fit have shows clock
+
+    same_look : clock_look T q s fired ≡ looks scene
+    same_look = look_is T made q s together fired after clock
+
+    -- ---- what fires and its calls
+
+    below : (n : ℕ) → In made.execution n → n < length T.elements
+    below n i = (execution_order T made scheduled).below n i
+
+    old_node : (ns : List ℕ) (n : ℕ) (w : Bits) → n < length ns → slice_get (map (at old) ns) n ≡ Some w → at old (node_at ns n) ≡ w
+    old_node ns n w l h = some_same (at old (node_at ns n)) w (sym (mapped_at (at old) ns n (node_at ns n) (node_there ns n l)) ∙ h)
+
+    new_node : (ns : List ℕ) (n : ℕ) (w : Bits) → n < length ns → map (at vs) ns ≡ map (at old) ns → slice_get (map (at old) ns) n ≡ Some w → at vs (node_at ns n) ≡ w
+    new_node ns n w l same h =
+        some_same (at vs (node_at ns n)) w
+        (sym (mapped_at (at vs) ns n (node_at ns n) (node_there ns n l)) ∙ (ap (λ (us : List Bits). slice_get us n) same ∙ h))
+
+    fire_told : (n : ℕ) → In made.execution n → at vs (node_at c.fires n) ≡ bit (is_some (does scene n))
+    fire_told n i =
+        let l = below n i in
+        new_node c.fires n (bit (is_in fired n)) (omega (arith, promise.count, l)) names.fires (tells.elements.fires n l)
+        ∙ ap bit (fires_is T made q s together fired after clock n l)
+
+    calls_told : (n : ℕ) → In made.execution n → (k : ℕ) (t : Target) → slice_get (T.uses n) k ≡ Some t
+        → (y : NetSite) × (slice_get (or_none (slice_get c.sites n)) k ≡ Some y) × (length y.args ≡ firing.arity_of (kind_at T.kinds t) t.method)
+    calls_told n i k t used =
+        let found = there_is (firing.sites_of c n) k (omega (arith, promise.calls n (below n i), slice_get_within (T.uses n) k t used)) in
+        (found.0, found.1, promise.arguments n k t found.0 used found.1)
+
+    fires_in : (n : ℕ) → In made.execution n → fires (does scene) n ≡ true → In fired n
+    unfolding fired_in
+    fires_in n i h = subst (λ (ns : List ℕ). In ns n) (sym (fired_is T made q s together fired after clock)) (in_kept (fires (does scene)) made.execution n i h)
+
+    site_told : (n : ℕ) → In made.execution n → fires (does scene) n ≡ true → (k : ℕ) (a : Site) (y : NetSite)
+        → slice_get (seen T q n (looks scene)).sites k ≡ Some a → slice_get (or_none (slice_get c.sites n)) k ≡ Some y → TellsSite (at vs) a y
+    site_told n i h k a y there at_y =
+        let told = tells.sites n (fires_in n i h) k a y (subst (λ (l : Look). slice_get (seen T q n l).sites k ≡ Some a) (sym same_look) there) at_y in
+        let same = names.sites n k y at_y in
+        record {
+          taken = same.0 ∙ told.taken;
+          args = λ taken j l.
+              let are : map (at vs) y.args ≡ a.arguments = same.1 ∙ told.args taken in
+              sym (words_are (at vs) y.args j (omega (arith, l, ap length are, length-map y.args (at vs)))) ∙ ap (λ (us : List Bits). word_at us j) are;
+        }
+
+    no_others : (n : ℕ) → ¬ In made.execution n → (n < length T.elements) ⊎ (length T.elements ≤ n) → or_none (slice_get c.sites n) ≡ []
+    no_others n out (inl l) = absurd (out ((execution_order T made scheduled).each n l))
+    no_others n out (inr l) = ap or_none (slice_get_past c.sites n (omega (arith, promise.count_sites)))
+
+    firing_told : TellsFiring scene c.fires c.sites made.execution
+    firing_told = record {
+      fire = fire_told;
+      calls = calls_told;
+      told = site_told;
+      others = λ n out. no_others n out (cases_lt n (length T.elements));
+    }
+
+    no_uses : (n : ℕ) → length T.elements ≤ n → T.uses n ≡ []
+    unfolding design_scheme
+    no_uses n past = ap calls_of (slice_get_past b.elements n (omega (arith, length-map b.elements outline)))
+
+    each_use : (n i m : ℕ) → IsUse T n (record { part = i; method = m }) → (n < length T.elements) ⊎ (length T.elements ≤ n) → In made.execution n
+    each_use n i m u (inl l) = (execution_order T made scheduled).each n l
+    each_use n i m u (inr l) =
+        absurd (let t : Target = record { part = i; method = m } in
+        let f : None ≡ Some t = ap (λ (ts : List Target). slice_get ts u.index) (sym (no_uses n l)) ∙ u.is in let g : ⊥ = cc in g)
+
+    -- ---- what they stand on
+
+    zero_bit : at vs (length c.nodes + count) ≡ bit false
+    zero_bit = scene.solved.operates (length c.nodes + count) (net.Constant (bit false)) (kept grown_registers (length c.nodes + count) (net.Constant (bit false)) (zero_stands c.nodes count))
+
+    register_word : (k : ℕ) → k < count → at vs (length c.nodes + k) ≡ at ws k
+    register_word k l = scene.solved.operates (length c.nodes + k) (net.Register k) (kept grown_registers (length c.nodes + k) (net.Register k) (register_stands c.nodes count k l))
+
+    long_cells : count ≡ length (cells_of (kinds_of b))
+    long_cells = sym (length-map c.registers cell) ∙ ap length cells_are
+
+    shown_told : (i : ℕ) (k : Kind) → slice_get (kinds_of b) i ≡ Some k
+        → (r : ℕ → Bits) × (kind_table k).Shows (part_at s i) r × ((n : ℕ) → n < (kind_table k).registers → at vs (node_at (register_starts (length c.nodes) (kinds_of b)) i + n) ≡ r n)
+    shown_told i k there =
+        (word_at (drop (registers_before (kinds_of b) i) ws),
+        part_shown (kinds_of b) s ws shows i k there,
+        λ n l. ap (λ m. at vs (m + n)) (register_start (length c.nodes) (kinds_of b) i (slice_get_within (kinds_of b) i k there))
+        ∙ (ap (at vs) (omega arith)
+        ∙ (register_word (registers_before (kinds_of b) i + n) (omega (arith, l, long_cells, registers_within (kinds_of b) i k there))
+        ∙ sym (word_behind ws (registers_before (kinds_of b) i) n))))
+
+    ends_fit : FitsKinds (kinds_of b) (end_of T made s (does scene))
+    unfolding design_scheme
+    ends_fit = (clock_fed false T made q s together (steady_scheme false T lawful)).end_fits
+
+    all_told : NextsTold scene x zero_bit made.execution firing_told (λ n i m u. each_use n i m u (cases_lt n (length T.elements)))
+        (all_spots (kinds_of b) b.elements made.execution) refl (register_starts (length c.nodes) (kinds_of b)) shown_told [] (kinds_of b) (end_of T made s (does scene)) (next_words b made c)
+    unfolding next_words
+    all_told =
+        nexts_told scene x zero_bit made.execution firing_told (λ n i m u. each_use n i m u (cases_lt n (length T.elements)))
+        (all_spots (kinds_of b) b.elements made.execution) refl (register_starts (length c.nodes) (kinds_of b)) shown_told (kinds_of b) (end_of T made s (does scene)) ends_fit 0
+        (λ j. ap (slice_get (kinds_of b)) (omega arith)) (λ j. ap (part_at (end_of T made s (does scene))) (omega arith)) (with_registers c.nodes count) []
+        (subst (λ (ns : List NetNode). Grows ns e.nodes) is.nodes (record { more = []; is = sym (append-nil e.nodes) }))
+
+    places_are : e.nexts ≡ all_told.more
+    places_are = is.nexts_are ∙ all_told.is
+
+    results_are : map (at vs) e.results ≡ map (at old) c.results
+    results_are =
+        ap (map (at vs)) (is.results ∙ ap₂ (λ (m n : ℕ). map (renamed m n) c.results) old_nodes new_nodes)
+        ∙ results_renamed vs old same_word c.results
+      where
+        old_nodes : length c.nodes ≡ length old
+        old_nodes = sym (words_long c.nodes (inputs_of T q) ws)
+
+        new_nodes : length (next_words b made c).nodes ≡ length vs
+        new_nodes = ap length (sym is.nodes) ∙ sym (words_long e.nodes (inputs_of T q) ws)
+
+    elements_told : TellsElements false T q s fired (given_at e vs)
+    elements_told = record {
+      fires = λ n l. ap (λ (us : List Bits). slice_get us n) (ap (map (at vs)) is.fires ∙ names.fires) ∙ tells.elements.fires n l;
+      readies = λ n l. ap (λ (us : List Bits). slice_get us n) (ap (map (at vs)) is.readies ∙ names.readies) ∙ tells.elements.readies n l;
+      results = λ n w r v. ap (λ (us : List Bits). slice_get us n) results_are ∙ tells.elements.results n w r v;
+    }
+
+    -- the net tells the clock
+    pub clock_told : TellsClock false T q s fired after (gives e ws (inputs_of T q))
+    unfolding design_scheme
+    clock_told = record {
+      elements = elements_told;
+      nexts =
+          subst (λ (ps : List Part). Shows (kinds_of b) ps (map (at vs) e.nexts)) (sym (after_is T made q s together fired after clock))
+          (subst (λ (ns : List ℕ). Shows (kinds_of b) (end_of T made s (does scene)) (map (at vs) ns)) (sym places_are) all_told.shows);
+    }
+
+-- ---- the whole
+
+bits_set : IsSet Bits
+bits_set = hlevel ℕ_set
+
+option_set : {A : Type 0} → IsSet A → IsSet (Option A)
+option_set set = hlevel (⊎_set, set)
+
+shows_prop : (k : Kind) (p : Part) (r : ℕ → Bits) → IsProp ((kind_table k).Shows p r)
+shows_prop (Reg k) p r = hlevel bits_set
+shows_prop (RegU k) p r = hlevel bits_set
+shows_prop (Wire k) p r = hlevel
+shows_prop (DWire k) p r = hlevel
+shows_prop (RWire k) p r = hlevel
+shows_prop (Pulse k) p r = hlevel
+shows_prop (Plain k) p r = hlevel bits_set
+shows_prop (Pipeline k) p r = hlevel bits_set
+shows_prop (Bypass k) p r = hlevel bits_set
+
+all_prop : (ks : List Kind) (ps : List Part) (ws : List Bits) → IsProp (Shows ks ps ws)
+all_prop [] [] ws = hlevel
+all_prop [] (p ∷ ps) ws = hlevel
+all_prop (k ∷ ks) [] ws = hlevel
+all_prop (k ∷ ks) (p ∷ ps) ws = hlevel (shows_prop k p (word_at ws), all_prop ks ps (drop (kind_table k).registers ws))
+
+elements_prop : (T : Scheme) (q : Asking) (s : List Part) (fired : List ℕ) (g : Given) → IsProp (TellsElements false T q s fired g)
+elements_prop T q s fired g = hlevel (option_set bits_set, bits_set)
+
+told_prop : (T : Scheme) (q : Asking) (s : List Part) (fired : List ℕ) (after : List Part) (g : Given) → IsProp (TellsClock false T q s fired after g)
+told_prop T q s fired after g = hlevel (elements_prop T q s fired g, all_prop T.kinds after g.nexts)
+
+module _ (d : Design) (made : Schedule) (rules : KeepsRules (design_scheme (blueprint d))) (scheduled : IsScheduleOf (design_scheme (blueprint d)) made)
+    (c : Circuit) (before : ∥ IsCircuit c ∥₁) (promise : Fires false (design_scheme (blueprint d)) made c)
+    (e : Circuit) (is : IsNextCircuit (blueprint d) made c e) (ordered : ∥ IsCircuit e ∥₁) where
+  abbrev U : Scheme
+  U = design_scheme (blueprint d)
+
+  clock_of : (q : Asking) (s : List Part) (ws : List Bits) (fired : List ℕ) (after : List Part) → Fit U q s
+      → HaveWidths (cell_widths (cells_of U.kinds)) ws → Shows U.kinds s ws → IsClock false U made q s fired after
+      → TellsClock false U q s fired after (gives e ws (inputs_of U q))
+  unfolding design_scheme
+  clock_of q s ws fired after fit have shows clock =
+      let prop = told_prop U q s fired after (gives e ws (inputs_of U q)) in
+      ∥∥₁_elim d.right prop (λ (right : IsDesign (blueprint d)).
+      ∥∥₁_elim before prop (λ (before_is : IsCircuit c).
+      ∥∥₁_elim ordered prop (λ (ordered_is : IsCircuit e).
+      clock_told (blueprint d) right made (lawful_design d rules) scheduled c before_is promise e is ordered_is q s ws fit have shows fired after clock)))
+
+  cells_kept : map cell e.registers ≡ cells_of U.kinds
+  cells_kept = ap (map cell) is.registers ∙ promise.registers
+
+  pub carries : Carries false U made (map cell e.registers) e.inputs (gives e)
+  carries = record {
+    registers = cells_kept;
+    inputs = is.inputs ∙ promise.inputs;
+    clock = λ q s ws fired after fit have shows clock.
+        clock_of q s ws fired after fit (subst (λ (cs : List Cell). HaveWidths (cell_widths cs) ws) cells_kept have) shows clock;
+  }
+
+  pub keeps_results : KeepsResults U e
+  keeps_results n o at_o gives_none =
+      ap (λ (ns : List ℕ). slice_get ns n) is.results
+      ∙ (mapped_at (renamed (length c.nodes) (length (next_words (blueprint d) made c).nodes)) c.results n (length c.nodes) (promise.no_result n o at_o gives_none)
+      ∙ (ap (λ (t : Bool). Some (if t then length c.nodes else length (next_words (blueprint d) made c).nodes)) (never (length c.nodes))
+      ∙ ap (λ (ns : List NetNode). Some (length ns)) (sym is.nodes)))
+    where
+      never : (k : ℕ) → nat_lt k k ≡ false
+      never k = of (nat_lt k k) refl
+        where
+          of : (t : Bool) → nat_lt k k ≡ t → t ≡ false
+          of true h = absurd (let l = ltb-true k k h in omega arith)
+          of false h = refl

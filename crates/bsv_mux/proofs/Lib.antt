@@ -1,0 +1,6 @@
+pub mod ShownRegisters
+pub mod Older
+pub mod PartNext
+pub mod NextsTold
+pub mod Carried
+pub mod Onward
