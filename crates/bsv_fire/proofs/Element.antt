@@ -107,9 +107,11 @@ module _ (z : Scene) (g : Ground) (ground : IsGround z g) (stand rest : List ℕ
       let i = item_of target e.calls k t (ap (λ (o : Option Element). slice_get (calls_of o) k) (sym is) ∙ there) in
       let c = i.item in
       let fit = and_parts (has_width (slice_get (fits z n e is).widths c.taken) 1) (method_fits (slice_get (kinds_of z.b) c.part) (fits z n e is).widths c) (call_is_fit z n e is k c i.is) in
-      let many = (arguments_stand (slice_get (kinds_of z.b) c.part) (fits z n e is).widths c fit.1).many in
-      (site bodied.places c, mapped_at (site bodied.places) e.calls k c i.is,
-      length-map c.args (node_at bodied.places) ∙ many ∙ ap (λ (u : Target). arity_of (kind_at (kinds_of z.b) u) u.method) i.gives)
+      let many = (arguments_stand (slice_get (kinds_of z.b) c.part) (fits z n e is).widths c fit.1).many in (
+        site bodied.places c,
+        mapped_at (site bodied.places) e.calls k c i.is,
+        length-map c.args (node_at bodied.places) ∙ many ∙ ap (λ (u : Target). arity_of (kind_at (kinds_of z.b) u) u.method) i.gives,
+      )
 
   own_result : (w : Bits) → ready false (S z) z.q n (looks z) ≡ true → value (S z) z.q n (looks z) ≡ Some w
       → (k : ℕ) × (option_map (node_at bodied.places) e.result ≡ Some k) × (z.V k ≡ w)
@@ -126,9 +128,11 @@ module _ (z : Scene) (g : Ground) (ground : IsGround z g) (stand rest : List ℕ
       of None o = absurd (let f : None ≡ Some w = ap (option_map (at (own_words z n e is))) (sym o) ∙ own_value in let a : ⊥ = cc in a)
       of (Some k) o =
           let same : at (own_words z n e is) k ≡ w = (let f : Some (at (own_words z n e is) k) ≡ Some w = ap (option_map (at (own_words z n e is))) (sym o) ∙ own_value in cc) in
-          let l = within (gives_value e.role) k (ap (result_fits (fits z n e is).widths (gives_value e.role)) (sym o) ∙ (fits z n e is).result) in
-          (node_at bodied.places k, ap (option_map (node_at bodied.places)) o,
-          word_told z.V (kinds_of z.b) (fits z n e is).widths (own_words z n e is) (words_have z n e is) bodied.places (places_own h) k l ∙ same)
+          let l = within (gives_value e.role) k (ap (result_fits (fits z n e is).widths (gives_value e.role)) (sym o) ∙ (fits z n e is).result) in (
+            node_at bodied.places k,
+            ap (option_map (node_at bodied.places)) o,
+            word_told z.V (kinds_of z.b) (fits z n e is).widths (own_words z n e is) (words_have z n e is) bodied.places (places_own h) k l ∙ same,
+          )
 
   -- ---- lists
 
@@ -300,7 +304,7 @@ module _ (z : Scene) (g : Ground) (ground : IsGround z g) (stand rest : List ℕ
   still_blocked m k h = elim (cases_lt m (length z.b.elements)) [
     | inl l ↦ (stop_told m l).blocked k h
     | inr l ↦ (let past = slice_get_past blocked.blocks m (let a = all_blocked_long fired.place fired.nodes x.blocks stops in omega (arith, a, l, tells.long_blocks)) in
-    let none : None ≡ Some k = ap or_nobody (sym past) ∙ h in absurd (let f : ⊥ = cc in f))
+        let none : None ≡ Some k = ap or_nobody (sym past) ∙ h in absurd (let f : ⊥ = cc in f))
   ]
 
   pub element_told : Tells z (placed g x n e) (stand ++ n ∷ [])

@@ -1,9 +1,9 @@
 -- A circuit in which all elements stand tells what happens in each clock, since the net tells it in each scene.
-use Rattle.std.proofs.Common.{◌≡◌, ◌∙◌, ◌<◌, ◌≤◌, ◌+◌, ◌⊎◌, inl, inr, ℕ, zero, suc, Bool, true, false, List, [], ◌∷◌, ◌++◌, Option, Some, None, is_some, refl, sym, ap, ap₂, subst, arith, length, map, option_map}
+use Rattle.std.proofs.Common.{◌≡◌, ◌∙◌, ◌<◌, ◌≤◌, ◌⊎◌, inl, inr, ℕ, zero, suc, true, false, List, [], ◌∷◌, Option, Some, None, refl, sym, ap, ap₂, subst, arith, length, map}
 use Rattle.std.specs.Prelude.{slice_get, unwrap_or}
 use Rattle.std.proofs.lemmas.Bool.{cases_lt}
 use Rattle.std.proofs.lemmas.List.{length-map}
-use Rattle.std.proofs.lemmas.Option.{slice_get_within, slice_get_past}
+use Rattle.std.proofs.lemmas.Option.{slice_get_past}
 use Rattle.bsv_bits.specs.Words.{Bits, bit}
 use Rattle.bsv_prim.specs.Table.{word_at}
 use Rattle.bsv_prim.specs.declared.part.Part.{Part}
@@ -14,11 +14,9 @@ use Rattle.bsv_design.specs.declared.schedule.Schedule.{Schedule}
 use Rattle.bsv_design.specs.Bodies.{Target, at}
 use Rattle.bsv_design.specs.Designs.{Blueprint, IsDesign}
 use Rattle.bsv_design.specs.Guards.{needs_of}
-use Rattle.bsv_design.specs.Roles.{gives_value}
 use Rattle.bsv_design.specs.Schemes.{Scheme, Outline, Asking, Look, design_scheme, kinds_of, outline, ports_of, trace_of, answers, given, ready, seen, value}
 use Rattle.bsv_design.specs.States.{AreWordsOf}
 use Rattle.bsv_design.specs.Traces.{Site, kind_at}
-use Rattle.bsv_graph.specs.Edges.{numbers_below}
 use Rattle.bsv_graph.specs.Orders.{In}
 use Rattle.bsv_guard.specs.Fitting.{HaveWidths, IsFitCall}
 use Rattle.bsv_guard.proofs.Fits.{fitting_keeps}
@@ -26,26 +24,24 @@ use Rattle.bsv_guard.proofs.Given.{given_arguments}
 use Rattle.bsv_clock.proofs.Clocks.{clock_fed}
 use Rattle.bsv_clock.proofs.Steadily.{steady_scheme}
 use Rattle.bsv_design.specs.declared.kind.Kind.{Kind}
-use Rattle.bsv_guard.proofs.Lists.{mapped_at, item_of}
-use Rattle.bsv_clock.specs.Carrying.{Cell, Given, Shows, TellsElements, cell, cells_of, cell_widths, inputs_of, input_widths, input_widths_of}
+use Rattle.bsv_guard.proofs.Lists.{mapped_at}
+use Rattle.bsv_clock.specs.Carrying.{TellsElements, cell, cells_of, cell_widths, inputs_of}
 use Rattle.bsv_clock.specs.Clocks.{IsClock, is_in}
 use Rattle.bsv_clock.specs.Grounds.{BelongTogether, Fit, IsLawful, IsScheduleOf}
 use Rattle.bsv_clock.specs.Looks.{clock_look}
 use Rattle.bsv_clock.proofs.Stopping.{urgency_order}
 use Rattle.bsv_net.specs.declared.circuit.Circuit.{Circuit}
-use Rattle.bsv_net.specs.declared.node.NetNode.{NetNode}
 use Rattle.bsv_net.specs.declared.node.Site.{Site as NetSite}
 use Rattle.bsv_net.specs.Circuits.{IsCircuit, register_widths, words}
-use Rattle.bsv_net.specs.Placing.{node_at, or_first}
-use Rattle.bsv_net.proofs.Grows.{Grows}
+use Rattle.bsv_net.specs.Placing.{node_at}
 use Rattle.bsv_net.proofs.Solution.{satisfies}
 use Rattle.bsv_fire.specs.Circuits.{IsFireCircuit, net}
 use Rattle.bsv_fire.specs.Firing as firing
 use Rattle.bsv_fire.specs.Growing.{Growing}
 use Rattle.bsv_fire.specs.Bodies.{or_none}
-use Rattle.bsv_fire.proofs.Frame.{Scene, S, does, looks, Tells}
+use Rattle.bsv_fire.proofs.Frame.{Scene, looks, Tells}
 use Rattle.bsv_fire.proofs.Structure.{some_same}
-use Rattle.bsv_fire.proofs.Whole.{fired_is, fires_is, fired_fires, fired_below, look_is, inputs_have}
+use Rattle.bsv_fire.proofs.Whole.{fires_is, fired_fires, fired_below, look_is, inputs_have}
 
 -- ---- lists
 
@@ -147,7 +143,7 @@ module _ (b : Blueprint) (right : IsDesign b) (needs : List (List Need)) (made :
     result_word n w r v (inr l) = absurd (let e = no_value n (clock_look T q s fired) l in let f : ⊥ = cc in f)
     result_word n w r v (inl l) =
         let found = (told.elements n (among n l)).result w
-            (ap (λ (a : Look). ready false T q n a) (sym same_look) ∙ r) (ap (λ (a : Look). value T q n a) (sym same_look) ∙ v) in
+        (ap (λ (a : Look). ready false T q n a) (sym same_look) ∙ r) (ap (λ (a : Look). value T q n a) (sym same_look) ∙ v) in
         ap (λ (ns : List ℕ). slice_get (map (at vs) ns) n) is.results
         ∙ (mapped_at (at vs) (map (λ o. unwrap_or o (length x.nodes)) x.results) n found.0
         (mapped_at (λ o. unwrap_or o (length x.nodes)) x.results n (Some found.0) found.1)

@@ -1,7 +1,7 @@
 -- The first nodes of a net are the inputs, the registers and both bits: what stands where.
-use Rattle.std.proofs.Common.{◌≡◌, ◌∙◌, ◌<◌, ◌≤◌, ◌+◌, ◌-◌, ℕ, zero, suc, Bool, true, false, cond, List, [], ◌∷◌, ◌++◌, Option, Some, None, refl, sym, ap, ap₂, subst, arith, length, map, drop, length-append}
+use Rattle.std.proofs.Common.{◌≡◌, ◌∙◌, ◌<◌, ◌≤◌, ◌+◌, ℕ, zero, suc, Bool, true, false, cond, List, [], ◌∷◌, ◌++◌, Option, Some, None, refl, sym, ap, subst, arith, length, map, drop}
 use Rattle.std.specs.Prelude.{slice_get, unwrap_or}
-use Rattle.std.proofs.lemmas.List.{length-map, drop-drop, get_or-drop}
+use Rattle.std.proofs.lemmas.List.{drop-drop, get_or-drop}
 use Rattle.std.proofs.lemmas.Option.{unwrap_or-slice_get}
 use Rattle.bsv_bits.specs.Words.{Bits, bit}
 use Rattle.bsv_prim.specs.Table.{word_at}
@@ -14,11 +14,9 @@ use Rattle.bsv_design.specs.Roles.{is_rule}
 use Rattle.bsv_design.specs.Running.{or_zero}
 use Rattle.bsv_design.specs.Schemes.{Scheme, Asking, given, outline}
 use Rattle.bsv_design.specs.States.{part_at}
-use Rattle.bsv_graph.specs.Edges.{numbers_below}
-use Rattle.bsv_guard.proofs.Lists.{mapped_at}
 use Rattle.bsv_clock.specs.Carrying.{Shows, inputs_from}
 use Rattle.bsv_clock.specs.Clocks.{is_asked}
-use Rattle.bsv_net.specs.Placing.{node_at, or_first}
+use Rattle.bsv_net.specs.Placing.{node_at}
 use Rattle.bsv_fire.specs.Grounds.{input_count, input_starts, register_starts}
 use Rattle.bsv_fire.proofs.Numbers.{got_before, got_behind}
 

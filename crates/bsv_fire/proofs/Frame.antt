@@ -1,6 +1,6 @@
 -- What is known where the words of a finished net are looked at in one clock, and what it means that the net tells of the
 -- elements that stand in it. All is said of the words of the whole net: what stands in the net so far is a front of it.
-use Rattle.std.proofs.Common.{◌≡◌, ◌≢◌, ◌+◌, ◌<◌, ℕ, Bool, true, false, ◌&&◌, List, [], length, Option, Some, None, MatchOption, is_some}
+use Rattle.std.proofs.Common.{◌≡◌, ◌+◌, ◌<◌, ℕ, true, false, ◌&&◌, List, [], length, Option, Some, None, is_some}
 use Rattle.std.specs.Prelude.{slice_get}
 use Rattle.std.specs.List.{list_any}
 use Rattle.bsv_bits.specs.Words.{Bits, bit}
@@ -15,11 +15,10 @@ use Rattle.bsv_design.specs.Designs.{Blueprint, IsDesign}
 use Rattle.bsv_design.specs.Guards.{needs_of}
 use Rattle.bsv_design.specs.Kinds.{kind_table}
 use Rattle.bsv_design.specs.Roles.{is_rule}
-use Rattle.bsv_design.specs.Schemes.{Scheme, Asking, Called, Look, design_scheme, kinds_of, given, ready, seen, value}
+use Rattle.bsv_design.specs.Schemes.{Scheme, Asking, Look, design_scheme, kinds_of, given, ready, seen, value}
 use Rattle.bsv_design.specs.States.{part_at}
 use Rattle.bsv_design.specs.Traces.{Site, kind_at}
 use Rattle.bsv_graph.specs.Orders.{In}
-use Rattle.bsv_guard.specs.ElementLaws.{IsUse}
 use Rattle.bsv_guard.specs.Turns.{calls_on}
 use Rattle.bsv_clock.specs.Clocks.{is_asked}
 use Rattle.bsv_clock.specs.Grounds.{Fit, IsLawful, IsScheduleOf}

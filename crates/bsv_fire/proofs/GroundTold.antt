@@ -1,5 +1,5 @@
 -- The first nodes of a net are what elements are made from: the inputs, the registers and both bits have their words.
-use Rattle.std.proofs.Common.{◌≡◌, ◌∙◌, ◌<◌, ◌≤◌, ◌+◌, ℕ, zero, suc, Bool, true, false, cond, List, [], ◌∷◌, ◌++◌, Option, Some, None, refl, sym, ap, subst, arith, length, map, length-append, drop, get_or}
+use Rattle.std.proofs.Common.{◌≡◌, ◌∙◌, ◌<◌, ◌≤◌, ◌+◌, ℕ, zero, suc, Bool, true, false, cond, List, [], ◌∷◌, ◌++◌, Option, Some, refl, sym, ap, arith, length, map, length-append, drop, get_or}
 use Rattle.std.specs.Prelude.{slice_get}
 use Rattle.std.specs.List.{flat_map}
 use Rattle.std.proofs.lemmas.List.{length-map}
@@ -29,7 +29,7 @@ use Rattle.bsv_net.specs.declared.node.NetNode.TheVariants as net
 use Rattle.bsv_net.specs.Placing.{node_at}
 use Rattle.bsv_net.proofs.Grows.{Grows, kept}
 use Rattle.bsv_fire.specs.Circuits as circuits
-use Rattle.bsv_fire.specs.Grounds.{Ground, first_nodes, input_starts, register_starts}
+use Rattle.bsv_fire.specs.Grounds.{Ground, first_nodes}
 use Rattle.bsv_fire.proofs.FirstNodes.{MethodsFirst, argument_at, asked_at, inputs_before, part_shown, register_start, registers_before, start_of, word_behind}
 use Rattle.bsv_fire.proofs.Frame.{Scene, S, IsGround}
 use Rattle.bsv_fire.proofs.Numbers.{count_below, got_before, got_behind, number_at}
@@ -202,13 +202,14 @@ module _ (z : Scene) (needs : List (List Need)) (are : needs ≡ needs_of (kinds
   shown_told : (i : ℕ) (k : Kind) → slice_get (kinds_of z.b) i ≡ Some k
       → (r : ℕ → Bits) × (kind_table k).Shows (part_at z.s i) r
       × ((n : ℕ) → n < (kind_table k).registers → z.V (node_at g.base.registers i + n) ≡ r n)
-  shown_told i k there =
-      (word_at (drop (registers_before (kinds_of z.b) i) z.registers),
-      part_shown (kinds_of z.b) z.s z.registers shows i k there,
-      λ n l. ap (λ m. z.V (m + n)) (register_start count_inputs (kinds_of z.b) i (slice_get_within (kinds_of z.b) i k there))
-      ∙ (ap z.V (omega arith)
-      ∙ (register_word (registers_before (kinds_of z.b) i + n) (omega (arith, registers_within (kinds_of z.b) i k there))
-      ∙ sym (word_behind z.registers (registers_before (kinds_of z.b) i) n))))
+  shown_told i k there = (
+    word_at (drop (registers_before (kinds_of z.b) i) z.registers),
+    part_shown (kinds_of z.b) z.s z.registers shows i k there,
+    λ n l. ap (λ m. z.V (m + n)) (register_start count_inputs (kinds_of z.b) i (slice_get_within (kinds_of z.b) i k there))
+        ∙ (ap z.V (omega arith)
+        ∙ (register_word (registers_before (kinds_of z.b) i + n) (omega (arith, registers_within (kinds_of z.b) i k there))
+        ∙ sym (word_behind z.registers (registers_before (kinds_of z.b) i) n))),
+  )
 
   pub ground_told : IsGround z g
   ground_told = record {

@@ -1,13 +1,11 @@
 -- The promise of the net of a design up to its firing.
-use Rattle.std.proofs.Common.{◌≡◌, ◌∙◌, ℕ, false, List, [], ◌++◌, length, refl, sym, ap, subst}
+use Rattle.std.proofs.Common.{◌≡◌, false, List, [], length, refl, sym, subst}
 use Rattle.bsv_design.specs.declared.design.Design.{Design}
 use Rattle.bsv_design.specs.declared.schedule.Need.{Need}
 use Rattle.bsv_design.specs.declared.schedule.Schedule.{Schedule}
-use Rattle.bsv_design.specs.Designs.{IsDesign}
 use Rattle.bsv_design.specs.Guards.{needs_of}
-use Rattle.bsv_design.specs.Schemes.{Scheme, design_scheme, kinds_of}
+use Rattle.bsv_design.specs.Schemes.{design_scheme, kinds_of}
 use Rattle.bsv_design.specs.Seen.{blueprint}
-use Rattle.bsv_clock.specs.Carrying.{Shows}
 use Rattle.bsv_clock.specs.Grounds.{IsScheduleOf, KeepsRules}
 use Rattle.bsv_net.specs.declared.circuit.Circuit.{Circuit}
 use Rattle.bsv_net.specs.declared.node.NetNode.{NetNode}
@@ -19,7 +17,6 @@ use Rattle.bsv_fire.specs.Grounds.{first_nodes}
 use Rattle.bsv_fire.specs.Growing.{none_placed}
 use Rattle.bsv_fire.proofs.AllTold.{net_told}
 use Rattle.bsv_fire.proofs.Firings.{scene}
-use Rattle.bsv_fire.proofs.Frame.{Scene, S, Tells}
 use Rattle.bsv_fire.proofs.GroundTold.{ground_told}
 use Rattle.bsv_fire.proofs.Promise.{fires, lawful}
 use Rattle.bsv_fire.proofs.Steps.{grown_grows}

@@ -1,5 +1,5 @@
 -- What goes through the numbers below a number: how it goes on with one more.
-use Rattle.std.proofs.Common.{◌≡◌, ◌∙◌, ℕ, suc, ◌+◌, Bool, cond, List, [], ◌∷◌, ◌++◌, refl, ap, add-one}
+use Rattle.std.proofs.Common.{◌≡◌, ◌∙◌, ℕ, ◌+◌, cond, List, [], ◌∷◌, ◌++◌, refl, ap, add-one}
 use Rattle.bsv_bits.specs.Words.{zero_word}
 use Rattle.bsv_design.specs.declared.kind.Kind.{Kind}
 use Rattle.bsv_design.specs.Kinds.{kind_table}

@@ -1,8 +1,7 @@
 -- Where the kind of a part is known: the piece that is placed for the guard of a method, and for what it gives.
-use Rattle.std.proofs.Common.{◌≡◌, ◌∙◌, ℕ, ◌<◌, Bool, true, false, ◌&&◌, cond, not, List, [], Option, Some, None, ap, ap₂}
+use Rattle.std.proofs.Common.{◌≡◌, ◌∙◌, ℕ, ◌<◌, Bool, false, ◌&&◌, cond, not, List, [], Option, Some, None, ap, ap₂}
 use Rattle.std.specs.Prelude.{slice_get, nat_lt}
 use Rattle.std.proofs.lemmas.Bool.{lt-ltb}
-use Rattle.bsv_prim.specs.Shape.{Shape}
 use Rattle.bsv_design.specs.declared.kind.Kind.{Kind}
 use Rattle.bsv_design.specs.Kinds.{kind_table}
 use Rattle.bsv_net.specs.declared.node.NetNode.{NetNode}

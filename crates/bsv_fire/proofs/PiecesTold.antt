@@ -148,11 +148,12 @@ module _ (z : Scene) (g : Ground) (ground : IsGround z g) (ports : Ports) (t : T
             (λ args. (is_one (z.V (called_in (placed_port ports t.part m))) ≡ true)
             × ((n : ℕ) → n < (kind_table k).arity m → (if m == t.method then word_at words n else z.V (node_at (args_in (placed_port ports t.part m)) n)) ≡ word_at args n))
         cases None e = called_is ∙ ap is_some e
-        cases (Some args) e =
-            (called_is ∙ ap is_some e,
-            λ n small.
-            ap (λ (b : Bool). if b then word_at words n else z.V (node_at (args_in (placed_port ports t.part m)) n)) (not_itself m s)
-            ∙ (ap (λ (o : Option MethodPort). z.V (node_at (args_in o) n)) p.1 ∙ p.2.args args e n small))
+        cases (Some args) e = (
+          called_is ∙ ap is_some e,
+          λ n small.
+              ap (λ (b : Bool). if b then word_at words n else z.V (node_at (args_in (placed_port ports t.part m)) n)) (not_itself m s)
+              ∙ (ap (λ (o : Option MethodPort). z.V (node_at (args_in o) n)) p.1 ∙ p.2.args args e n small),
+        )
 
     -- ---- the part
 

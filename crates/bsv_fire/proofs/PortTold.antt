@@ -117,13 +117,16 @@ module _ (z : Scene) (firing : List ℕ) (sites : List (List NetSite)) (placed :
     call_told : (j : ℕ) (c : SiteCall) → slice_get e.calls j ≡ Some c
         → CallIsTold z.inputs z.registers z.V z.full z.widths z.solved arity firing sites (kinds_of z.b) i m f ws (fires (does z) f) c j
     unfolding CallIsTold
-    call_told j c at_j part method =
-        (site.0, site_there (slice_get sites f) j site.0 site.1, record {
-          fire = told.fire f stands;
-          taken_is = λ h. (site_told h).taken;
-          args = λ h taken n l. (site_told h).args taken n (omega (arith, many, l));
-          long = site.2 ∙ (ap (λ (o : Option Kind). arity_of o c.method) (kind_is (target c) part) ∙ ap (kind_table k).arity method);
-        })
+    call_told j c at_j part method = (
+      site.0,
+      site_there (slice_get sites f) j site.0 site.1,
+      record {
+        fire = told.fire f stands;
+        taken_is = λ h. (site_told h).taken;
+        args = λ h taken n l. (site_told h).args taken n (omega (arith, many, l));
+        long = site.2 ∙ (ap (λ (o : Option Kind). arity_of o c.method) (kind_is (target c) part) ∙ ap (kind_table k).arity method);
+      },
+    )
       where
         same : target c ≡ record { part = i; method = m }
         same = ap₂ (λ (p n : ℕ). record { part = p; method = n }) part method

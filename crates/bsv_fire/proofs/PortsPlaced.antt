@@ -202,9 +202,11 @@ module _ (z : Scene) (g : Ground) (told : PortsTold z g) (stand : List ℕ) wher
               of : (i ≡ j) ⊎ (i ≡ j → ⊥) → (qs : List (Option MethodPort)) × (slice_get (new_ports x.ports i m ps row within own.port) j ≡ Some qs) × (length qs ≡ (kind_table kind).methods)
               of (inl a) =
                   let r = t.rooms i kind (ap (slice_get (kinds_of z.b)) a ∙ e) in
-                  let same : ps ≡ r.0 = (let u = row in let v = r.1 in cc) in
-                  (slice_set ps m (Some own.port), ap (slice_get (new_ports x.ports i m ps row within own.port)) (sym a) ∙ new_row x.ports i m ps row within own.port,
-                  length-set ps m (Some own.port) ∙ ap length same ∙ r.2)
+                  let same : ps ≡ r.0 = (let u = row in let v = r.1 in cc) in (
+                    slice_set ps m (Some own.port),
+                    ap (slice_get (new_ports x.ports i m ps row within own.port)) (sym a) ∙ new_row x.ports i m ps row within own.port,
+                    length-set ps m (Some own.port) ∙ ap length same ∙ r.2,
+                  )
               of (inr f) =
                   let r = t.rooms j kind e in
                   (r.0, other_row x.ports i m ps row within own.port j f ∙ r.1, r.2)
@@ -263,11 +265,13 @@ module _ (z : Scene) (g : Ground) (told : PortsTold z g) (stand : List ℕ) wher
     seen_added y (m ∷ ms) below all x t grows =
         let w = one_seen g k i y x m in
         let first = one_seen_added y m (below m (inl refl)) (all m) x t (grows_trans (with_seen_grows g k i y w ms) grows) in
-        let rest = seen_added y ms (λ h e. below h (inr e)) all w first.0.tells grows in
-        (both_added x w (with_seen g k i y w ms) first.0 rest.0, λ h e s. elim e [
-          | inl a ↦ (let p = first.1 (subst (λ (c : ℕ). (kind_table k).sees c y ≡ true) a s) in (p.0, ap (placed_port (with_seen g k i y w ms).ports i) a ∙ rest.0.stay i m p.0 p.1))
-          | inr b ↦ rest.1 h b s
-        ])
+        let rest = seen_added y ms (λ h e. below h (inr e)) all w first.0.tells grows in (
+          both_added x w (with_seen g k i y w ms) first.0 rest.0,
+          λ h e s. elim e [
+            | inl a ↦ (let p = first.1 (subst (λ (c : ℕ). (kind_table k).sees c y ≡ true) a s) in (p.0, ap (placed_port (with_seen g k i y w ms).ports i) a ∙ rest.0.stay i m p.0 p.1))
+            | inr b ↦ rest.1 h b s
+          ],
+        )
 
   -- ---- all methods that a method sees
 

@@ -1,8 +1,7 @@
 -- The promise of a circuit in which all elements stand, out of what the net tells in each scene.
-use Rattle.std.proofs.Common.{◌≡◌, ◌∙◌, ◌<◌, ◌≤◌, ◌+◌, ◌⊎◌, inl, inr, ℕ, zero, suc, Bool, true, false, List, [], ◌∷◌, ◌++◌, Option, Some, None, refl, sym, ap, ap₂, subst, arith, length, map, option_map, IsTrue}
+use Rattle.std.proofs.Common.{◌≡◌, ◌∙◌, ◌<◌, ◌≤◌, ◌+◌, ◌⊎◌, inl, inr, ℕ, zero, suc, Bool, true, false, List, [], ◌∷◌, Option, Some, None, refl, sym, ap, subst, arith, length, map, option_map}
 use Rattle.std.specs.Prelude.{slice_get, unwrap_or, nat_lt, ◌&&◌}
 use Rattle.std.proofs.lemmas.Bool.{and_parts, eqb-true, cases_lt}
-use Rattle.std.proofs.Math.Bool.{Bool-set}
 use Rattle.std.proofs.Math.Nat.{ℕ_set}
 use Rattle.std.proofs.Math.Logic.{∥∥₁_elim}
 use Rattle.std.proofs.lemmas.List.{length-map}
@@ -10,7 +9,7 @@ use Rattle.std.proofs.lemmas.Option.{slice_get_within, slice_get_past}
 use mathlib.Core.Sum.{⊎_set}
 use mathlib.Core.List.{is_set as list_set}
 use Rattle.bsv_bits.specs.Words.{Bits}
-use Rattle.bsv_prim.specs.Table.{Table, word_at}
+use Rattle.bsv_prim.specs.Table.{Table}
 use Rattle.bsv_prim.specs.declared.part.Part.{Part}
 use Rattle.bsv_design.specs.declared.design.Design.{Design}
 use Rattle.bsv_design.specs.declared.element.Call.{Call}
@@ -50,7 +49,7 @@ use Rattle.bsv_fire.specs.Firing.{Fires, TellsFiring, arity_of, sites_of}
 use Rattle.bsv_fire.specs.Grounds.{first_nodes}
 use Rattle.bsv_fire.proofs.FirstNodes.{word_is_at}
 use Rattle.bsv_fire.proofs.Firings.{scene, tells_firing, cells_have, same_words}
-use Rattle.bsv_fire.proofs.Frame.{Scene, Tells}
+use Rattle.bsv_fire.proofs.Frame.{Tells}
 use Rattle.bsv_fire.proofs.GroundTold.{register_there}
 use Rattle.bsv_fire.proofs.Numbers.{count_below, number_at}
 use Rattle.bsv_fire.proofs.Structure.{Holds, some_same}
@@ -119,9 +118,9 @@ module _ (d : Design) (needs : List (List Need)) (made : Schedule) (rules : Keep
       let found = element_of n o at_o in
       let placed = holds.each n found.element (among n (slice_get_within T.elements n o at_o)) found.there in
       let nothing : found.element.result ≡ None =
-          ∥∥₁_elim d.right (option_set ℕ_set _ _) (λ (right : IsDesign b).
-          let fits = (right.elements n found.element found.there).fits in
-          nothing_given fits.widths (gives_value found.element.role) found.element.result fits.result (ap (λ (x : Outline). gives_value x.role) found.gives ∙ gives_none)) in
+      ∥∥₁_elim d.right (option_set ℕ_set _ _) (λ (right : IsDesign b).
+      let fits = (right.elements n found.element found.there).fits in
+      nothing_given fits.widths (gives_value found.element.role) found.element.result fits.result (ap (λ (x : Outline). gives_value x.role) found.gives ∙ gives_none)) in
       ap (λ (ns : List ℕ). slice_get ns n) is.results
       ∙ (mapped_at (λ x. unwrap_or x (length (net b needs made).nodes)) (net b needs made).results n None
       (placed.1 ∙ ap (λ (x : Option ℕ). Some (option_map (node_at placed.0) x)) nothing)
@@ -172,14 +171,14 @@ module _ (d : Design) (needs : List (List Need)) (made : Schedule) (rules : Keep
       let e = found.element in
       let call = item_of target e.calls k t (ap (λ (ts : List Target). slice_get ts k) (sym (uses_are n e found.there)) ∙ used) in
       let y_is : site found.places call.item ≡ y =
-          some_same (site found.places call.item) y
-          (sym (mapped_at (site found.places) e.calls k call.item call.is) ∙ (ap (λ (ss : List NetSite). slice_get ss k) (sym found.are_sites) ∙ at_y)) in
+      some_same (site found.places call.item) y
+      (sym (mapped_at (site found.places) e.calls k call.item call.is) ∙ (ap (λ (ss : List NetSite). slice_get ss k) (sym found.are_sites) ∙ at_y)) in
       let long : length call.item.args ≡ arity_of (kind_at T.kinds (target call.item)) call.item.method =
-          ∥∥₁_elim d.right (ℕ_set _ _) (λ (right : IsDesign b).
-          let fits = (right.elements n e found.there).fits in
-          call_long (slice_get (kinds_of b) call.item.part) fits.widths call.item
-          (and_parts (has_width (slice_get fits.widths call.item.taken) 1) (method_fits (slice_get (kinds_of b) call.item.part) fits.widths call.item)
-          (holds_at_all (call_fits (kinds_of b) fits.widths) e.calls fits.calls k call.item call.is)).1) in
+      ∥∥₁_elim d.right (ℕ_set _ _) (λ (right : IsDesign b).
+      let fits = (right.elements n e found.there).fits in
+      call_long (slice_get (kinds_of b) call.item.part) fits.widths call.item
+      (and_parts (has_width (slice_get fits.widths call.item.taken) 1) (method_fits (slice_get (kinds_of b) call.item.part) fits.widths call.item)
+      (holds_at_all (call_fits (kinds_of b) fits.widths) e.calls fits.calls k call.item call.is)).1) in
       ap (λ (s : NetSite). length s.args) (sym y_is)
       ∙ (length-map call.item.args (node_at found.places)
       ∙ (long ∙ ap (λ (x : Target). arity_of (kind_at T.kinds x) x.method) call.gives))
@@ -206,7 +205,7 @@ module _ (d : Design) (needs : List (List Need)) (made : Schedule) (rules : Keep
   unfolding design_scheme
   kept_told ws given have fit =
       let have_registers : HaveWidths (register_widths c.registers) ws =
-          subst (λ (us : List ℕ). HaveWidths us ws) (sym (ap cell_widths is.registers) ∙ cells_have c.registers) have in
+      subst (λ (us : List ℕ). HaveWidths us ws) (sym (ap cell_widths is.registers) ∙ cells_have c.registers) have in
       let long : count b needs made ≡ length ws = sym (length-map (cells_of (kinds_of b)) _) ∙ same_length (cell_widths (cells_of (kinds_of b))) ws have in
       same_words (at (words c.nodes given ws)) c.nexts ws (long_nexts ∙ long)
       (λ k l.
@@ -220,8 +219,8 @@ module _ (d : Design) (needs : List (List Need)) (made : Schedule) (rules : Keep
   -- ---- the whole
 
   module _ (told : (right : IsDesign b) (in_order : IsCircuit c) (q : Asking) (s : List Part) (ws : List Bits) (fit : Fit T q s)
-          (have : HaveWidths (cell_widths (cells_of (kinds_of b))) ws) → Shows T.kinds s ws
-          → Tells (scene b right needs made lawful scheduled are c is in_order q s ws fit have) (net b needs made) made.urgency) where
+      (have : HaveWidths (cell_widths (cells_of (kinds_of b))) ws) → Shows T.kinds s ws
+      → Tells (scene b right needs made lawful scheduled are c is in_order q s ws fit have) (net b needs made) made.urgency) where
     clock_told : (q : Asking) (s : List Part) (ws : List Bits) (fired : List ℕ) (after : List Part) → Fit T q s
         → HaveWidths (cell_widths (cells_of T.kinds)) ws → Shows T.kinds s ws → IsClock false T made q s fired after
         → TellsFiring false T q s fired c (words c.nodes (inputs_of T q) ws)

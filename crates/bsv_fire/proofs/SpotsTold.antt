@@ -105,27 +105,33 @@ module _ (inputs registers : List Bits) (V : Values) (full : List NetNode) (widt
     merged_told : (ns : List NetNode) (o : Option MethodPort) (live : ℕ) (args : List ℕ) (b : Bool) (words : List Bits) (last : Option (List Bits))
         → Told last o → V live ≡ bit b → length args ≡ arity → (b ≡ true → HasWords args words) → Grows (merged ns o live args).nodes full
         → Told (if b then Some words else last) (Some (merged ns o live args).port)
-    merged_told ns None live args true words last told e long first g =
-        (record {
-          called = e;
-          args = λ list is n l. first refl n l ∙ ap (λ (ws : List Bits). word_at ws n) (same_Some words list is);
-        }, long)
-    merged_told ns None live args false words last told e long first g =
-        (record {
-          called = e ∙ ap (λ (x : Option (List Bits)). bit (is_some x)) (sym told);
-          args = λ list is n l. absurd (let x : None ≡ Some list = sym told ∙ is in let h : ⊥ = cc in h);
-        }, long)
+    merged_told ns None live args true words last told e long first g = (
+      record {
+        called = e;
+        args = λ list is n l. first refl n l ∙ ap (λ (ws : List Bits). word_at ws n) (same_Some words list is);
+      },
+      long,
+    )
+    merged_told ns None live args false words last told e long first g = (
+      record {
+        called = e ∙ ap (λ (x : Option (List Bits)). bit (is_some x)) (sym told);
+        args = λ list is n l. absurd (let x : None ≡ Some list = sym told ∙ is in let h : ⊥ = cc in h);
+      },
+      long,
+    )
     merged_told ns (Some p) live args b words last told e long first g =
         let q = either ns p.called live in
         let r = all_picked q.nodes live [] args p.args in
         let before = grows_trans (all_picked_grows q.nodes live [] args p.args) g in
-        let same : map V r.places ≡ map V (cond b args p.args) = all_picked_words q.nodes live [] args p.args b e (long ∙ sym told.1) g in
-        (record {
-          called =
-            either_means inputs registers V full widths s ns p.called live (is_some last) b before told.0.called e
-            ∙ ap bit (some_or b words last);
-          args = merged_args args p.args r.places b words last long told.1 same first told.0.args;
-        }, sym (length-map r.places V) ∙ (ap length same ∙ (length-map (cond b args p.args) V ∙ picked_long b)))
+        let same : map V r.places ≡ map V (cond b args p.args) = all_picked_words q.nodes live [] args p.args b e (long ∙ sym told.1) g in (
+          record {
+            called =
+                either_means inputs registers V full widths s ns p.called live (is_some last) b before told.0.called e
+                ∙ ap bit (some_or b words last);
+            args = merged_args args p.args r.places b words last long told.1 same first told.0.args;
+          },
+          sym (length-map r.places V) ∙ (ap length same ∙ (length-map (cond b args p.args) V ∙ picked_long b)),
+        )
       where
         picked_long : (c : Bool) → length (cond c args p.args) ≡ arity
         picked_long true = long

@@ -8,14 +8,14 @@ use Rattle.bsv_design.specs.declared.element.Element.{Element}
 use Rattle.bsv_design.specs.declared.kind.Kind.{Kind}
 use Rattle.bsv_design.specs.Kinds.{kind_table}
 use Rattle.bsv_graph.specs.Edges.{numbers_below}
-use Rattle.bsv_graph.specs.Orders.{In, IsOnce}
+use Rattle.bsv_graph.specs.Orders.{In}
 use Rattle.bsv_net.specs.declared.node.NetNode.{NetNode}
 use Rattle.bsv_net.specs.declared.node.Site.{Site}
 use Rattle.bsv_net.specs.Placing.{node_at}
 use Rattle.bsv_fire.specs.Bodies.{or_none, sites}
 use Rattle.bsv_fire.specs.Grounds.{Ground}
 use Rattle.bsv_fire.specs.Ports.{port}
-use Rattle.bsv_fire.specs.Growing.{Growing, Blocked, element_body, is_open, with_port, with_method, with_seen, with_seen_in, with_ports, with_element, with_number, grown, none_placed}
+use Rattle.bsv_fire.specs.Growing.{Growing, element_body, is_open, with_port, with_method, with_seen, with_seen_in, with_ports, with_element, with_number, grown, none_placed}
 use Rattle.bsv_fire.proofs.Settings.{length-set, set_there, set_elsewhere, long_replicate}
 
 -- beside the nodes, the ports and who is stopped, both hold the same
@@ -122,15 +122,16 @@ module _ (g : Ground) where
     it_stands = (
       placed_at,
       set_there y.results n (option_map (node_at placed_at) e.result) (omega (arith, within, ap length same.results, h.long_results)),
-      set_there y.sites n (sites placed_at e.calls) (omega (arith, within, ap length same.sites, h.long_sites))
+      set_there y.sites n (sites placed_at e.calls) (omega (arith, within, ap length same.sites, h.long_sites)),
     )
 
     other_stands : (k : ℕ) (f : Element) → n ≢ k → In placed k → slice_get g.elements k ≡ Some f → Stands k f
     other_stands k f differ i at =
-        let old = h.each k f i at in
-        (old.0,
-        set_elsewhere y.results n k (option_map (node_at placed_at) e.result) differ ∙ (ap (λ (xs : List (Option ℕ)). slice_get xs k) same.results ∙ old.1),
-        set_elsewhere y.sites n k (sites placed_at e.calls) differ ∙ (ap (λ (xs : List (List Site)). slice_get xs k) same.sites ∙ old.2))
+        let old = h.each k f i at in (
+          old.0,
+          set_elsewhere y.results n k (option_map (node_at placed_at) e.result) differ ∙ (ap (λ (xs : List (Option ℕ)). slice_get xs k) same.results ∙ old.1),
+          set_elsewhere y.sites n k (sites placed_at e.calls) differ ∙ (ap (λ (xs : List (List Site)). slice_get xs k) same.sites ∙ old.2),
+        )
 
     each_stands : (k : ℕ) (f : Element) → In (placed ++ n ∷ []) k → slice_get g.elements k ≡ Some f → (b : Bool) → (n == k) ≡ b → Stands k f
     each_stands k f i at true q =

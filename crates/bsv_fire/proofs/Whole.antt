@@ -1,22 +1,22 @@
 -- A circuit in which all elements stand tells what happens in each clock.
-use Rattle.std.proofs.Common.{◌≡◌, ◌∙◌, ◌<◌, ◌≤◌, ◌+◌, ℕ, zero, suc, Bool, true, false, List, [], ◌∷◌, ◌++◌, Option, Some, None, is_some, refl, sym, ap, ap₂, subst, arith, length, map, filter}
+use Rattle.std.proofs.Common.{◌≡◌, ◌∙◌, ◌<◌, ◌+◌, ℕ, suc, Bool, true, false, List, [], ◌∷◌, ◌++◌, Some, is_some, refl, sym, ap, subst, arith, length, map, filter}
 use Rattle.std.specs.Prelude.{slice_get, cond}
 use Rattle.bsv_bits.specs.Words.{Bits, bit}
 use Rattle.bsv_prim.specs.declared.part.Part.{Part}
 use Rattle.bsv_design.specs.declared.element.Port.{Port}
 use Rattle.bsv_design.specs.declared.schedule.Schedule.{Schedule}
 use Rattle.bsv_design.specs.Roles.{is_rule}
-use Rattle.bsv_design.specs.Schemes.{Scheme, Outline, Asking, Called, Look, given, ports_of}
+use Rattle.bsv_design.specs.Schemes.{Scheme, Outline, Asking, given}
 use Rattle.bsv_design.specs.States.{AreWordsOf, emptied}
 use Rattle.bsv_graph.specs.Orders.{In}
-use Rattle.bsv_guard.specs.Fitting.{HaveWidths, RequestFits}
-use Rattle.bsv_clock.specs.Carrying.{inputs_from, inputs_of, input_widths_of, input_widths}
+use Rattle.bsv_guard.specs.Fitting.{HaveWidths}
+use Rattle.bsv_clock.specs.Carrying.{inputs_from, input_widths_of}
 use Rattle.bsv_clock.specs.Clocks.{IsClock, is_in, is_asked}
-use Rattle.bsv_clock.specs.Grounds.{BelongTogether, Fit}
+use Rattle.bsv_clock.specs.Grounds.{BelongTogether}
 use Rattle.bsv_clock.specs.Looks.{clock_look, look_after, calls_in_turn}
-use Rattle.bsv_clock.specs.Settling.{Doing, the_clock, look_of, fired_in, fires, end_of, deeds}
+use Rattle.bsv_clock.specs.Settling.{Doing, the_clock, look_of, fired_in, fires, end_of}
 use Rattle.bsv_clock.proofs.Clocks.{some_clock, clock_run, one_fired, one_after}
-use Rattle.bsv_clock.proofs.Members.{found, is_found, kept_in, in_kept, not_found}
+use Rattle.bsv_clock.proofs.Members.{is_found, kept_in, in_kept, not_found}
 use Rattle.bsv_clock.specs.Steadiness.{IsSteady}
 use Rattle.bsv_clock.proofs.Steadily.{steady_scheme}
 use Rattle.bsv_clock.proofs.Stopping.{execution_order}

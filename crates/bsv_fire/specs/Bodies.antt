@@ -1,10 +1,8 @@
 -- The nodes of an element in the net: those of its flat body, in which a call of a method that gives a value is the
 -- result's piece of that method, with the call's own arguments.
 use Rattle.std.specs.Prelude.{ℕ, ◌+◌, nat_lt, not, ◌&&◌, cond, List, [], ◌∷◌, ◌++◌, map, slice_get, Option, Some, None}
-use Rattle.bsv_prim.specs.Shape.{Shape}
 use Rattle.bsv_design.specs.declared.element.Call.{Call}
 use Rattle.bsv_design.specs.declared.element.Condition.{Condition}
-use Rattle.bsv_design.specs.declared.element.Element.{Element}
 use Rattle.bsv_design.specs.declared.kind.Kind.{Kind}
 use Rattle.bsv_design.specs.declared.node.Node.{Node}
 use Rattle.bsv_design.specs.declared.node.Node.TheVariants as node

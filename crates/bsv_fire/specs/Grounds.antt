@@ -1,6 +1,6 @@
 -- What a net of a design is made from, and where its inputs and registers stand: the first nodes are the inputs, then come
 -- the registers, and then a bit that is 0 and one that is 1.
-use Rattle.std.specs.Prelude.{ℕ, zero, suc, ◌+◌, Bool, true, false, cond, List, [], ◌∷◌, ◌++◌, map, length}
+use Rattle.std.specs.Prelude.{ℕ, ◌+◌, true, false, cond, List, [], ◌∷◌, ◌++◌, map, length}
 use Rattle.bsv_bits.specs.Words.{bit}
 use Rattle.bsv_design.specs.declared.element.Element.{Element}
 use Rattle.bsv_design.specs.declared.kind.Kind.{Kind}

@@ -1,6 +1,6 @@
 -- The nodes of a method of a part: whether it is called in a clock, and the arguments of its last call. Of the call sites of
 -- the method, each is live where its element fires and its arms are taken; the last live one gives the arguments.
-use Rattle.std.specs.Prelude.{ℕ, ◌+◌, ◌-◌, ◌==◌, Bool, List, [], ◌∷◌, ◌++◌, length, slice_get, Option, Some, None, if◌then◌else◌}
+use Rattle.std.specs.Prelude.{ℕ, ◌==◌, List, [], ◌∷◌, ◌++◌, slice_get, Option, Some, None, if◌then◌else◌}
 use Rattle.bsv_bits.specs.Words.{zero_word}
 use Rattle.bsv_prim.specs.Table.{Table}
 use Rattle.bsv_graph.specs.Edges.{numbers_below}

@@ -1,6 +1,6 @@
 -- The call sites of methods that act, on each part, in the order in which their calls take effect: by the execution order
 -- of their elements, and in one element in the order of the text.
-use Rattle.std.specs.Prelude.{ℕ, suc, ◌+◌, ◌==◌, nat_lt, Bool, false, ◌&&◌, cond, List, [], ◌∷◌, ◌++◌, map, length, slice_get, slice_set, Option, Some, None}
+use Rattle.std.specs.Prelude.{ℕ, ◌+◌, ◌==◌, nat_lt, Bool, false, ◌&&◌, cond, List, [], ◌∷◌, ◌++◌, map, length, slice_get, slice_set, Option, Some, None}
 use Rattle.std.specs.List.{flat_map}
 use Rattle.bsv_design.specs.declared.element.Call.{Call}
 use Rattle.bsv_design.specs.declared.element.Element.{Element}

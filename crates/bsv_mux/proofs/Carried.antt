@@ -1,6 +1,6 @@
 -- The net with the next words of the registers carries the design: it tells what the net before told, and its next words
 -- show the parts behind the clock.
-use Rattle.std.proofs.Common.{◌≡◌, ◌∙◌, ◌<◌, ◌≤◌, ◌+◌, ◌⊎◌, inl, inr, ℕ, zero, suc, Bool, true, false, List, [], ◌∷◌, ◌++◌, Option, Some, None, is_some, refl, sym, ap, ap₂, subst, arith, length, map, drop, append-nil, IsTrue}
+use Rattle.std.proofs.Common.{◌≡◌, ◌∙◌, ◌<◌, ◌≤◌, ◌+◌, ◌⊎◌, inl, inr, ℕ, zero, suc, Bool, true, false, List, [], ◌∷◌, ◌++◌, Option, Some, None, is_some, refl, sym, ap, ap₂, subst, arith, length, map, drop, append-nil}
 use Rattle.std.specs.Prelude.{slice_get, nat_lt, if◌then◌else◌}
 use Rattle.std.proofs.Math.Nat.{ℕ_set}
 use Rattle.std.proofs.Math.Logic.{∥∥₁_elim}
@@ -19,9 +19,8 @@ use Rattle.bsv_design.specs.Bodies.{Target, at}
 use Rattle.bsv_design.specs.Designs.{Blueprint, IsDesign}
 use Rattle.bsv_design.specs.Kinds.{kind_table}
 use Rattle.bsv_design.specs.Running.{or_zero}
-use Rattle.bsv_design.specs.Roles.{gives_value}
 use Rattle.bsv_design.specs.Seen.{blueprint}
-use Rattle.bsv_design.specs.Schemes.{Scheme, Outline, Asking, Look, calls_of, design_scheme, kinds_of, given, outline, ports_of, ready, seen, value}
+use Rattle.bsv_design.specs.Schemes.{Scheme, Outline, Asking, Look, calls_of, design_scheme, kinds_of, given, outline, ports_of, seen}
 use Rattle.bsv_design.specs.States.{AreWordsOf, FitsKinds, part_at}
 use Rattle.bsv_design.specs.Traces.{Site, kind_at}
 use Rattle.bsv_graph.specs.Edges.{numbers_below}
@@ -45,7 +44,7 @@ use Rattle.bsv_net.specs.declared.node.NetNode.TheVariants as net
 use Rattle.bsv_net.specs.declared.node.Site.{Site as NetSite}
 use Rattle.bsv_net.specs.Circuits.{IsCircuit, register_widths, words}
 use Rattle.bsv_net.specs.Placing.{node_at}
-use Rattle.bsv_net.proofs.Grows.{Grows, grows_trans, kept, length_grows}
+use Rattle.bsv_net.proofs.Grows.{Grows, grows_trans, kept}
 use Rattle.bsv_net.proofs.Solution.{satisfies, same_length, words_have}
 use Rattle.bsv_fire.specs.Bodies.{or_none}
 use Rattle.bsv_fire.specs.Firing as firing
@@ -54,7 +53,7 @@ use Rattle.bsv_fire.specs.Grounds.{register_starts}
 use Rattle.bsv_fire.specs.Spots.{all_spots}
 use Rattle.bsv_fire.proofs.FirstNodes.{part_shown, register_start, registers_before, word_behind}
 use Rattle.bsv_fire.proofs.Firings.{cells_have, node_there}
-use Rattle.bsv_fire.proofs.Frame.{Scene, S, does, looks, TellsFiring, TellsSite}
+use Rattle.bsv_fire.proofs.Frame.{Scene, does, looks, TellsFiring, TellsSite}
 use Rattle.bsv_fire.proofs.GroundTold.{registers_within}
 use Rattle.bsv_fire.proofs.Numbers.{count_below, got_before, got_behind, number_at}
 use Rattle.bsv_fire.proofs.Structure.{some_same}
@@ -260,13 +259,14 @@ module _ (b : Blueprint) (right : IsDesign b) (made : Schedule) (lawful : IsLawf
 
     shown_told : (i : ℕ) (k : Kind) → slice_get (kinds_of b) i ≡ Some k
         → (r : ℕ → Bits) × (kind_table k).Shows (part_at s i) r × ((n : ℕ) → n < (kind_table k).registers → at vs (node_at (register_starts (length c.nodes) (kinds_of b)) i + n) ≡ r n)
-    shown_told i k there =
-        (word_at (drop (registers_before (kinds_of b) i) ws),
-        part_shown (kinds_of b) s ws shows i k there,
-        λ n l. ap (λ m. at vs (m + n)) (register_start (length c.nodes) (kinds_of b) i (slice_get_within (kinds_of b) i k there))
-        ∙ (ap (at vs) (omega arith)
-        ∙ (register_word (registers_before (kinds_of b) i + n) (omega (arith, l, long_cells, registers_within (kinds_of b) i k there))
-        ∙ sym (word_behind ws (registers_before (kinds_of b) i) n))))
+    shown_told i k there = (
+      word_at (drop (registers_before (kinds_of b) i) ws),
+      part_shown (kinds_of b) s ws shows i k there,
+      λ n l. ap (λ m. at vs (m + n)) (register_start (length c.nodes) (kinds_of b) i (slice_get_within (kinds_of b) i k there))
+          ∙ (ap (at vs) (omega arith)
+          ∙ (register_word (registers_before (kinds_of b) i + n) (omega (arith, l, long_cells, registers_within (kinds_of b) i k there))
+          ∙ sym (word_behind ws (registers_before (kinds_of b) i) n))),
+    )
 
     ends_fit : FitsKinds (kinds_of b) (end_of T made s (does scene))
     unfolding design_scheme

@@ -1,16 +1,15 @@
 -- The next words of all parts, as they are placed, show the parts behind the clock.
-use Rattle.std.proofs.Common.{◌≡◌, ◌∙◌, ◌<◌, ◌≤◌, ◌+◌, ◌⊎◌, inl, inr, ℕ, zero, suc, Bool, true, false, cond, List, [], ◌∷◌, ◌++◌, Option, Some, None, is_some, refl, sym, ap, ap₂, subst, arith, length, map, append-nil, append_assoc, length-append}
+use Rattle.std.proofs.Common.{◌≡◌, ◌∙◌, ◌<◌, ◌≤◌, ◌+◌, ◌⊎◌, inl, inr, ℕ, zero, suc, Bool, true, false, cond, List, [], ◌∷◌, ◌++◌, Option, Some, None, refl, sym, ap, subst, arith, length, map, append-nil, append_assoc, length-append}
 use Rattle.std.specs.Prelude.{slice_get, ◌==◌, if◌then◌else◌}
-use Rattle.std.proofs.lemmas.Bool.{cases_lt, eqb-true, eqb-false}
+use Rattle.std.proofs.lemmas.Bool.{cases_lt, eqb-true}
 use Rattle.std.proofs.lemmas.List.{length-map}
 use Rattle.bsv_bits.specs.Words.{Bits, bit}
-use Rattle.bsv_prim.specs.Shape.{Shape}
 use Rattle.bsv_prim.specs.Signals.{Signals, word_of}
 use Rattle.bsv_prim.specs.Table.{Table, word_at}
 use Rattle.bsv_prim.specs.declared.part.Part.{Part}
 use Rattle.bsv_design.specs.declared.kind.Kind.{Kind}
 use Rattle.bsv_design.specs.Kinds.{kind_table, kind_laws}
-use Rattle.bsv_design.specs.Schemes.{Scheme, design_scheme, kinds_of}
+use Rattle.bsv_design.specs.Schemes.{design_scheme, kinds_of}
 use Rattle.bsv_design.specs.States.{FitsKinds, part_at}
 use Rattle.bsv_graph.specs.Edges.{numbers_below}
 use Rattle.bsv_graph.specs.Orders.{In}
@@ -25,9 +24,9 @@ use Rattle.bsv_net.proofs.Grows.{Grows, grows_refl, grows_trans, piece_grows}
 use Rattle.bsv_net.proofs.PieceMeans.{Carries, piece_means, speaks_of_all}
 use Rattle.bsv_fire.specs.declared.spots.Spot.{Spot}
 use Rattle.bsv_fire.specs.Bodies.{or_none}
-use Rattle.bsv_fire.specs.Ports.{PlacedAll, PlacedPort, port}
+use Rattle.bsv_fire.specs.Ports.{PlacedAll, port}
 use Rattle.bsv_fire.specs.Spots.{all_spots}
-use Rattle.bsv_fire.proofs.Frame.{Scene, S, does, looks, last_call, TellsFiring, TellsPort}
+use Rattle.bsv_fire.proofs.Frame.{Scene, S, does, last_call, TellsFiring, TellsPort}
 use Rattle.bsv_fire.proofs.PortGrowth.{port_grows}
 use Rattle.bsv_fire.proofs.PortTold.{port_told}
 use Rattle.bsv_mux.specs.Nexts as nexts
@@ -148,9 +147,11 @@ module _ (z : Scene) (x : Told) (zero_bit : z.V x.none ≡ bit false) (all : Lis
           → (q : MethodPort) × (slice_get (r.ports ++ Some p ∷ []) m ≡ Some (Some q)) × TellsPort z.V (t.arity m) (last_call z i m) q
       of m (inl l) _ = let old = h.port_at m l in (old.0, got_left r.ports (Some p ∷ []) m (omega (arith, h.long)) ∙ old.1, old.2)
       of m (inr l) less =
-          let is : n ≡ m = omega arith in
-          (p, ap (slice_get (r.ports ++ Some p ∷ [])) (omega (arith, h.long)) ∙ got_last r.ports (Some p),
-          subst (λ j. TellsPort z.V (t.arity j) (last_call z i j) p) is tells)
+          let is : n ≡ m = omega arith in (
+            p,
+            ap (slice_get (r.ports ++ Some p ∷ [])) (omega (arith, h.long)) ∙ got_last r.ports (Some p),
+            subst (λ j. TellsPort z.V (t.arity j) (last_call z i j) p) is tells,
+          )
 
   ports_told : (n : ℕ) → n ≤ t.methods → (ns : List NetNode) → Grows (nexts.ports x t ss ns [] (numbers_below n)).nodes z.full
       → PortsTold n (nexts.ports x t ss ns [] (numbers_below n))
@@ -255,8 +256,8 @@ module _ (z : Scene) (x : Told) (zero_bit : z.V x.none ≡ bit false) (all : Lis
           argument_told m j l less false e =
               let found = h.port_at m l in
               let node : w.argument m j ≡ node_at found.0.args j =
-                  ap (λ (c : Bool). if c then node_at [] j else node_at (args_in (placed (slice_get ports.ports m))) j) e
-                  ∙ ap (λ (o : Option (Option MethodPort)). node_at (args_in (placed o)) j) found.1 in
+              ap (λ (c : Bool). if c then node_at [] j else node_at (args_in (placed (slice_get ports.ports m))) j) e
+              ∙ ap (λ (o : Option (Option MethodPort)). node_at (args_in (placed o)) j) found.1 in
               subst (λ y. z.V y ≡ or_any (last_call z i m) j (z.V y)) (sym node) (same_argument (last_call z i m) found.0 (t.arity m) j found.2 less)
 
       full_told : Grows (nexts.all_pieces x t w ports.nodes so_far).nodes z.full → PartTold so_far (nexts.all_pieces x t w ports.nodes so_far)
@@ -287,7 +288,7 @@ module _ (z : Scene) (x : Told) (zero_bit : z.V x.none ≡ bit false) (all : Lis
     (spots : List (List Spot)) (are : spots ≡ all_spots (kinds_of z.b) z.b.elements z.made.execution)
     (starts : List ℕ)
     (shown : (i : ℕ) (k : Kind) → slice_get (kinds_of z.b) i ≡ Some k
-        → (r : ℕ → Bits) × (kind_table k).Shows (part_at z.s i) r × ((n : ℕ) → n < (kind_table k).registers → z.V (node_at starts i + n) ≡ r n)) where
+    → (r : ℕ → Bits) × (kind_table k).Shows (part_at z.s i) r × ((n : ℕ) → n < (kind_table k).registers → z.V (node_at starts i + n) ≡ r n)) where
   same_kinds : (S z).kinds ≡ kinds_of z.b
   unfolding design_scheme
   same_kinds = refl
@@ -314,8 +315,8 @@ module _ (z : Scene) (x : Told) (zero_bit : z.V x.none ≡ bit false) (all : Lis
       let own = shown i k here in
       let q = nexts.part_nexts x k (node_at starts i) (or_none (slice_get spots i)) ns so_far in
       let one = part_told z x zero_bit all told each spots are i k here (node_at starts i) own.0 own.1 own.2
-          (subst (λ (y : Part). (kind_table k).Fits y) (sym end_is) fit.0) (ap (λ (xs : List Kind). slice_get xs i) same_kinds ∙ here) ns so_far
-          (grows_trans (nexts_grow x starts spots (i + 1) q.nodes q.places ks) g) in
+      (subst (λ (y : Part). (kind_table k).Fits y) (sym end_is) fit.0) (ap (λ (xs : List Kind). slice_get xs i) same_kinds ∙ here) ns so_far
+      (grows_trans (nexts_grow x starts spots (i + 1) q.nodes q.places ks) g) in
       let rest = nexts_told ks ps fit.1 (i + 1) (λ j. ap (slice_get (kinds_of z.b)) (omega arith) ∙ kinds (suc j)) (λ j. ap (part_at ends) (omega arith) ∙ parts (suc j)) q.nodes q.places g in
       record {
         more = one.more ++ rest.more;

@@ -1,28 +1,23 @@
 -- The words of a net's first nodes are those of the net of these nodes alone.
-use Rattle.std.proofs.Common.{◌≡◌, ◌∙◌, ◌<◌, ◌≤◌, ◌+◌, ℕ, zero, suc, Bool, true, false, ◌&&◌, List, [], ◌∷◌, ◌++◌, Option, Some, None, refl, sym, ap, ap₂, arith, length, map, length-append, append_assoc, IsTrue}
-use Rattle.std.specs.Prelude.{slice_get, nat_lt, ◌==◌, if◌then◌else◌}
+use Rattle.std.proofs.Common.{◌≡◌, ◌∙◌, ◌<◌, ◌≤◌, ◌+◌, ℕ, Bool, true, false, ◌&&◌, List, [], ◌∷◌, ◌++◌, Option, Some, None, refl, sym, ap, ap₂, arith, length, map, length-append}
+use Rattle.std.specs.Prelude.{slice_get, nat_lt, if◌then◌else◌}
 use Rattle.std.specs.List.{list_all}
 use Rattle.std.proofs.lemmas.Bool.{and_parts, ltb-true, ltb-false}
 use Rattle.std.proofs.lemmas.List.{length-map}
-use Rattle.std.proofs.lemmas.Option.{slice_get_within, slice_get_past}
+use Rattle.std.proofs.lemmas.Option.{slice_get_past}
 use Rattle.bsv_bits.specs.Words.{Bits}
 use Rattle.bsv_design.specs.declared.node.Node.{Node}
 use Rattle.bsv_design.specs.Bodies.{at, values, node_word}
 use Rattle.bsv_design.specs.Relations.{no_answers}
 use Rattle.bsv_design.specs.Running.{or_zero}
-use Rattle.bsv_design.specs.Widths.{has_width}
-use Rattle.bsv_guard.specs.Fitting.{HaveWidths}
 use Rattle.bsv_guard.proofs.Lists.{holds_at_all}
 use Rattle.bsv_guard.proofs.Nodes.{grown, has_one}
 use Rattle.bsv_net.specs.declared.circuit.Circuit.{Circuit}
 use Rattle.bsv_net.specs.declared.node.NetNode.{NetNode}
 use Rattle.bsv_net.specs.declared.node.Site.{Site as NetSite}
-use Rattle.bsv_net.specs.Circuits.{IsCircuit, as_node, as_nodes, is_bit, is_in_order, is_node, is_site, nexts_fit, register_widths, width_fits, names, words}
-use Rattle.bsv_net.specs.Placing.{node_at}
+use Rattle.bsv_net.specs.Circuits.{as_node, as_nodes, is_bit, is_in_order, is_node, is_site, nexts_fit, width_fits, names, words}
 use Rattle.bsv_net.proofs.Grows.{Grows}
-use Rattle.bsv_net.proofs.Solution.{same_length, words_have}
 use Rattle.bsv_fire.specs.Bodies.{or_none}
-use Rattle.bsv_fire.proofs.Numbers.{got_before}
 use Rattle.bsv_mux.specs.Nexts.{renamed}
 
 -- ---- words
@@ -57,11 +52,12 @@ pub words_grown : (old new : List NetNode) → Grows old new → (inputs registe
 unfolding words
 words_grown old new g inputs registers =
     let n : ℕ = length inputs in
-    let rest = grown [] [] [] (inputs ++ registers) no_answers (words old inputs registers) (as_nodes n g.more) in
-    (rest.0,
-    ap (λ (ns : List NetNode). values no_answers (inputs ++ registers) [] [] (as_nodes n ns)) g.is
-    ∙ (ap (values no_answers (inputs ++ registers) [] []) (nodes_both n old g.more)
-    ∙ (values_both (inputs ++ registers) [] (as_nodes n old) (as_nodes n g.more) ∙ rest.1)))
+    let rest = grown [] [] [] (inputs ++ registers) no_answers (words old inputs registers) (as_nodes n g.more) in (
+      rest.0,
+      ap (λ (ns : List NetNode). values no_answers (inputs ++ registers) [] [] (as_nodes n ns)) g.is
+          ∙ (ap (values no_answers (inputs ++ registers) [] []) (nodes_both n old g.more)
+          ∙ (values_both (inputs ++ registers) [] (as_nodes n old) (as_nodes n g.more) ∙ rest.1)),
+    )
 
 past_is : (vs : List Bits) (n : ℕ) → length vs ≤ n → at vs n ≡ or_zero None
 past_is vs n l = ap or_zero (slice_get_past vs n l)

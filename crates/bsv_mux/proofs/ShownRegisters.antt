@@ -1,5 +1,5 @@
 -- Registers that show the parts: only the words of the registers that a part has count, and parts are shown one by one.
-use Rattle.std.proofs.Common.{◌≡◌, ◌∙◌, ◌<◌, ◌+◌, ℕ, zero, suc, List, [], ◌∷◌, ◌++◌, Option, Some, refl, sym, ap, subst, arith, length, map, drop, get_or}
+use Rattle.std.proofs.Common.{◌≡◌, ◌∙◌, ◌<◌, ◌+◌, ℕ, zero, suc, List, [], ◌∷◌, ◌++◌, refl, sym, subst, arith, length}
 use Rattle.std.proofs.lemmas.List.{drop_at}
 use Rattle.bsv_bits.specs.Words.{Bits}
 use Rattle.bsv_prim.specs.Table.{word_at}
@@ -45,5 +45,5 @@ pub shows_more : (k : Kind) (p : Part) (ks : List Kind) (ps : List Part) (ws vs 
     → (kind_table k).Shows p (word_at ws) → Shows ks ps vs → Shows (k ∷ ks) (p ∷ ps) (ws ++ vs)
 shows_more k p ks ps ws vs fits long h rest = (
   shows_same k p (word_at ws) (word_at (ws ++ vs)) fits (λ r l. word_before ws vs r (omega (arith, long))) h,
-  subst (λ (us : List Bits). Shows ks ps us) (sym (drop_at ws vs (kind_table k).registers long)) rest
+  subst (λ (us : List Bits). Shows ks ps us) (sym (drop_at ws vs (kind_table k).registers long)) rest,
 )
