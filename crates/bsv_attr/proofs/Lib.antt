@@ -6,4 +6,3 @@ pub mod Asserted
 pub mod Answering
 pub mod Attributes
 pub mod Alike
-pub mod SampleDesign

@@ -3,9 +3,9 @@
 //!
 //! Modules in reading order: `fault` (what is refused), `marks` (which rules are marked), `implicit` (the implicit
 //! conditions of a rule), `stopping` (what stops a rule), `asserting` (the whole), `laws` (there is one answer,
-//! and an accepted schedule obeys all attributes). What is refused is defined in `specs/Asserting.antt`, and what a schedule obeys in
-//! `specs/Obeying.antt`. `specs/Calling.antt` says what the code needs; no promise rests on it but where it is
-//! required.
+//! and an accepted schedule obeys all attributes). What is refused is defined in `specs/Asserting.antt`, and
+//! what a schedule obeys in `specs/Obeying.antt`. `specs/Calling.antt` says what the code needs; no promise
+//! rests on it but where it is required.
 #![tactic(auto)]
 
 mod asserting;
@@ -14,8 +14,6 @@ mod implicit;
 mod laws;
 mod marks;
 mod stopping;
-#[cfg(test)]
-mod tests;
 
 pub use asserting::{asserts, is_countable};
 pub use fault::AttrFault;

@@ -43,13 +43,13 @@ module _ (S T : Scheme) (al : AreAlike S T) where
       ap₂ (λ (cs ds : List Called). cs ++ ds) (made_same q n ps)
       (turns_same q (run_whole S q n ps) ns ∙ ap (λ (end : List Part). calls_in_turn T q end ns) (same.run_same q n ps))
 
-  look_same : (q : Asking) (s : List Part) (fired : List ℕ) → clock_look S q s fired ≡ clock_look T q s fired
+  pub look_same : (q : Asking) (s : List Part) (fired : List ℕ) → clock_look S q s fired ≡ clock_look T q s fired
   unfolding clock_look
   look_same q s fired =
       ap (look_after S.kinds (emptied S.kinds s)) (turns_same q (emptied S.kinds s) fired)
       ∙ ap (λ ks. look_after ks (emptied ks s) (calls_in_turn T q (emptied ks s) fired)) al.kinds
 
-  ready_same : (g : Bool) (q : Asking) (s : List Part) (fired : List ℕ) (n : ℕ) → ready g S q n (clock_look S q s fired) ≡ ready g T q n (clock_look T q s fired)
+  pub ready_same : (g : Bool) (q : Asking) (s : List Part) (fired : List ℕ) (n : ℕ) → ready g S q n (clock_look S q s fired) ≡ ready g T q n (clock_look T q s fired)
   ready_same g q s fired n = ap (ready g S q n) (look_same q s fired) ∙ same.ready_same g q n (clock_look T q s fired)
 
   may_same : (q : Asking) (n : ℕ) → may_fire S q n ≡ may_fire T q n

@@ -18,3 +18,4 @@ pub mod Quiet
 pub mod Asked
 pub mod OneRun
 pub mod HappenAlike
+pub mod CarriedAlike

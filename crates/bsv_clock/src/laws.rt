@@ -1,4 +1,5 @@
 ghost use Rattle.std.specs.Prelude.{◌≡◌, ℕ, Bool, List};
+ghost use Rattle.bsv_bits.specs.Words.{Bits};
 ghost use Rattle.bsv_attr.specs.Obeying.{Obeys};
 ghost use Rattle.bsv_design.specs.Seen.{blueprint};
 ghost use Rattle.bsv_design.specs.declared.design.Design.{Design as TheDesign};
@@ -10,6 +11,7 @@ ghost use Rattle.bsv_graph.specs.Elements.{relating};
 ghost use Rattle.bsv_graph.specs.Relating.{Agrees};
 ghost use Rattle.bsv_prim.specs.declared.part.Part.{Part};
 ghost use Rattle.bsv_clock.specs.Attributes.{ObeysInClock};
+ghost use Rattle.bsv_clock.specs.Carrying.{Carries, Cell, Given};
 ghost use Rattle.bsv_clock.specs.Clocks.{IsClock};
 ghost use Rattle.bsv_clock.specs.Events.{Happens, TellAlike, results_in_turn, results_under};
 ghost use Rattle.bsv_clock.specs.Feeding.{IsFed};
@@ -127,4 +129,12 @@ pub fn one_run()
     ensures alike { (aggressive : Bool) (S T : Scheme) (made : Schedule) (q : Asking) (s : List Part)
         (fired : Fired) (after : List Part) → AreAlike S T
         → Happens aggressive S made q s fired after → Happens aggressive T made q s fired after }
+{}
+
+/// Hardware that carries a scheme carries each one that does the same, as the tree from which a design was
+/// made.
+pub fn carried()
+    ensures { (aggressive : Bool) (S T : Scheme) (made : Schedule) (cells : List Cell)
+        (widths : List ℕ) (gives : List Bits → List Bits → Given) → AreAlike S T
+        → Carries aggressive S made cells widths gives → Carries aggressive T made cells widths gives }
 {}

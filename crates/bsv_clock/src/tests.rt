@@ -1,4 +1,6 @@
-use crate::{attributes, fed, lawful, one_clock, one_run, settled, steady, value_methods};
+use crate::{
+    attributes, carried, fed, lawful, one_clock, one_run, settled, steady, value_methods,
+};
 
 #[test]
 fn the_laws_can_be_called() {
@@ -10,4 +12,5 @@ fn the_laws_can_be_called() {
     value_methods();
     attributes();
     one_run();
+    carried();
 }

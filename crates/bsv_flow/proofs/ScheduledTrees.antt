@@ -1,6 +1,6 @@
 -- The schedule of a design is that of its tree.
 use Rattle.std.proofs.Common.{◌≡◌, ◌∙◌, ℕ, zero, suc, ◌+◌, ◌-◌, ◌<◌, ◌≤◌, List, [], ◌∷◌, ◌++◌, map, length, Option, Some, None, refl, sym, ap, ap₂, subst, arith}
-use Rattle.std.specs.Prelude.{slice_get, Bool, Result, Ok, Err}
+use Rattle.std.specs.Prelude.{slice_get, Bool, false, Result, Ok, Err}
 use Rattle.std.specs.List.{list_any}
 use Rattle.std.proofs.Math.Path.{fun_ext}
 use Rattle.bsv_bits.specs.Words.{Bits}
@@ -45,6 +45,15 @@ use Rattle.bsv_attr.proofs.Alike as marks
 use Rattle.bsv_attr.proofs.Attributes.{obeys}
 use Rattle.bsv_graph.proofs.OrderedLemmas.{ordering_before, urging_stands}
 use Rattle.bsv_graph.proofs.RelationsLemmas.{agrees_design}
+use Rattle.bsv_clock.specs.Carrying.{cell}
+use Rattle.bsv_clock.specs.Grounds.{IsScheduleOf, KeepsRules}
+use Rattle.bsv_clock.proofs.Belonging as belonging
+use Rattle.bsv_clock.proofs.CarriedAlike.{carried_to}
+use Rattle.bsv_net.specs.declared.net.Net.{Net}
+use Rattle.bsv_net.specs.AtHand.{circuit}
+use Rattle.bsv_fire.specs.Firing.{gives}
+use Rattle.bsv_mux.specs.Hardware.{NetCarries}
+use Rattle.bsv_mux.specs.Results.{KeepsResults}
 use Rattle.bsv_flow.specs.declared.refusal.CompileFault.{CompileFault}
 use Rattle.bsv_flow.specs.declared.refusal.CompileFault.TheVariants as fault
 use Rattle.bsv_flow.specs.declared.refusal.Refusal.{Refusal}
@@ -319,10 +328,45 @@ module _ (h : Hierarchy) (d : Design) (alike : AreAlike (tree_scheme h) (design_
       marks.obeys_alike S T made alike
       (obeys ordering_before urging_stands (blueprint d) made (agrees_design d) least.order urged.order listed accepted)
 
-pub compiled_of : (h : Hierarchy) (d : Design) (g : Guards) (s : Schedule) → AreAlike (tree_scheme h) (design_scheme (blueprint d)) → top_name h ≡ Some d.name
-    → d.parts ≡ parts_among h.instances → g.needs ≡ needs_of (kinds_of (blueprint d)) d.elements → AreLifted (blueprint d) g.needs
-    → IsCompiledOf h (record { design = d; guards = g; schedule = s })
-compiled_of h d g s alike name parts needs lifted = record { alike = alike; name = name; parts = parts; needs = needs; lifted = lifted }
+-- ---- the net
+
+-- what a net is made from belongs together
+pub rules_there : (h : Hierarchy) (d : Design) → AreAlike (tree_scheme h) (design_scheme (blueprint d)) → ((n : ℕ) → KeepsTheRule (tree_scheme h) n)
+    → KeepsRules (design_scheme (blueprint d))
+rules_there h d alike kept n = ((same.alike (tree_scheme h) (design_scheme (blueprint d)) alike).rule_same n).0 (kept n)
+
+pub schedule_there : (d : Design) (made : Schedule) (execution urgency : List ℕ) → made.execution ≡ execution → made.urgency ≡ urgency
+    → Executes (related (design_subject d)) execution → Urges (related (design_subject d)) urgency
+    → AreStops (related (design_subject d)) execution urgency made.stops → IsScheduleOf (design_scheme (blueprint d)) made
+schedule_there d made execution urgency e u executes urges stops =
+    let R = related (design_subject d) in
+    record {
+      agrees = belonging.agrees d;
+      named = belonging.named d;
+      executes = subst (λ (xs : List ℕ). Executes R xs) (sym e) executes;
+      urges = subst (λ (xs : List ℕ). Urges R xs) (sym u) urges;
+      stops = subst (λ (xs : List ℕ). AreStops R xs made.urgency made.stops) (sym e)
+          (subst (λ (xs : List ℕ). AreStops R execution xs made.stops) (sym u) stops);
+    }
+
+-- ---- what was compiled
+
+pub compiled_of : (h : Hierarchy) (d : Design) (g : Guards) (s : Schedule) (n : Net) → AreAlike (tree_scheme h) (design_scheme (blueprint d))
+    → top_name h ≡ Some d.name → d.parts ≡ parts_among h.instances → g.needs ≡ needs_of (kinds_of (blueprint d)) d.elements
+    → AreLifted (blueprint d) g.needs → NetCarries false (design_scheme (blueprint d)) s n → KeepsResults (design_scheme (blueprint d)) (circuit n)
+    → IsCompiledOf h (record { design = d; guards = g; schedule = s; net = n })
+compiled_of h d g s n alike name parts needs lifted carries no_result =
+    let S = tree_scheme h in
+    let T = design_scheme (blueprint d) in
+    record {
+      alike = alike;
+      name = name;
+      parts = parts;
+      needs = needs;
+      lifted = lifted;
+      carries = carried_to false T S s (same.alike_back S T alike) (map cell n.registers) n.inputs (gives (circuit n)) carries;
+      no_result = λ k o at. no_result k o (subst (λ (os : List Outline). slice_get os k ≡ Some o) alike.elements at);
+    }
 
 pub executed_order : (r : Relating) (xs : List ℕ) → Executes r xs → IsOrderOf r.count xs
 executed_order r xs e = e.order.2.order

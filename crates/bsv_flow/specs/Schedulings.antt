@@ -1,6 +1,6 @@
 -- What scheduling answers of a tree: its schedule, or the first refusal behind building (Hoe and Arvind 2004; Bluespec
 -- reference guide, "Scheduling attributes").
-use Rattle.std.specs.Prelude.{◌≡◌, ℕ, List, [], ◌++◌, map, slice_get, Option, Some, None, codes}
+use Rattle.std.specs.Prelude.{◌≡◌, ℕ, false, List, [], ◌++◌, map, slice_get, Option, Some, None, codes}
 use Rattle.bsv_design.specs.declared.design.Design.{Design}
 use Rattle.bsv_design.specs.declared.design.NamedPart.{NamedPart}
 use Rattle.bsv_design.specs.declared.element.Call.{Call}
@@ -30,6 +30,9 @@ use Rattle.bsv_attr.specs.Asserting.{IsAccepted, NamesImplicit, NamesStopper}
 use Rattle.bsv_attr.specs.Implicit.{demands_of}
 use Rattle.bsv_guard.specs.Lifted.{AreLifted}
 use Rattle.bsv_inline.specs.Flattening.{top_name}
+use Rattle.bsv_net.specs.AtHand.{circuit}
+use Rattle.bsv_mux.specs.Hardware.{NetCarries}
+use Rattle.bsv_mux.specs.Results.{KeepsResults}
 use Rattle.bsv_flow.specs.declared.refusal.Refusal.{Refusal}
 use Rattle.bsv_flow.specs.declared.refusal.Refusal.TheVariants as refusal
 use Rattle.bsv_flow.specs.declared.scheduling.Compiled.{Compiled}
@@ -157,10 +160,13 @@ pub data Unscheduled (h : Hierarchy) (r : Refusal) : Type 0 where
 
 -- ---- what was compiled
 
--- the design is that of the tree, with the guards that its calls need
+-- the design is that of the tree, with the guards that its calls need, and its net
 pub record IsCompiledOf (h : Hierarchy) (c : Compiled) : Type 0 where
   pub alike : AreAlike (tree_scheme h) (design_scheme (blueprint c.design))
   pub name : top_name h ≡ Some c.design.name
   pub parts : c.design.parts ≡ parts_among h.instances
   pub needs : c.guards.needs ≡ needs_of (kinds_of (blueprint c.design)) c.design.elements
   pub lifted : AreLifted (blueprint c.design) c.guards.needs
+  -- the net carries the tree, and what gives nothing names no node of it
+  pub carries : NetCarries false (tree_scheme h) c.schedule c.net
+  pub no_result : KeepsResults (tree_scheme h) (circuit c.net)

@@ -19,8 +19,8 @@ use bsv_io::Files;
 use std::alloc::Global;
 use std::thread::Threads;
 
-/// What was loaded as a design with its guards and its schedule, or the first refusal of typing, building and
-/// scheduling.
+/// What was loaded as a design with its guards, its schedule and its net, or the first refusal of typing,
+/// building and scheduling.
 pub fn compiled<R: Threads + Sync>(
     rt: &R,
     alloc: Global,
@@ -36,8 +36,8 @@ pub fn compiled<R: Threads + Sync>(
     scheduled(rt, alloc, &built)
 }
 
-/// The first file and what it imports, compiled: the design of the module `top`, with its guards and its
-/// schedule; or the first refusal.
+/// The first file and what it imports, compiled: the design of the module `top`, with its guards, its
+/// schedule and its net; or the first refusal.
 ///
 /// The file lies where its name says, and the files of the packages that it imports beside it. A design
 /// is accepted exactly where none of the refusals 1 to 26 holds; else the answer is the first one: of

@@ -1,7 +1,9 @@
-ghost use Rattle.std.specs.Prelude.{◌≡◌, ◌⊎◌, ℕ, List, Some, Err, IfOk, OnOk, slice_get};
+ghost use Rattle.std.specs.Prelude.{◌≡◌, ◌⊎◌, ℕ, false, List, Some, Err, IfOk, OnOk, slice_get};
 ghost use Rattle.bsv_attr.specs.Asserting.{IsAccepted};
 ghost use Rattle.bsv_attr.specs.Obeying.{Obeys};
-ghost use Rattle.bsv_design.specs.Schemes.{design_scheme, tree_scheme};
+ghost use Rattle.bsv_clock.specs.Grounds.{IsScheduleOf, KeepsRules};
+ghost use Rattle.bsv_design.specs.Guards.{needs_of};
+ghost use Rattle.bsv_design.specs.Schemes.{design_scheme, kinds_of, tree_scheme};
 ghost use Rattle.bsv_design.specs.Seen.{blueprint, hierarchy};
 ghost use Rattle.bsv_design.specs.Trees.{Hierarchy};
 ghost use Rattle.bsv_design.specs.declared.schedule.Schedule.{Schedule as TheSchedule};
@@ -9,6 +11,9 @@ ghost use Rattle.bsv_graph.specs.ExecutionOrders.{Executes};
 ghost use Rattle.bsv_graph.specs.Relating.{feed_edges};
 ghost use Rattle.bsv_graph.specs.UrgencyOrders.{Urges};
 ghost use Rattle.bsv_graph.specs.Walks.{IsAcyclic};
+ghost use Rattle.bsv_mux.specs.Hardware.{NetCarries};
+ghost use Rattle.bsv_mux.specs.Results.{KeepsResults};
+ghost use Rattle.bsv_net.specs.AtHand.{circuit};
 ghost use Rattle.bsv_flow.specs.Breaches as breaches;
 ghost use Rattle.bsv_flow.specs.Schedulings as spec;
 ghost use Rattle.bsv_flow.specs.Schedulings.{
@@ -30,18 +35,22 @@ use crate::refusal::{CompileFault, Refusal};
 use bsv_attr::{AttrFault, asserts, is_countable};
 use bsv_bits::{Name, OutOfMemory};
 use bsv_design::{Design, Element, Guards, NamedPart, Pair, Schedule, Tree, path_of};
+use bsv_fire::add_fire;
+use bsv_mux::add_next;
+use bsv_net::Net;
 use bsv_order::{OrderFault, execution};
 use bsv_urgency::{UrgencyFault, schedule, urgency};
 use sqlite_items::Items;
 use std::alloc::Global;
 use std::thread::Threads;
 
-/// A design that was compiled: its flat bodies, its guards, and its schedule.
+/// A design that was compiled: its flat bodies, its guards, its schedule, and its net.
 #[derive(Drop)]
 pub struct Compiled {
     pub design: Design,
     pub guards: Guards,
     pub schedule: Schedule,
+    pub net: Net,
 }
 
 /// The name of an element.
@@ -247,8 +256,29 @@ fn asserted(alloc: Global, design: &Design, schedule: &Schedule) -> Result<(), C
     }
 }
 
-/// The design of a tree with its guards and its schedule, which obeys the attributes; or the first refusal
-/// of two calls of one element, of the two orders, or of the marks of rules.
+/// The net of a design, which is its hardware.
+fn net_of(
+    alloc: Global,
+    design: &Design,
+    guards: &Guards,
+    schedule: &Schedule,
+) -> Result<Net, OutOfMemory>
+    requires rules { KeepsRules (design_scheme (blueprint design.now)) }
+    requires needs { guards.now.needs
+        ≡ needs_of (kinds_of (blueprint design.now)) design.now.elements }
+    requires schedule { IsScheduleOf (design_scheme (blueprint design.now)) schedule.now }
+    ensures carries { IfOk result (λ net.
+        NetCarries false (design_scheme (blueprint design.now)) schedule.now net) }
+    ensures no_result { IfOk result (λ net.
+        KeepsResults (design_scheme (blueprint design.now)) (circuit net)) }
+{
+    let net = add_fire(alloc, design, guards, schedule)?;
+    add_next(alloc, design, schedule, net)
+}
+
+/// The design of a tree with its guards, its schedule, which obeys the attributes, and its net, which
+/// carries the tree; or the first refusal of two calls of one element, of the two orders, or of the marks
+/// of rules.
 #[tactic(auto, using(crate::proofs::ScheduledTrees::compiled_of, crate::proofs::ScheduledTrees::executed_order, crate::proofs::ScheduledTrees::urged_order))]
 pub fn scheduled<R: Threads + Sync>(
     rt: &R,
@@ -268,10 +298,12 @@ pub fn scheduled<R: Threads + Sync>(
     let urgency = urged(alloc, &design)?;
     let schedule = schedule(alloc, &design, execution, urgency)?;
     asserted(alloc, &design, &schedule)?;
+    let net = net_of(alloc, &design, &guards, &schedule)?;
     Ok(Compiled {
         design,
         guards,
         schedule,
+        net,
     })
 }
 

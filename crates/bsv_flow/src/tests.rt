@@ -1,10 +1,14 @@
 use crate::{
-    CompileFault, Loaded, compile, load, one_building, one_plan, one_schedule, tree, typed,
+    CompileFault, Compiled, Loaded, compile, load, one_building, one_plan, one_schedule, tree,
+    typed,
 };
+use bsv_attr::{answered, listed, obeyed, same_asserted, same_obeyed};
 use bsv_bits::{Name, OutOfMemory};
 use bsv_design::Tree;
 use bsv_io::{MemFiles, MemSink};
+use bsv_order::one_execution;
 use bsv_types::Typed;
+use bsv_urgency::one_urgency;
 use std::alloc::{AllocError, Global};
 use std::ops::Range;
 use std::process::Abort;
@@ -314,23 +318,54 @@ fn programs_are_built(rt: HostRuntime) -> Result<(), Fail> {
     Ok(())
 }
 
-/// How many elements the greatest common divisor has when it is compiled.
-fn elements_compiled<R: Threads + Sync>(rt: &R, alloc: Global) -> Result<usize, CompileFault> {
+/// The greatest common divisor, compiled.
+fn gcd<R: Threads + Sync>(rt: &R, alloc: Global) -> Result<Compiled, CompileFault> {
     let mut source = files_of(alloc, &[(b"Gcd.bsv", GCD.as_bytes())], &[])?;
-    let compiled = compile(rt, alloc, &mut source, "Gcd.bsv", "mkGcd")?;
-    Ok(compiled.schedule.execution.len())
+    compile(rt, alloc, &mut source, "Gcd.bsv", "mkGcd")
 }
 
-/// A design of two methods and two rules is compiled.
-#[test]
-fn a_design_is_compiled(rt: HostRuntime) -> Result<(), Fail> {
+/// Whether an element stops just these.
+fn stops(compiled: &Compiled, element: usize, others: &[u32]) -> bool {
+    match compiled.schedule.stops.get(element) {
+        Some(stopped) => stopped.as_slice() == others,
+        None => false,
+    }
+}
+
+/// The laws of schedules can be called.
+fn call_laws() {
     one_building();
     one_plan();
     one_schedule();
-    match elements_compiled(&rt, rt.alloc()) {
-        Ok(count) => assert_eq!(rt; count, 4),
-        Err(_fault) => assert!(rt; false),
-    }
+    one_execution();
+    one_urgency();
+    answered();
+    listed();
+    obeyed();
+    same_asserted();
+    same_obeyed();
+}
+
+/// A design of two methods and two rules is compiled: its orders, what each element stops, and its net.
+#[test]
+fn a_design_is_compiled(rt: HostRuntime) -> Result<(), Fail> {
+    call_laws();
+    let Ok(compiled) = gcd(&rt, rt.alloc()) else {
+        assert!(rt; false);
+        return Ok(());
+    };
+    assert_eq!(rt;
+        compiled.schedule.execution.as_slice(),
+        [1, 0, 2, 3].as_slice()
+    );
+    assert_eq!(rt;
+        compiled.schedule.urgency.as_slice(),
+        [0, 1, 2, 3].as_slice()
+    );
+    assert!(rt; stops(&compiled, 0, &[2, 3]) && stops(&compiled, 1, &[]));
+    assert!(rt; stops(&compiled, 2, &[3]) && stops(&compiled, 3, &[]));
+    assert_eq!(rt; compiled.net.fires.len(), 4);
+    assert_eq!(rt; compiled.net.nexts.len(), 2);
     Ok(())
 }
 

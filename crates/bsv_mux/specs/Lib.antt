@@ -1,3 +1,4 @@
 pub mod Nexts
 pub mod Results
 pub mod AtHand
+pub mod Hardware

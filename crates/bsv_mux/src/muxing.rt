@@ -1,12 +1,12 @@
 ghost use Rattle.std.specs.Prelude.{◌≡◌, ◌+◌, [], IfOk, OnOk, false, map, length, slice_get};
-ghost use Rattle.bsv_clock.specs.Carrying.{Carries, cell};
 ghost use Rattle.bsv_clock.specs.Grounds.{IsScheduleOf, KeepsRules};
 ghost use Rattle.bsv_design.specs.Schemes.{design_scheme, kinds_of};
 ghost use Rattle.bsv_design.specs.Seen.{blueprint};
 ghost use Rattle.bsv_fire.specs.Bodies.{or_none};
-ghost use Rattle.bsv_fire.specs.Firing.{Fires, gives};
+ghost use Rattle.bsv_fire.specs.Firing.{Fires};
 ghost use Rattle.bsv_net.specs.AtHand.{circuit};
 ghost use Rattle.bsv_mux.specs.AtHand as hand;
+ghost use Rattle.bsv_mux.specs.Hardware.{NetCarries};
 ghost use Rattle.bsv_mux.specs.Nexts as spec;
 ghost use Rattle.bsv_mux.specs.Results.{KeepsResults};
 
@@ -177,8 +177,8 @@ pub fn add_next(
     requires rules { KeepsRules (design_scheme (blueprint design.now)) }
     requires schedule { IsScheduleOf (design_scheme (blueprint design.now)) schedule.now }
     requires fires { Fires false (design_scheme (blueprint design.now)) schedule.now (circuit net) }
-    ensures carries { IfOk result (λ made. Carries false (design_scheme (blueprint design.now))
-        schedule.now (map cell made.registers) made.inputs (gives (circuit made))) }
+    ensures carries { IfOk result (λ made.
+        NetCarries false (design_scheme (blueprint design.now)) schedule.now made) }
     ensures no_result { IfOk result (λ made.
         KeepsResults (design_scheme (blueprint design.now)) (circuit made)) }
     ensures sites { IfOk result (λ made. made.sites ≡ []) }

@@ -10,8 +10,6 @@ mod edges;
 mod fault;
 mod laws;
 mod order;
-#[cfg(test)]
-mod tests;
 mod values;
 
 pub use fault::OrderFault;

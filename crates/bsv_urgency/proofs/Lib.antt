@@ -1,5 +1,4 @@
 pub mod BehindLemmas
 pub mod PlaceLemmas
 pub mod UrgencyLemmas
-pub mod Sampled
 pub mod AnswerLemmas

@@ -3,4 +3,3 @@ pub mod Acting
 pub mod Stages
 pub mod Placed
 pub mod Placing
-pub mod Samples

@@ -4,8 +4,7 @@
 //! (the order), `laws` (there is one answer), `places` (the places of elements in an order), `stops` (what each element
 //! stops), `schedules` (both orders, with the stops). The order, its faults and the stops are defined in
 //! `specs/UrgencyOrders.antt` and `specs/Stops.antt` of `bsv_graph`; `specs/Answers.antt` says which answer tells which
-//! fault. `specs/Samples.antt` is what the tests make. The other files of `specs/` say how the code goes about it; no
-//! promise rests on them.
+//! fault. The other files of `specs/` say how the code goes about it; no promise rests on them.
 #![tactic(auto)]
 
 mod behind;
@@ -15,8 +14,6 @@ mod order;
 mod places;
 mod schedules;
 mod stops;
-#[cfg(test)]
-mod tests;
 
 pub use fault::UrgencyFault;
 pub use laws::one_urgency;

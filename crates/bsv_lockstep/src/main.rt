@@ -1,0 +1,47 @@
+//! Runs designs clock by clock by two engines, and tells whether they agree: the serial engine, which runs one
+//! element after the other, and the net of the design, each of whose words is computed once a clock. The words are
+//! the names of case files.
+//!
+//! Modules in reading order: `case` (a case file), `compiling` (its design, which can be run), `shown` (the words of
+//! registers that show a state), `asked` (the words of inputs that a line of a trace asks for), `evaluating` (the
+//! words of a net), `agreeing` (whether a net tells what the serial engine did), `clocks` (a design that is run by
+//! both). What can be run stands in `specs/Running.antt`.
+#![tactic(auto)]
+
+mod agreeing;
+mod asked;
+mod case;
+mod clocks;
+mod compiling;
+mod evaluating;
+mod shown;
+
+use crate::case::case_of;
+use crate::clocks::{Outcome, outcome_of};
+use crate::compiling::compiled_of;
+use anyhow::{Context, Result, bail};
+use std::fs;
+use std::rt::Files;
+use std::thread::Threads;
+
+/// Runs a case, and tells whether both engines agree: in how many clocks they do, or in which first one they do not.
+fn run_case<R: Files + AllocGlobal + Print + Threads + Sync>(rt: &R, file: &str) -> Result<()> {
+    let text = fs::read_to_string(rt, file)?;
+    let case = case_of(rt.alloc(), text.as_str())?;
+    let compiled = compiled_of(rt, &case)?;
+    let name = file.strip_suffix(".case").unwrap_or(file);
+    match outcome_of(rt.alloc(), &compiled, case.trace.as_str())? {
+        Outcome::Agree(clocks) => println!(rt; "{name}: {clocks} clocks agree")?,
+        Outcome::Differ(clock) => bail!("{name}: differs at clock {clock}"),
+    }
+    Ok(())
+}
+
+fn main(rt: HostRuntime) -> Result<()> {
+    let files: Vec<String> = std::env::args(&rt)?.skip(1).collect(rt.alloc())?;
+    for file in files.as_slice() {
+        let file = file.as_str();
+        run_case(&rt, file).context(format_args!("running {file}"))?;
+    }
+    Ok(())
+}
