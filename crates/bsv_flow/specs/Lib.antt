@@ -11,3 +11,4 @@ pub mod Typings
 pub mod Yields
 pub mod Schedulings
 pub mod Compilings
+pub mod Running

@@ -6,6 +6,7 @@ ghost use Rattle.bsv_io.specs.Reading.{bytes_given};
 ghost use Rattle.bsv_flow.specs.Buildings.{IsBuilt, Rejects};
 ghost use Rattle.bsv_flow.specs.Compilings.{CompilesTo, Declines, IsCompiled, IsPlanned};
 ghost use Rattle.bsv_flow.specs.Loads.{Reaches};
+ghost use Rattle.bsv_flow.specs.Running.{CanRun};
 ghost use Rattle.bsv_flow.specs.Sources.{read_limit};
 ghost use Rattle.bsv_flow.specs.declared.refusal.CompileFault.TheVariants.{Refused, ReadFault};
 ghost use Rattle.bsv_flow.specs.declared.refusal.Refusal.{Refusal as TheRefusal};
@@ -28,6 +29,7 @@ pub fn compiled<R: Threads + Sync>(
     top: &str,
 ) -> Result<Compiled, CompileFault>
     ensures compiled { IfOk result (λ c. CompilesTo loaded.now top.now c) }
+    ensures runs { IfOk result CanRun }
     ensures refused { (r : TheRefusal) → result ≡ Err (Refused r) → Declines loaded.now top.now r }
     ensures own { (name : List ℕ) → result ≡ Err (ReadFault name) → ⊥ }
 {
@@ -53,6 +55,7 @@ pub fn compile<R: Threads + Sync, F: Files>(
     ensures compiled { IfOk result (λ c. (contents : List ℕ → List ℕ)
         → (F.reading files.old).contents ≡ Some contents
         → IsCompiled name.now contents top.now c) }
+    ensures runs { IfOk result CanRun }
     ensures refused { (r : TheRefusal) → result ≡ Err (Refused r)
         → (contents : List ℕ → List ℕ)
         → (F.reading files.old).contents ≡ Some contents → Rejects name.now contents top.now r }

@@ -15,6 +15,7 @@ ghost use Rattle.bsv_mux.specs.Hardware.{NetCarries};
 ghost use Rattle.bsv_mux.specs.Results.{KeepsResults};
 ghost use Rattle.bsv_net.specs.AtHand.{circuit};
 ghost use Rattle.bsv_flow.specs.Breaches as breaches;
+ghost use Rattle.bsv_flow.specs.Running.{CanRun};
 ghost use Rattle.bsv_flow.specs.Schedulings as spec;
 ghost use Rattle.bsv_flow.specs.Schedulings.{
   IsScheduled,
@@ -289,6 +290,7 @@ pub fn scheduled<R: Threads + Sync>(
     ensures scheduled { IfOk result (λ c.
         IsScheduled (subject (hierarchy tree.now)) c.schedule) }
     ensures obeys { IfOk result (λ c. Obeys (tree_scheme (hierarchy tree.now)) c.schedule) }
+    ensures runs { IfOk result CanRun }
     ensures refused { (r : TheRefusal) → result ≡ Err (Refused r)
         → Unscheduled (hierarchy tree.now) r }
     ensures own { (name : List ℕ) → result ≡ Err (ReadFault name) → ⊥ }

@@ -1,5 +1,6 @@
 ghost use Rattle.std.specs.Prelude.{IfOk};
-ghost use Rattle.bsv_lockstep.specs.Running.{CanRun, FitsRun};
+ghost use Rattle.bsv_flow.specs.Running.{CanRun};
+ghost use Rattle.bsv_lockstep.specs.Running.{FitsRun};
 
 use crate::agreeing::agrees;
 use crate::asked::inputs;
@@ -43,12 +44,7 @@ impl Run {
     }
 
     /// Runs the clock of a line of the trace, and tells whether the net agrees.
-    fn run_line(
-        &mut self,
-        alloc: Global,
-        compiled: &Compiled,
-        text: &[u8],
-    ) -> Result<bool>
+    fn run_line(&mut self, alloc: Global, compiled: &Compiled, text: &[u8]) -> Result<bool>
         requires compiled { CanRun compiled.now }
         requires fits { FitsRun compiled.now.design self.old }
         ensures fits { FitsRun compiled.now.design self.new }

@@ -1,10 +1,10 @@
 ghost use Rattle.std.specs.Prelude.{IfOk};
-ghost use Rattle.bsv_lockstep.specs.Running.{CanRun};
+ghost use Rattle.bsv_flow.specs.Running.{CanRun};
 
 use crate::case::Case;
 use anyhow::{Result, bail};
 use bsv_bits::Name;
-use bsv_flow::{Compiled, Loaded, compiled, load};
+use bsv_flow::{Compiled, compile};
 use bsv_io::MemFiles;
 use std::alloc::Global;
 use std::thread::Threads;
@@ -19,24 +19,21 @@ fn files_of(alloc: Global, case: &Case) -> Result<MemFiles> {
     Ok(MemFiles::new(alloc, files, Vec::new(alloc))?)
 }
 
-/// The first file of a case and what it imports.
-fn loaded_of(alloc: Global, case: &Case) -> Result<Loaded> {
-    let Some((first, _)) = case.files.first() else {
-        bail!("a case has no file");
-    };
-    let mut files = files_of(alloc, case)?;
-    match load(alloc, &mut files, first.as_str()) {
-        Ok(loaded) => Ok(loaded),
-        Err(_) => bail!("a file is not loaded"),
-    }
-}
-
-/// The design of a case, with its guards and its schedule.
+/// The design of a case, with its guards, its schedule and its net.
 pub(crate) fn compiled_of<R: AllocGlobal + Threads + Sync>(rt: &R, case: &Case) -> Result<Compiled>
     ensures { IfOk result CanRun }
 {
-    let loaded = loaded_of(rt.alloc(), case)?;
-    match compiled(rt, rt.alloc(), &loaded, case.top.as_str()) {
+    let Some((first, _)) = case.files.first() else {
+        bail!("a case has no file");
+    };
+    let mut files = files_of(rt.alloc(), case)?;
+    match compile(
+        rt,
+        rt.alloc(),
+        &mut files,
+        first.as_str(),
+        case.top.as_str(),
+    ) {
         Ok(found) => Ok(found),
         Err(_) => bail!("a design is refused"),
     }

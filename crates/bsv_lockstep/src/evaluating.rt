@@ -1,4 +1,4 @@
-ghost use Rattle.std.specs.Prelude.{◌≡◌, IfOk, IsTrue};
+ghost use Rattle.std.specs.Prelude.{◌≡◌, ◌++◌, IsTrue, OnOk};
 ghost use Rattle.bsv_guard.specs.Fitting.{HaveWidths};
 ghost use Rattle.bsv_net.specs.Circuits.{register_widths};
 
@@ -13,24 +13,29 @@ use std::alloc::Global;
 fn have_widths(widths: &[u32], words: &[Word]) -> bool
     ensures { IsTrue result → HaveWidths widths.now words.now }
 {
-    let Some((width, behind)) = widths.split_first() else {
-        return words.is_empty();
-    };
-    let Some((word, after)) = words.split_first() else {
-        return false;
-    };
-    word.width() == *width && have_widths(behind, after)
+    let mut rest = widths;
+    let mut left = words;
+    while let Some((width, after)) = rest.split_first() {
+        let Some((word, behind)) = left.split_first() else {
+            return false;
+        };
+        if word.width() != *width {
+            return false;
+        }
+        rest = after;
+        left = behind;
+    }
+    left.is_empty()
 }
 
-/// The widths of registers.
-fn widths_of(alloc: Global, registers: &[RegisterInfo]) -> Result<Items<u32>, OutOfMemory>
-    ensures { IfOk result (λ widths. widths ≡ register_widths registers.now) }
+/// Adds the widths of registers.
+fn add_widths(registers: &[RegisterInfo], widths: &mut Items<u32>) -> Result<(), OutOfMemory>
+    ensures { OnOk result (widths.new ≡ widths.old ++ register_widths registers.now) }
 {
-    let mut widths = Items::new(alloc);
     for register in registers {
         widths.push(register.width)?;
     }
-    Ok(widths)
+    Ok(())
 }
 
 /// The words of all nodes of a net in a clock in which registers and inputs have these words.
@@ -40,7 +45,8 @@ pub(crate) fn evaluated(
     registers: &[Word],
     inputs: &[Word],
 ) -> Result<Vec<Word>> {
-    let widths = widths_of(alloc, net.registers.as_slice())?;
+    let mut widths = Items::new(alloc);
+    add_widths(net.registers.as_slice(), &mut widths)?;
     if !have_widths(widths.as_slice(), registers) {
         bail!("registers have other widths");
     }

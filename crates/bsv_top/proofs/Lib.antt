@@ -16,6 +16,5 @@ mod Printed
 mod Stopped
 mod Opened
 mod Halted
-mod Ready
 mod Simulated
 mod Told

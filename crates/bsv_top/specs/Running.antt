@@ -3,8 +3,7 @@ use Rattle.std.specs.Prelude.{◌≡◌, ◌≤◌, ℕ, ◌+◌, false, List, [
 use Rattle.bsv_prim.specs.declared.part.Part.{Part}
 use Rattle.bsv_design.specs.declared.design.Design.{Design}
 use Rattle.bsv_design.specs.declared.schedule.Schedule.{Schedule}
-use Rattle.bsv_design.specs.Guards.{needs_of}
-use Rattle.bsv_design.specs.Schemes.{Asking, Outline, design_scheme, kinds_of}
+use Rattle.bsv_design.specs.Schemes.{Asking, Outline, kinds_of}
 use Rattle.bsv_design.specs.Seen.{asking, blueprint}
 use Rattle.bsv_design.specs.States.{AskingFits, FitsKinds, opening}
 use Rattle.bsv_io.specs.Reading.{Reading, bytes_given, current_name}
@@ -12,7 +11,6 @@ use Rattle.bsv_io.specs.Writing.{Writing, appended, AppendsPrefix}
 use Rattle.bsv_trace.specs.Lines.{AsksFor}
 use Rattle.bsv_trace.specs.Texts.{clock_text}
 use Rattle.bsv_clock.specs.Events.{Happens}
-use Rattle.bsv_clock.specs.Grounds.{IsScheduleOf, KeepsRules}
 use Rattle.bsv_clock.specs.Runs.{Row, Runs}
 use Rattle.bsv_serial.specs.Rooms.{HasRoom}
 use Rattle.bsv_flow.specs.declared.scheduling.Compiled.{Compiled}
@@ -27,13 +25,7 @@ use Rattle.bsv_top.specs.Traces.{AreAsked, IsClean, HasBadLine, bytes_in, line_t
 
 -- ---- what a clock asks for
 
--- what was compiled belongs together
-pub record CanRun (c : Compiled) : Type 0 where
-  pub rules : KeepsRules (design_scheme (blueprint c.design))
-  pub needs : c.guards.needs ≡ needs_of (kinds_of (blueprint c.design)) c.design.elements
-  pub schedule : IsScheduleOf (design_scheme (blueprint c.design)) c.schedule
-
--- and a run fits the design
+-- a run fits the design
 pub record FitsRun (d : Design) (r : Run) : Type 0 where
   pub parts : FitsKinds (kinds_of (blueprint d)) r.state.parts.items
   pub requests : AskingFits d.elements (asking r.requests)

@@ -1,11 +1,12 @@
 ghost use Rattle.std.specs.Prelude.{◌≡◌, ◌≤◌, ◌<◌, ℕ, ◌+◌, ◌++◌, List, length, Err};
 ghost use Rattle.std.specs.Prelude.{IfOk, OnOk, OnErr};
 ghost use Rattle.bsv_design.specs.Schemes.{Asking};
+ghost use Rattle.bsv_flow.specs.Running.{CanRun};
 ghost use Rattle.bsv_io.specs.Faults.{MayFault};
 ghost use Rattle.bsv_io.specs.Writing.{Writing};
 ghost use Rattle.bsv_trace.specs.Lines.{AsksFor};
 ghost use Rattle.bsv_top.specs.Reading.{IsEnded};
-ghost use Rattle.bsv_top.specs.Running.{BeginsClock, CanRun, EndsLine, FitsRun, HasRun, IsStart};
+ghost use Rattle.bsv_top.specs.Running.{BeginsClock, EndsLine, FitsRun, HasRun, IsStart};
 ghost use Rattle.bsv_top.specs.Running.{IsBegunOf, IsDoneOf, IsFaultyOf, its_subject};
 ghost use Rattle.bsv_top.specs.Traces.{line_text};
 

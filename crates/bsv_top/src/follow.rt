@@ -4,7 +4,8 @@ ghost use Rattle.bsv_design.specs.Schemes.{Asking};
 ghost use Rattle.bsv_io.specs.Faults.{MayFault};
 ghost use Rattle.bsv_io.specs.Reading.{bytes_given, current_name, rest};
 ghost use Rattle.bsv_io.specs.Writing.{Writing};
-ghost use Rattle.bsv_top.specs.Running.{CanRun, HasRun, IsStart, its_outlines};
+ghost use Rattle.bsv_flow.specs.Running.{CanRun};
+ghost use Rattle.bsv_top.specs.Running.{HasRun, IsStart, its_outlines};
 ghost use Rattle.bsv_top.specs.Running.{IsBegunOf, IsDoneOf, IsFaultyOf};
 ghost use Rattle.bsv_top.specs.Traces.{HasBadLine, bytes_in, lines_of};
 

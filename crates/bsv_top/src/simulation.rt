@@ -1,17 +1,13 @@
 ghost use Rattle.std.specs.Prelude.{◌≡◌, ◌⊎◌, ℕ, ◌+◌, ◌<◌, ◌≤◌, List, length, Some, Err};
-ghost use Rattle.std.specs.Prelude.{IfOk, OnOk};
+ghost use Rattle.std.specs.Prelude.{OnOk};
 ghost use Rattle.bsv_io.specs.Faults.{MayFault};
 ghost use Rattle.bsv_io.specs.Reading.{bytes_given};
-ghost use Rattle.bsv_flow.specs.Buildings.{Rejects};
-ghost use Rattle.bsv_flow.specs.Compilings.{IsCompiled};
-ghost use Rattle.bsv_flow.specs.Loads.{Reaches};
-ghost use Rattle.bsv_flow.specs.Sources.{read_limit};
-ghost use Rattle.bsv_flow.specs.declared.refusal.CompileFault.TheVariants as fault;
+ghost use Rattle.bsv_flow.specs.Running.{CanRun};
 ghost use Rattle.bsv_flow.specs.declared.refusal.Refusal.{Refusal as TheRefusal};
 ghost use Rattle.bsv_top.specs.Answers.{sim_words};
 ghost use Rattle.bsv_top.specs.Outcomes.{IsDoneBy, IsUnread, OutputBegun};
 ghost use Rattle.bsv_top.specs.Places.{IsTraceWithin, ReadsWithin, piece_limit};
-ghost use Rattle.bsv_top.specs.Running.{CanRun, IsStart, IsBegunOf, IsDoneOf, IsFaultyOf};
+ghost use Rattle.bsv_top.specs.Running.{IsStart, IsBegunOf, IsDoneOf, IsFaultyOf};
 ghost use Rattle.bsv_top.specs.Running.{Follows, IsFollowed, its_outlines};
 ghost use Rattle.bsv_top.specs.Stops.{IsStopOf, stop_for};
 ghost use Rattle.bsv_top.specs.declared.halt.Halt.TheVariants as halt;
@@ -23,7 +19,7 @@ use crate::form::Simulation;
 use crate::halt::Halt;
 use crate::stop::Stop;
 use bsv_bits::Name;
-use bsv_flow::{CompileFault, Compiled, compiled, load};
+use bsv_flow::{Compiled, compile};
 use bsv_io::{Failed, Files, Sink};
 use bsv_trace::write_opening;
 use std::alloc::Global;
@@ -144,38 +140,6 @@ fn run_over<F: Files, O: Sink>(
     }
 }
 
-/// Compiles the file of a name and what it imports, to a design that can be run.
-fn compile_file<R: Threads + Sync, F: Files>(
-    rt: &R,
-    alloc: Global,
-    files: &mut F,
-    name: &str,
-    top: &str,
-) -> Result<Compiled, CompileFault>
-    ensures can { IfOk result CanRun }
-    ensures compiled { IfOk result (λ c. (contents : List ℕ → List ℕ)
-        → (F.reading files.old).contents ≡ Some contents
-        → IsCompiled name.now contents top.now c) }
-    ensures refused { (r : TheRefusal) → result ≡ Err (fault.Refused r)
-        → (contents : List ℕ → List ℕ)
-        → (F.reading files.old).contents ≡ Some contents → Rejects name.now contents top.now r }
-    ensures read_fault { (blamed : List ℕ) → result ≡ Err (fault.ReadFault blamed)
-        → MayFault (F.reading files.old).faults (F.reading files.new).faults
-        × ((F.reading files.new).blamed ≡ Some blamed) }
-    ensures reached { (blamed : List ℕ) → result ≡ Err (fault.ReadFault blamed)
-        → (contents : List ℕ → List ℕ)
-        → (F.reading files.old).contents ≡ Some contents → Reaches name.now contents blamed }
-    ensures within { read_limit < bytes_given (F.reading files.new)
-        → (F.reading files.new).current ≡ (F.reading files.old).current }
-    ensures contents { (F.reading files.new).contents ≡ (F.reading files.old).contents }
-    ensures count { (F.reading files.old).faults ≤ (F.reading files.new).faults }
-    ensures kept { ((blamed : List ℕ) → result ≡ Err (fault.ReadFault blamed) → ⊥)
-        → (F.reading files.new).faults ≡ (F.reading files.old).faults }
-{
-    let loaded = load(alloc, files, name)?;
-    compiled(rt, alloc, &loaded, top)
-}
-
 /// Compiles the file and what it imports, and puts the report of its run over the trace.
 pub(crate) fn simulate<R: Threads + Sync, F: Files, O: Sink>(
     rt: &R,
@@ -222,6 +186,6 @@ pub(crate) fn simulate<R: Threads + Sync, F: Files, O: Sink>(
     ensures out_kept { (result ≡ Err Stop.Unwritable → ⊥)
         → (O.writing out.new).faults ≡ (O.writing out.old).faults }
 {
-    let compiled = compile_file(rt, alloc, files, form.file, form.top)?;
+    let compiled = compile(rt, alloc, files, form.file, form.top)?;
     run_over(alloc, files, &compiled, form.trace, out)
 }

@@ -26,7 +26,7 @@ returns-in_err-compiled-clause-unread g c = λ name h.
     let top = c.args.form.top.now in
     let trace = c.args.form.trace.now in
     fault_unread {A = Compiled} (sim_words file top trace) file top (Asks.sim trace refl) c.in_err-compiled.field-0.0 (stop.Unread name) (same_fault (stop.Unread name) p.0 (sym h ∙ p.1) ∙ p.2)
-    (g.F.Files.reading c.args.files.now) (g.F.Files.reading c.compile_file.new.files) (g.O.Sink.writing c.args.out.now) name refl
+    (g.F.Files.reading c.args.files.now) (g.F.Files.reading c.compile.new.files) (g.O.Sink.writing c.args.out.now) name refl
     c.in_err-compiled.ensures.read_fault c.in_err-compiled.ensures.reached
 
 pub returns-clause-done : goal.returns-clause-done
@@ -63,7 +63,7 @@ returns-clause-unread g c = λ name h.
 pub returns-clause-within : goal.returns-clause-within
 returns-clause-within g c = λ contents told.
     run_within c.args.form.file.now contents c.args.form.top.now c.args.form.trace.now c.in_ok-compiled.compiled (c.in_ok-compiled.ensures.compiled contents told)
-    (g.F.Files.reading c.args.files.now) (g.F.Files.reading c.compile_file.new.files) (g.F.Files.reading c.run_over.new.files) c.in_ok-compiled.ensures.within
+    (g.F.Files.reading c.args.files.now) (g.F.Files.reading c.compile.new.files) (g.F.Files.reading c.run_over.new.files) c.in_ok-compiled.ensures.within
     (c.run_over.ensures.within contents (c.in_ok-compiled.ensures.contents ∙ told))
 
 pub returns-clause-done_within : goal.returns-clause-done_within
