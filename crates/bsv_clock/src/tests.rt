@@ -1,6 +1,4 @@
-use crate::{
-    attributes, carried, fed, lawful, one_clock, one_run, settled, steady, value_methods,
-};
+use crate::{attributes, carried, fed, lawful, one_clock, one_run, settled, steady, value_methods};
 
 #[test]
 fn the_laws_can_be_called() {
