@@ -1,3 +1,4 @@
+pub mod Adding
 pub mod Appended
 pub mod Counted
 pub mod Counts

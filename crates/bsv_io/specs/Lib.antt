@@ -1,3 +1,4 @@
+pub mod Adding
 pub mod Blame
 pub mod Calls
 pub mod Disk

@@ -2,10 +2,11 @@
 //!
 //! Modules in reading order: `failed` (the one error), `files` (sources, chosen by name and read
 //! piece by piece), `sink` (where bytes are put), `put_buffer` (bytes that wait to be put in one
-//! call). For tests and for texts that the program makes itself: `calls` (calls that fail by their
-//! numbers), `progress` (where a source stands), `contents` (files in memory, and how a piece of
-//! one is given), `mem_files`, `sure_files`, `mem_sink`, `sure_sink`. The trusted edge, which
-//! passes calls on to the runtime: `open_files`, `disk_files`, `std_sink`.
+//! call), `text` (texts, constants and numbers behind those that wait). For tests and for texts
+//! that the program makes itself: `calls` (calls that fail by their numbers), `progress` (where a
+//! source stands), `contents` (files in memory, and how a piece of one is given), `mem_files`,
+//! `sure_files`, `mem_sink`, `sure_sink`. The trusted edge, which passes calls on to the runtime:
+//! `open_files`, `disk_files`, `std_sink`.
 #![tactic(auto)]
 
 mod calls;
@@ -24,6 +25,7 @@ mod sure_files;
 mod sure_sink;
 #[cfg(test)]
 mod tests;
+mod text;
 
 pub use disk_files::DiskFiles;
 pub use failed::Failed;
@@ -36,3 +38,4 @@ pub use sink::Sink;
 pub use std_sink::StdSink;
 pub use sure_files::SureFiles;
 pub use sure_sink::SureSink;
+pub use text::{add, add_constant, add_decimal};

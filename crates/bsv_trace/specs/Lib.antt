@@ -1,4 +1,3 @@
-pub mod Adding
 pub mod Lines
 pub mod Numbers
 pub mod Reading

@@ -2,12 +2,12 @@ ghost use Rattle.std.specs.Prelude.{◌≡◌, ◌≤◌, OnOk, OnErr};
 ghost use Rattle.std.specs.List.{flat_map};
 ghost use Rattle.bsv_io.specs.Faults.{MayFault};
 ghost use Rattle.bsv_io.specs.Writing.{appended, AppendsPrefix};
-ghost use Rattle.bsv_trace.specs.Adding.{Adds};
+ghost use Rattle.bsv_io.specs.Adding.{Adds};
 ghost use Rattle.bsv_trace.specs.Texts as texts;
 
-use crate::text::{add, add_list, add_name, add_names};
+use crate::text::{add_list, add_name, add_names};
 use bsv_design::{Design, Element, Schedule};
-use bsv_io::{Failed, PutBuffer, Sink};
+use bsv_io::{Failed, PutBuffer, Sink, add};
 use sqlite_items::Items;
 
 /// The elements that the one at a place stops.

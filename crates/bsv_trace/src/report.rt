@@ -1,26 +1,16 @@
-ghost use Rattle.std.specs.Prelude.{◌≡◌, ◌≤◌, ◌++◌, OnOk, OnErr, decimal};
+ghost use Rattle.std.specs.Prelude.{◌≡◌, ◌≤◌, ◌++◌, OnOk, OnErr};
 ghost use Rattle.std.specs.List.{flat_map};
 ghost use Rattle.bsv_io.specs.Faults.{MayFault};
 ghost use Rattle.bsv_io.specs.Writing.{appended, AppendsPrefix};
-ghost use Rattle.bsv_trace.specs.Adding.{Adds};
+ghost use Rattle.bsv_io.specs.Adding.{Adds};
 ghost use Rattle.bsv_trace.specs.Texts as texts;
 
 use crate::state::add_state;
-use crate::text::{add, add_constant, add_list, add_name};
+use crate::text::{add_list, add_name};
 use bsv_bits::Word;
 use bsv_design::{Design, Element, Fired, NamedPart, State};
-use bsv_io::{Failed, PutBuffer, Sink};
+use bsv_io::{Failed, PutBuffer, Sink, add, add_constant, add_decimal};
 use bsv_prim::Part;
-use itoa::Buffer;
-
-/// Adds a number in decimal.
-fn add_decimal<S: Sink>(buffer: &mut PutBuffer, sink: &mut S, number: u64) -> Result<(), Failed>
-    ensures { Adds (decimal number) result buffer.old buffer.new
-        (S.writing sink.old) (S.writing sink.new) }
-{
-    let mut digits = Buffer::new();
-    add(buffer, sink, digits.format(number).as_bytes())
-}
 
 /// Adds the line of the number of a clock.
 fn add_number<S: Sink>(buffer: &mut PutBuffer, sink: &mut S, number: u64) -> Result<(), Failed>

@@ -1,12 +1,11 @@
 ghost use Rattle.std.specs.Prelude.{◌≡◌, ◌++◌, if◌then◌else◌, [], codes};
 ghost use Rattle.bsv_bits.specs.Constants.{constant_text};
-ghost use Rattle.bsv_trace.specs.Adding.{Adds};
+ghost use Rattle.bsv_io.specs.Adding.{Adds};
 ghost use Rattle.bsv_trace.specs.Texts as texts;
 
-use crate::text::{add, add_constant};
 use bsv_bits::Word;
 use bsv_design::{Kind, NamedPart};
-use bsv_io::{Failed, PutBuffer, Sink};
+use bsv_io::{Failed, PutBuffer, Sink, add, add_constant};
 use bsv_prim::{Part, Queue};
 
 /// Whether the state of an instance of the kind has a line: registers and queues have one, wires have none.

@@ -1,11 +1,9 @@
 ghost use Rattle.std.specs.Prelude.{◌≡◌, ◌++◌, codes};
-ghost use Rattle.bsv_bits.specs.Constants.{constant_text};
-ghost use Rattle.bsv_trace.specs.Adding.{Adds};
+ghost use Rattle.bsv_io.specs.Adding.{Adds};
 ghost use Rattle.bsv_trace.specs.Texts as texts;
 
-use bsv_bits::Word;
 use bsv_design::Element;
-use bsv_io::{Failed, PutBuffer, Sink};
+use bsv_io::{Failed, PutBuffer, Sink, add};
 
 /// The name of the element at a place; nothing where there is none.
 pub(crate) fn name_at(elements: &[Element], place: u32) -> &[u8]
@@ -15,27 +13,6 @@ pub(crate) fn name_at(elements: &[Element], place: u32) -> &[u8]
         Some(element) => element.name.bytes(),
         None => b"",
     }
-}
-
-/// Adds a text.
-pub(crate) fn add<S: Sink>(buffer: &mut PutBuffer, sink: &mut S, text: &[u8]) -> Result<(), Failed>
-    ensures { Adds text.now result buffer.old buffer.new (S.writing sink.old) (S.writing sink.new) }
-{
-    buffer.add(sink, text)
-}
-
-/// Adds a word as a constant, as `8'h0c`.
-pub(crate) fn add_constant<S: Sink>(
-    buffer: &mut PutBuffer,
-    sink: &mut S,
-    word: Word,
-) -> Result<(), Failed>
-    ensures { Adds (constant_text word) result buffer.old buffer.new
-        (S.writing sink.old) (S.writing sink.new) }
-{
-    let mut constant = [0u8; 40];
-    let len = word.write_hex(&mut constant);
-    add(buffer, sink, &constant[..len])
 }
 
 /// Adds a text, and the name of the element at a place.

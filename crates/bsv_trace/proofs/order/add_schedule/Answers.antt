@@ -2,7 +2,7 @@ use Rattle.std.proofs.Common.{◌∙◌, ap, codes}
 use Rattle.std.specs.List.{flat_map}
 use Rattle.bsv_trace.specs.Texts.{schedule_text}
 use Rattle.bsv_trace.specs.Texts as texts
-use Rattle.bsv_trace.proofs.Adding.{adds_more, fails_more, adds_then, adds_text}
+use Rattle.bsv_io.proofs.Adding.{adds_more, fails_more, adds_then, adds_text}
 use Rattle.bsv_trace.proofs.order.add_schedule.Goals as goal
 
 pub returns-in_err-add_list : goal.returns-in_err-add_list

@@ -1,7 +1,7 @@
 use Rattle.std.proofs.Common.{ap}
 use Rattle.std.specs.List.{flat_map}
 use Rattle.bsv_trace.specs.Texts as texts
-use Rattle.bsv_trace.proofs.Adding.{going_on, going_failed, going_text, adds_text}
+use Rattle.bsv_io.proofs.Adding.{going_on, going_failed, going_text, adds_text}
 use Rattle.bsv_trace.proofs.order.add_stops.Goals as goal
 
 pub returns-in_err-add_stops_text : goal.returns-in_err-add_stops_text

@@ -1,7 +1,7 @@
 use Rattle.std.proofs.Common.{length}
 use Rattle.std.specs.List.{flat_map}
 use Rattle.bsv_trace.specs.Texts as texts
-use Rattle.bsv_trace.proofs.Adding.{Going}
+use Rattle.bsv_io.proofs.Adding.{Going}
 use Rattle.bsv_trace.proofs.report.add_blocked.Given as goal
 
 abbrev pub decreases-loop-place : goal.decreases-loop-place

@@ -1,6 +1,6 @@
 use Rattle.bsv_trace.specs.Texts.{clock_text}
 use Rattle.bsv_trace.specs.Texts as texts
-use Rattle.bsv_trace.proofs.Adding.{adds_more, fails_more, adds_then}
+use Rattle.bsv_io.proofs.Adding.{adds_more, fails_more, adds_then}
 use Rattle.bsv_trace.proofs.report.add_clock.Goals as goal
 
 pub returns-in_err-add_number : goal.returns-in_err-add_number

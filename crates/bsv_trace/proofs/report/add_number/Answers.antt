@@ -1,6 +1,6 @@
 use Rattle.std.proofs.Common.{decimal}
 use Rattle.bsv_trace.specs.Texts as texts
-use Rattle.bsv_trace.proofs.Adding.{adds_more, fails_more, adds_then}
+use Rattle.bsv_io.proofs.Adding.{adds_more, fails_more, adds_then}
 use Rattle.bsv_trace.proofs.report.add_number.Goals as goal
 
 pub returns-in_err-add : goal.returns-in_err-add

@@ -1,6 +1,6 @@
 use Rattle.bsv_bits.specs.Constants.{constant_text}
 use Rattle.bsv_trace.specs.Texts as texts
-use Rattle.bsv_trace.proofs.Adding.{adds_more, fails_more, adds_then}
+use Rattle.bsv_io.proofs.Adding.{adds_more, fails_more, adds_then}
 use Rattle.bsv_trace.proofs.report.add_result_line.Goals as goal
 
 pub returns-in_err-add : goal.returns-in_err-add

@@ -1,7 +1,7 @@
 use Rattle.std.proofs.Common.{ap}
 use Rattle.std.specs.List.{flat_map}
 use Rattle.bsv_trace.specs.Texts as texts
-use Rattle.bsv_trace.proofs.Adding.{going_on, going_failed, going_text}
+use Rattle.bsv_io.proofs.Adding.{going_on, going_failed, going_text}
 use Rattle.bsv_trace.proofs.report.add_results.Goals as goal
 
 pub returns-in_err-add_result_line : goal.returns-in_err-add_result_line

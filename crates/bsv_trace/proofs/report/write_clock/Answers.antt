@@ -3,7 +3,7 @@ use Rattle.bsv_io.proofs.Sequences.{prefix_flushing}
 use Rattle.bsv_design.specs.declared.design.NamedPart.{NamedPart}
 use Rattle.bsv_design.specs.declared.element.Element.{Element}
 use Rattle.bsv_trace.specs.Texts as texts
-use Rattle.bsv_trace.proofs.Adding.{adds_text}
+use Rattle.bsv_io.proofs.Adding.{adds_text}
 use Rattle.bsv_trace.proofs.report.write_clock.Goals as goal
 
 pub returns-clause-prefix : goal.returns-clause-prefix

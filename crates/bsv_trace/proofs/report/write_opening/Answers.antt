@@ -2,7 +2,7 @@ use Rattle.std.proofs.Common.{◌∙◌, List, ap}
 use Rattle.bsv_io.proofs.Sequences.{prefix_flushing}
 use Rattle.bsv_design.specs.declared.design.NamedPart.{NamedPart}
 use Rattle.bsv_trace.specs.Texts as texts
-use Rattle.bsv_trace.proofs.Adding.{adds_text}
+use Rattle.bsv_io.proofs.Adding.{adds_text}
 use Rattle.bsv_trace.proofs.report.write_opening.Goals as goal
 
 pub returns-clause-prefix : goal.returns-clause-prefix

@@ -1,5 +1,5 @@
 use Rattle.bsv_trace.specs.Texts as texts
-use Rattle.bsv_trace.proofs.Adding.{adds_more, fails_more, adds_then}
+use Rattle.bsv_io.proofs.Adding.{adds_more, fails_more, adds_then}
 use Rattle.bsv_trace.proofs.state.add_line.Goals as goal
 
 pub returns-in_err-add-2 : goal.returns-in_err-add-2

@@ -1,5 +1,5 @@
 use Rattle.bsv_bits.specs.Constants.{constant_text}
-use Rattle.bsv_trace.proofs.Adding.{adds_more, adds_then}
+use Rattle.bsv_io.proofs.Adding.{adds_more, adds_then}
 use Rattle.bsv_trace.proofs.state.add_next_word.Goals as goal
 
 pub returns-in_err-add : goal.returns-in_err-add

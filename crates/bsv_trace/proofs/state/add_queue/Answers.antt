@@ -2,7 +2,7 @@ use Rattle.std.proofs.Common.{◌++◌, ap, codes}
 use Rattle.bsv_trace.specs.Texts.{queue_text}
 use Rattle.bsv_trace.specs.Texts as texts
 use Rattle.bsv_trace.proofs.QueueTexts.{words_joined}
-use Rattle.bsv_trace.proofs.Adding.{adds_more, fails_more, adds_then, adds_text}
+use Rattle.bsv_io.proofs.Adding.{adds_more, fails_more, adds_then, adds_text}
 use Rattle.bsv_trace.proofs.state.add_queue.Goals as goal
 
 pub returns-in_err-add : goal.returns-in_err-add

@@ -2,7 +2,7 @@ use Rattle.std.proofs.Common.{◌∙◌, ◌∷◌, List, ap}
 use Rattle.bsv_prim.specs.declared.part.Part.{Part}
 use Rattle.bsv_design.specs.declared.design.NamedPart.{NamedPart}
 use Rattle.bsv_trace.specs.Texts as texts
-use Rattle.bsv_trace.proofs.Adding.{going_on, going_failed, going_text}
+use Rattle.bsv_io.proofs.Adding.{going_on, going_failed, going_text}
 use Rattle.bsv_trace.proofs.state.add_state.Goals as goal
 
 pub returns-in_err-add_instance : goal.returns-in_err-add_instance

@@ -1,6 +1,6 @@
 use Rattle.std.proofs.Common.{length}
 use Rattle.bsv_trace.specs.Texts as texts
-use Rattle.bsv_trace.proofs.Adding.{Going}
+use Rattle.bsv_io.proofs.Adding.{Going}
 use Rattle.bsv_trace.proofs.state.add_state.Given as goal
 
 abbrev pub decreases-loop-instance : goal.decreases-loop-instance

@@ -1,6 +1,6 @@
 use Rattle.std.proofs.Common.{◌+◌, drop}
 use Rattle.bsv_trace.specs.Texts as texts
-use Rattle.bsv_trace.proofs.Adding.{going_on, going_failed, going_text}
+use Rattle.bsv_io.proofs.Adding.{going_on, going_failed, going_text}
 use Rattle.bsv_trace.proofs.QueueTexts.{words_here}
 use Rattle.bsv_trace.proofs.state.add_words.Goals as goal
 

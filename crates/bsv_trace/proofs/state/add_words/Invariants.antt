@@ -1,6 +1,6 @@
 use Rattle.std.proofs.Common.{drop}
 use Rattle.bsv_trace.specs.Texts as texts
-use Rattle.bsv_trace.proofs.Adding.{Going}
+use Rattle.bsv_io.proofs.Adding.{Going}
 use Rattle.bsv_trace.proofs.state.add_words.Given as goal
 
 abbrev pub invariant-loop-number : goal.invariant-loop-number

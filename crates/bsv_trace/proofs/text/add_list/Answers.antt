@@ -1,5 +1,5 @@
 use Rattle.bsv_trace.specs.Texts as texts
-use Rattle.bsv_trace.proofs.Adding.{adds_more, adds_then}
+use Rattle.bsv_io.proofs.Adding.{adds_more, adds_then}
 use Rattle.bsv_trace.proofs.text.add_list.Goals as goal
 
 pub returns-in_err-add_names : goal.returns-in_err-add_names

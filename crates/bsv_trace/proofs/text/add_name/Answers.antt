@@ -1,4 +1,4 @@
-use Rattle.bsv_trace.proofs.Adding.{adds_then, adds_text}
+use Rattle.bsv_io.proofs.Adding.{adds_then, adds_text}
 use Rattle.bsv_trace.proofs.text.add_name.Goals as goal
 
 pub returns : goal.returns

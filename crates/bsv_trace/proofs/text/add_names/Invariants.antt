@@ -1,6 +1,6 @@
 use Rattle.std.proofs.Common.{length}
 use Rattle.bsv_trace.specs.Texts as texts
-use Rattle.bsv_trace.proofs.Adding.{Going}
+use Rattle.bsv_io.proofs.Adding.{Going}
 use Rattle.bsv_trace.proofs.text.add_names.Given as goal
 
 abbrev pub decreases-loop-place : goal.decreases-loop-place

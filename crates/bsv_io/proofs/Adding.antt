@@ -5,7 +5,7 @@ use Rattle.bsv_io.specs.Faults.{MayFault}
 use Rattle.bsv_io.specs.Writing.{Writing, appended, AppendsPrefix}
 use Rattle.bsv_io.proofs.Appended.{appended-append, AppendsPrefix-then, nothing_put}
 use Rattle.bsv_io.proofs.Sequences.{prefix_of_more, prefix_then, said_then}
-use Rattle.bsv_trace.specs.Adding.{Adds}
+use Rattle.bsv_io.specs.Adding.{Adds}
 
 -- what may fault in a later part may fault in the whole
 later_fault : (first second third : ℕ) → first ≤ second → MayFault second third → MayFault first third
