@@ -280,7 +280,7 @@ fn net_of(
 /// The design of a tree with its guards, its schedule, which obeys the attributes, and its net, which
 /// carries the tree; or the first refusal of two calls of one element, of the two orders, or of the marks
 /// of rules.
-#[tactic(auto, using(crate::proofs::ScheduledTrees::compiled_of, crate::proofs::ScheduledTrees::executed_order, crate::proofs::ScheduledTrees::urged_order))]
+#[tactic(auto, using(crate::proofs::ScheduledTrees::executed_order, crate::proofs::ScheduledTrees::urged_order))]
 pub fn scheduled<R: Threads + Sync>(
     rt: &R,
     alloc: Global,

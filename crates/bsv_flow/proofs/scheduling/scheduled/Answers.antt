@@ -1,6 +1,6 @@
 use Rattle.std.proofs.Common.{◌≡◌, ℕ, Err, sym, ap, ◌∙◌}
 use Rattle.std.proofs.lemmas.Result.{err_from_is_err_and}
-use Rattle.bsv_flow.proofs.ScheduledTrees.{fault_same, unexecuted, unurged, unasserted, scheduled_of, obeyed_of}
+use Rattle.bsv_flow.proofs.ScheduledTrees.{fault_same, unexecuted, unurged, unasserted, scheduled_of, obeyed_of, rules_there, schedule_there, compiled_of}
 use Rattle.bsv_flow.proofs.scheduling.scheduled.Goals as goal
 
 pub returns-in_err-execution-clause-refused : goal.returns-in_err-execution-clause-refused
@@ -42,3 +42,32 @@ returns-clause-obeys g c =
     obeyed_of _ c.in_ok-design.design made.alike made.parts c.in_ok-schedule.schedule
     c.in_ok-execution.execution c.in_ok-urgency.urgency orders.execution orders.urgency
     c.in_ok-execution.ensures.executes c.in_ok-urgency.ensures.urges orders.stops c.in_ok-asserted.ensures.accepted
+
+pub net_of-requires-clause-rules : goal.net_of-requires-clause-rules
+net_of-requires-clause-rules g c =
+    let made = c.in_ok-design.ensures in
+    rules_there _ c.in_ok-design.design made.alike made.kept
+
+pub net_of-requires-clause-schedule : goal.net_of-requires-clause-schedule
+net_of-requires-clause-schedule g c =
+    let orders = c.in_ok-schedule.ensures in
+    schedule_there c.in_ok-design.design c.in_ok-schedule.schedule c.in_ok-execution.execution c.in_ok-urgency.urgency
+    orders.execution orders.urgency c.in_ok-execution.ensures.executes c.in_ok-urgency.ensures.urges orders.stops
+
+pub returns-clause-compiled : goal.returns-clause-compiled
+returns-clause-compiled g c =
+    let made = c.in_ok-design.ensures in
+    let net = c.in_ok-net.ensures in
+    compiled_of _ c.in_ok-design.design c.in_ok-design.guards c.in_ok-schedule.schedule c.in_ok-net.net
+    made.alike made.name made.parts made.needs made.lifted net.carries net.no_result
+
+pub returns-clause-runs : goal.returns-clause-runs
+returns-clause-runs g c =
+    let made = c.in_ok-design.ensures in
+    let orders = c.in_ok-schedule.ensures in
+    record {
+      rules = rules_there _ c.in_ok-design.design made.alike made.kept;
+      needs = made.needs;
+      schedule = schedule_there c.in_ok-design.design c.in_ok-schedule.schedule c.in_ok-execution.execution c.in_ok-urgency.urgency
+          orders.execution orders.urgency c.in_ok-execution.ensures.executes c.in_ok-urgency.ensures.urges orders.stops;
+    }
