@@ -1,5 +1,5 @@
 -- The schedule of a design is that of its tree.
-use Rattle.std.proofs.Common.{◌≡◌, ◌∙◌, ℕ, zero, suc, ◌+◌, ◌-◌, ◌<◌, ◌≤◌, List, [], ◌∷◌, ◌++◌, map, length, Option, Some, None, refl, sym, ap, ap₂, subst, arith}
+use Rattle.std.proofs.Common.{◌≡◌, ◌∙◌, ℕ, zero, suc, ◌-◌, ◌<◌, ◌≤◌, List, [], ◌∷◌, ◌++◌, map, length, Option, Some, None, refl, sym, ap, ap₂, subst, arith}
 use Rattle.std.specs.Prelude.{slice_get, Bool, false, Result, Ok, Err}
 use Rattle.std.specs.List.{list_any}
 use Rattle.std.proofs.Math.Path.{fun_ext}
@@ -16,10 +16,10 @@ use Rattle.bsv_design.specs.declared.tree.Pair.{Pair}
 use Rattle.bsv_design.specs.Bodies.{words}
 use Rattle.bsv_design.specs.Guards.{needs_of}
 use Rattle.bsv_design.specs.Relations.{KeepsTheRule, sites_of, no_answers, goes, feeds}
-use Rattle.bsv_design.specs.Schemes.{Scheme, Outline, AreAlike, trace_of, design_scheme, tree_scheme, kinds_of, filled, ports_of, outline}
+use Rattle.bsv_design.specs.Schemes.{Scheme, Outline, AreAlike, trace_of, design_scheme, tree_scheme, kinds_of, filled, ports_of}
 use Rattle.bsv_design.specs.Seen.{blueprint}
 use Rattle.bsv_design.specs.Sources.{parts_among}
-use Rattle.bsv_design.specs.Traces.{Site, Demand, Trace, body_trace, site_at, demand_at}
+use Rattle.bsv_design.specs.Traces.{Trace, body_trace, site_at, demand_at}
 use Rattle.bsv_design.specs.Trees.{Hierarchy}
 use Rattle.bsv_design.specs.Roles.{is_rule, is_value}
 use Rattle.bsv_graph.specs.Elements.{relating, has_role, edges_of, is_ordering, is_urging, preempts}
@@ -58,10 +58,9 @@ use Rattle.bsv_flow.specs.declared.refusal.CompileFault.{CompileFault}
 use Rattle.bsv_flow.specs.declared.refusal.CompileFault.TheVariants as fault
 use Rattle.bsv_flow.specs.declared.refusal.Refusal.{Refusal}
 use Rattle.bsv_flow.specs.declared.refusal.Refusal.TheVariants as refusal
-use Rattle.bsv_flow.specs.declared.scheduling.Compiled.{Compiled}
 use Rattle.bsv_flow.specs.Attributes.{attribute_word}
-use Rattle.bsv_flow.specs.Breaches.{element_name, outline_name, part_path, method_name, or_no_name}
-use Rattle.bsv_flow.specs.Schedulings.{Subject, subject, design_subject, related, IsOrdered, IsScheduled, order_told, urgency_told, pair_told, demand_name, call_name, names_in, place_name, implicit_told, stopper_told, condition_at, call_of, call_at, call_text, texts_in, IsUnexecuted, IsUnurged, IsUnasserted, Unscheduled, IsCompiledOf}
+use Rattle.bsv_flow.specs.Breaches.{element_name, outline_name, or_no_name}
+use Rattle.bsv_flow.specs.Schedulings.{subject, design_subject, related, IsOrdered, IsScheduled, order_told, urgency_told, pair_told, demand_name, call_name, names_in, implicit_told, stopper_told, condition_at, call_of, call_at, call_text, texts_in, IsUnexecuted, IsUnurged, IsUnasserted, Unscheduled, IsCompiledOf}
 
 -- ---- names of conditions and calls
 

@@ -1,6 +1,6 @@
 -- What scheduling answers of a tree: its schedule, or the first refusal behind building (Hoe and Arvind 2004; Bluespec
 -- reference guide, "Scheduling attributes").
-use Rattle.std.specs.Prelude.{◌≡◌, ℕ, false, List, [], ◌++◌, map, slice_get, Option, Some, None, codes}
+use Rattle.std.specs.Prelude.{◌≡◌, ℕ, false, List, [], ◌++◌, map, slice_get, Option, Some, None}
 use Rattle.bsv_design.specs.declared.design.Design.{Design}
 use Rattle.bsv_design.specs.declared.design.NamedPart.{NamedPart}
 use Rattle.bsv_design.specs.declared.element.Call.{Call}

@@ -1,4 +1,4 @@
-use Rattle.std.proofs.Common.{◌≡◌, ℕ, Err, sym, ap, ◌∙◌}
+use Rattle.std.proofs.Common.{Err, sym, ap, ◌∙◌}
 use Rattle.std.proofs.lemmas.Result.{err_from_is_err_and}
 use Rattle.bsv_flow.proofs.ScheduledTrees.{fault_same, unexecuted, unurged, unasserted, scheduled_of, obeyed_of, rules_there, schedule_there, compiled_of}
 use Rattle.bsv_flow.proofs.scheduling.scheduled.Goals as goal
