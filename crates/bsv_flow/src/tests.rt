@@ -2,7 +2,7 @@ use crate::{
     CompileFault, Compiled, Loaded, compile, load, one_building, one_plan, one_schedule, tree,
     typed,
 };
-use bsv_attr::{answered, listed, obeyed, same_asserted, same_obeyed};
+use bsv_attr::{answered, listed as listed_stops, obeyed, same_asserted, same_obeyed};
 use bsv_bits::{Name, OutOfMemory};
 use bsv_design::Tree;
 use bsv_io::{MemFiles, MemSink};
@@ -340,7 +340,7 @@ fn call_laws() {
     one_execution();
     one_urgency();
     answered();
-    listed();
+    listed_stops();
     obeyed();
     same_asserted();
     same_obeyed();

@@ -1,4 +1,4 @@
-use Rattle.std.proofs.Common.{◌≡◌, ◌+◌, ℕ, List, ◌++◌, Err, sym, ap, ◌∙◌, subst, append_assoc, arith, length, length-append}
+use Rattle.std.proofs.Common.{◌≡◌, ◌+◌, ℕ, List, [], ◌++◌, Err, refl, sym, ap, ◌∙◌, subst, append-nil, append_assoc, arith, length, length-append}
 use Rattle.std.proofs.lemmas.Result.{err_from_is_err_and}
 use Rattle.bsv_top.specs.declared.halt.Halt.TheVariants as halt
 use Rattle.bsv_top.specs.Running.{HasRun, IsBegunOf, IsFaultyOf}
@@ -22,6 +22,19 @@ returns-in_err-run_ended-clause-begun g c = fails c.from_residual.result _ (λ s
     subst (λ (t : List ℕ). IsBegunOf c.args.compiled.now start t (g.O.Sink.writing c.run_ended.new.out))
     (cut read gone.0 c.in-Some.ended.now c.in-Some.behind.now c.args.piece.now c.loop-ended.left.now left gone.1 first.whole)
     (c.in_err-run_ended.ensures.begun start (read ++ gone.0) (c.in-Some.behind.now ++ left) (gone.2 start read run)))
+
+pub loop-ended-init : goal.loop-ended-init
+loop-ended-init g c = record {
+  gone = (
+    [],
+    refl,
+    λ start read run.
+        subst (λ (t : List ℕ). HasRun c.args.compiled.now start t c.args.self.now (g.O.Sink.writing c.args.out.now)) (sym (append-nil read)) run,
+  );
+  long = refl;
+  fits = c.requires.fits;
+  faults = refl;
+}
 
 pub loop-ended-preserved : goal.loop-ended-preserved
 loop-ended-preserved g c =
