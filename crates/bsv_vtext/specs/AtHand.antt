@@ -9,7 +9,8 @@ use Rattle.bsv_vtext.specs.declared.ports.Listing.{Listing}
 use Rattle.bsv_vtext.specs.declared.ports.Listing.TheVariants as listing
 use Rattle.bsv_vtext.specs.declared.blocks.Line.{Line}
 use Rattle.bsv_vtext.specs.declared.blocks.Line.TheVariants as kind
-use Rattle.bsv_vtext.specs.Signals.{Contents, Port}
+use Rattle.bsv_vtext.specs.declared.names.Scope as names
+use Rattle.bsv_vtext.specs.Signals.{Contents, Port, Scope}
 use Rattle.bsv_vtext.specs.VText.{listed_port, port_line, start_line, reset_line, atom_text}
 
 abbrev pub contents : VModule → Contents
@@ -24,6 +25,9 @@ contents m = record {
 
 abbrev pub texts : Texts → List ℕ
 texts t = t.front.now ++ (t.middle.now ++ t.back.now)
+
+abbrev pub scope : names.Scope → Scope
+scope s = record { methods = s.methods.now; registers = s.registers.now; wires = s.wires.now }
 
 -- ---- ports
 
@@ -41,11 +45,11 @@ listed l ps = flat_map (port_text l) ps
 -- ---- sides
 
 -- two atoms, with texts before, between and behind them
-abbrev pub two : Contents → Texts → Atom → Atom → List ℕ
-two c t a b = t.front.now ++ (atom_text c a ++ (t.middle.now ++ (atom_text c b ++ t.back.now)))
+abbrev pub two : Scope → Texts → Atom → Atom → List ℕ
+two s t a b = t.front.now ++ (atom_text s a ++ (t.middle.now ++ (atom_text s b ++ t.back.now)))
 
-abbrev pub signed : Contents → List ℕ → Atom → Atom → List ℕ
-signed c comparison a b = concat (codes "$signed(" ∷ atom_text c a ∷ comparison ∷ atom_text c b ∷ codes ")" ∷ [])
+abbrev pub signed : Scope → List ℕ → Atom → Atom → List ℕ
+signed s comparison a b = concat (codes "$signed(" ∷ atom_text s a ∷ comparison ∷ atom_text s b ∷ codes ")" ∷ [])
 
 -- ---- registers
 

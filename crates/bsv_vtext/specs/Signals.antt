@@ -17,6 +17,15 @@ pub record Contents : Type 0 where
   pub assigns : List Assign
   pub nexts : List Atom
 
+-- the signals that a text names, by their places
+pub record Scope : Type 0 where
+  pub methods : List VMethod
+  pub registers : List VRegister
+  pub wires : List VWire
+
+abbrev pub scope : Contents → Scope
+scope c = record { methods = c.methods; registers = c.registers; wires = c.wires }
+
 -- ---- names of ports
 
 -- of a method and of one of its arguments

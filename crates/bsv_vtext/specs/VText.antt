@@ -14,7 +14,7 @@ use Rattle.bsv_vtext.specs.declared.tree.Target.{Target}
 use Rattle.bsv_vtext.specs.declared.tree.Target.TheVariants as target
 use Rattle.bsv_vtext.specs.declared.tree.VOperator.{VOperator}
 use Rattle.bsv_vtext.specs.declared.tree.VOperator.TheVariants as operator
-use Rattle.bsv_vtext.specs.Signals.{Contents, Port, ports, argument_name, enable_name, ready_name, method_name, own_name, register_name, wire_name}
+use Rattle.bsv_vtext.specs.Signals.{Contents, Scope, scope, Port, ports, argument_name, enable_name, ready_name, method_name, own_name, register_name, wire_name}
 
 -- ---- declarations
 
@@ -48,17 +48,17 @@ declarations ps rs ws =
 
 -- ---- expressions
 
-abbrev pub atom_text : Contents → Atom → List ℕ
-atom_text c (atom.Enable m) = enable_name (method_name c.methods m)
-atom_text c (atom.Argument m k) = argument_name (method_name c.methods m) (own_name c.methods m k)
-atom_text c (atom.Register k) = register_name c.registers k
-atom_text c (atom.Wire k) = wire_name c.wires k
-atom_text c (atom.Constant w) = constant_text w
+abbrev pub atom_text : Scope → Atom → List ℕ
+atom_text s (atom.Enable m) = enable_name (method_name s.methods m)
+atom_text s (atom.Argument m k) = argument_name (method_name s.methods m) (own_name s.methods m k)
+atom_text s (atom.Register k) = register_name s.registers k
+atom_text s (atom.Wire k) = wire_name s.wires k
+atom_text s (atom.Constant w) = constant_text w
 
-abbrev pub target_text : Contents → Target → List ℕ
-target_text c (target.Wire k) = wire_name c.wires k
-target_text c (target.Ready m) = ready_name (method_name c.methods m)
-target_text c (target.Result m) = method_name c.methods m
+abbrev pub target_text : Scope → Target → List ℕ
+target_text s (target.Wire k) = wire_name s.wires k
+target_text s (target.Ready m) = ready_name (method_name s.methods m)
+target_text s (target.Result m) = method_name s.methods m
 
 abbrev pub operator_text : VOperator → List ℕ
 operator_text operator.Add = codes " + "
@@ -75,26 +75,26 @@ operator_text operator.Shl = codes " << "
 operator_text operator.Shr = codes " >> "
 
 -- an atom behind another one, in a join
-abbrev pub joined_atom : Contents → Atom → List ℕ
-joined_atom c a = codes ", " ++ atom_text c a
+abbrev pub joined_atom : Scope → Atom → List ℕ
+joined_atom s a = codes ", " ++ atom_text s a
 
-abbrev pub joined_atoms : Contents → List Atom → List ℕ
-joined_atoms c [] = []
-joined_atoms c (a ∷ rest) = atom_text c a ++ flat_map (joined_atom c) rest
+abbrev pub joined_atoms : Scope → List Atom → List ℕ
+joined_atoms s [] = []
+joined_atoms s (a ∷ rest) = atom_text s a ++ flat_map (joined_atom s) rest
 
-abbrev pub side_text : Contents → Side → List ℕ
-side_text c (side.Is a) = atom_text c a
-side_text c (side.Not a) = codes "~" ++ atom_text c a
-side_text c (side.Two o a b) = concat (atom_text c a ∷ operator_text o ∷ atom_text c b ∷ [])
-side_text c (side.LessSigned a b) = concat (codes "$signed(" ∷ atom_text c a ∷ codes ") < $signed(" ∷ atom_text c b ∷ codes ")" ∷ [])
-side_text c (side.UpToSigned a b) = concat (codes "$signed(" ∷ atom_text c a ∷ codes ") <= $signed(" ∷ atom_text c b ∷ codes ")" ∷ [])
-side_text c (side.ShiftSigned a b) = concat (codes "$signed(" ∷ atom_text c a ∷ codes ") >>> " ∷ atom_text c b ∷ [])
-side_text c (side.Pick t a b) = concat (atom_text c t ∷ codes " ? " ∷ atom_text c a ∷ codes " : " ∷ atom_text c b ∷ [])
-side_text c (side.Join parts) = concat (codes "{" ∷ joined_atoms c parts ∷ codes "}" ∷ [])
-side_text c (side.Slice a high low) = concat (atom_text c a ∷ codes "[" ∷ decimal high ∷ codes ":" ∷ decimal low ∷ codes "]" ∷ [])
+abbrev pub side_text : Scope → Side → List ℕ
+side_text s (side.Is a) = atom_text s a
+side_text s (side.Not a) = codes "~" ++ atom_text s a
+side_text s (side.Two o a b) = concat (atom_text s a ∷ operator_text o ∷ atom_text s b ∷ [])
+side_text s (side.LessSigned a b) = concat (codes "$signed(" ∷ atom_text s a ∷ codes ") < $signed(" ∷ atom_text s b ∷ codes ")" ∷ [])
+side_text s (side.UpToSigned a b) = concat (codes "$signed(" ∷ atom_text s a ∷ codes ") <= $signed(" ∷ atom_text s b ∷ codes ")" ∷ [])
+side_text s (side.ShiftSigned a b) = concat (codes "$signed(" ∷ atom_text s a ∷ codes ") >>> " ∷ atom_text s b ∷ [])
+side_text s (side.Pick t a b) = concat (atom_text s t ∷ codes " ? " ∷ atom_text s a ∷ codes " : " ∷ atom_text s b ∷ [])
+side_text s (side.Join parts) = concat (codes "{" ∷ joined_atoms s parts ∷ codes "}" ∷ [])
+side_text s (side.Slice a high low) = concat (atom_text s a ∷ codes "[" ∷ decimal high ∷ codes ":" ∷ decimal low ∷ codes "]" ∷ [])
 
-abbrev pub assign_line : Contents → Assign → List ℕ
-assign_line c x = concat (codes "  assign " ∷ target_text c x.target ∷ codes " = " ∷ side_text c x.side ∷ codes ";\n" ∷ [])
+abbrev pub assign_line : Scope → Assign → List ℕ
+assign_line s x = concat (codes "  assign " ∷ target_text s x.target ∷ codes " = " ∷ side_text s x.side ∷ codes ";\n" ∷ [])
 
 -- ---- blocks
 
@@ -109,27 +109,27 @@ edge_line name word = concat (codes "      " ∷ name ∷ codes " <= " ∷ word 
 abbrev pub reset_line : VRegister → List ℕ
 reset_line r = if r.resets then edge_line r.name (constant_text r.start) else []
 
-abbrev pub next_line : Contents → VRegister → Atom → List ℕ
-next_line c r a = edge_line r.name (atom_text c a)
+abbrev pub next_line : Scope → VRegister → Atom → List ℕ
+next_line s r a = edge_line r.name (atom_text s a)
 
-abbrev pub next_lines : Contents → List VRegister → List Atom → List ℕ
-next_lines c (r ∷ rs) (a ∷ nexts) = next_line c r a ++ next_lines c rs nexts
-next_lines c _ _ = []
+abbrev pub next_lines : Scope → List VRegister → List Atom → List ℕ
+next_lines s (r ∷ rs) (a ∷ nexts) = next_line s r a ++ next_lines s rs nexts
+next_lines s _ _ = []
 
-unfoldable pub some_blocks : Contents → List VRegister → List Atom → List ℕ
-some_blocks c rs nexts =
+unfoldable pub some_blocks : Scope → List VRegister → List Atom → List ℕ
+some_blocks s rs nexts =
     concat (codes "  initial begin\n" ∷ flat_map start_line rs ∷
     codes "  end\n  always @(posedge CLK) begin\n    if (!RST_N) begin\n" ∷ flat_map reset_line rs ∷
-    codes "    end else begin\n" ∷ next_lines c rs nexts ∷ codes "    end\n  end\n" ∷ [])
+    codes "    end else begin\n" ∷ next_lines s rs nexts ∷ codes "    end\n  end\n" ∷ [])
 
 -- a module without registers has none
-abbrev pub blocks : Contents → List VRegister → List Atom → List ℕ
-blocks c [] nexts = []
-blocks c (r ∷ rs) nexts = some_blocks c (r ∷ rs) nexts
+abbrev pub blocks : Scope → List VRegister → List Atom → List ℕ
+blocks s [] nexts = []
+blocks s (r ∷ rs) nexts = some_blocks s (r ∷ rs) nexts
 
 -- ---- the whole
 
 unfoldable pub vtext : Contents → List ℕ
 vtext c =
     concat (header c.name (ports c.methods) ∷ declarations (ports c.methods) c.registers c.wires ∷
-    flat_map (assign_line c) c.assigns ∷ blocks c c.registers c.nexts ∷ codes "endmodule\n" ∷ [])
+    flat_map (assign_line (scope c)) c.assigns ∷ blocks (scope c) c.registers c.nexts ∷ codes "endmodule\n" ∷ [])

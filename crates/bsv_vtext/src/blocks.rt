@@ -4,8 +4,7 @@ ghost use Rattle.bsv_io.specs.Adding.{Adds};
 ghost use Rattle.bsv_vtext.specs.AtHand as hand;
 ghost use Rattle.bsv_vtext.specs.VText as spec;
 
-use crate::modules::VModule;
-use crate::names::add_atom;
+use crate::names::{Scope, add_atom};
 use crate::pieces::{Texts, add_texts};
 use crate::tree::{Atom, VRegister};
 use bsv_io::{Failed, PutBuffer, Sink, add};
@@ -23,16 +22,16 @@ enum Line {
 fn add_set<S: Sink>(
     buffer: &mut PutBuffer,
     sink: &mut S,
-    verilog: &VModule,
+    scope: Scope,
     texts: Texts,
     atom: Atom,
 ) -> Result<(), Failed>
     ensures { Adds (hand.texts texts.entry
-        ++ (spec.atom_text (hand.contents verilog.now) atom ++ codes ";\n")) result
+        ++ (spec.atom_text (hand.scope scope.entry) atom ++ codes ";\n")) result
         buffer.old buffer.new (S.writing sink.old) (S.writing sink.new) }
 {
     add_texts(buffer, sink, texts)?;
-    add_atom(buffer, sink, verilog, atom)?;
+    add_atom(buffer, sink, scope, atom)?;
     add(buffer, sink, b";\n")
 }
 
@@ -40,7 +39,7 @@ fn add_set<S: Sink>(
 fn add_start<S: Sink>(
     buffer: &mut PutBuffer,
     sink: &mut S,
-    verilog: &VModule,
+    scope: Scope,
     register: &VRegister,
 ) -> Result<(), Failed>
     ensures { Adds (spec.start_line register.now) result buffer.old buffer.new
@@ -51,18 +50,18 @@ fn add_start<S: Sink>(
         middle: register.name.bytes(),
         back: b" = ",
     };
-    add_set(buffer, sink, verilog, texts, Atom::Constant(register.start))
+    add_set(buffer, sink, scope, texts, Atom::Constant(register.start))
 }
 
 /// Adds the line of what a register takes over at the edge.
 fn add_edge<S: Sink>(
     buffer: &mut PutBuffer,
     sink: &mut S,
-    verilog: &VModule,
+    scope: Scope,
     name: &[u8],
     atom: Atom,
 ) -> Result<(), Failed>
-    ensures { Adds (spec.edge_line name.now (spec.atom_text (hand.contents verilog.now) atom)) result
+    ensures { Adds (spec.edge_line name.now (spec.atom_text (hand.scope scope.entry) atom)) result
         buffer.old buffer.new (S.writing sink.old) (S.writing sink.new) }
 {
     let texts = Texts {
@@ -70,14 +69,14 @@ fn add_edge<S: Sink>(
         middle: name,
         back: b" <= ",
     };
-    add_set(buffer, sink, verilog, texts, atom)
+    add_set(buffer, sink, scope, texts, atom)
 }
 
 /// Adds the line of a register that the reset sets.
 fn add_reset<S: Sink>(
     buffer: &mut PutBuffer,
     sink: &mut S,
-    verilog: &VModule,
+    scope: Scope,
     register: &VRegister,
 ) -> Result<(), Failed>
     ensures { Adds (spec.reset_line register.now) result buffer.old buffer.new
@@ -85,7 +84,7 @@ fn add_reset<S: Sink>(
 {
     if register.resets {
         let start = Atom::Constant(register.start);
-        add_edge(buffer, sink, verilog, register.name.bytes(), start)
+        add_edge(buffer, sink, scope, register.name.bytes(), start)
     } else {
         add(buffer, sink, b"")
     }
@@ -95,7 +94,7 @@ fn add_reset<S: Sink>(
 fn add_line<S: Sink>(
     buffer: &mut PutBuffer,
     sink: &mut S,
-    verilog: &VModule,
+    scope: Scope,
     line: Line,
     register: &VRegister,
 ) -> Result<(), Failed>
@@ -103,8 +102,8 @@ fn add_line<S: Sink>(
         (S.writing sink.old) (S.writing sink.new) }
 {
     match line {
-        Line::Start => add_start(buffer, sink, verilog, register),
-        Line::Reset => add_reset(buffer, sink, verilog, register),
+        Line::Start => add_start(buffer, sink, scope, register),
+        Line::Reset => add_reset(buffer, sink, scope, register),
     }
 }
 
@@ -112,7 +111,7 @@ fn add_line<S: Sink>(
 fn add_lines<S: Sink>(
     buffer: &mut PutBuffer,
     sink: &mut S,
-    verilog: &VModule,
+    scope: Scope,
     line: Line,
     registers: &[VRegister],
 ) -> Result<(), Failed>
@@ -121,7 +120,7 @@ fn add_lines<S: Sink>(
 {
     let mut left = registers;
     while let Some((register, others)) = left.split_first() {
-        add_line(buffer, sink, verilog, line, register)?;
+        add_line(buffer, sink, scope, line, register)?;
         left = others;
     }
     Ok(())
@@ -131,25 +130,25 @@ fn add_lines<S: Sink>(
 fn add_next<S: Sink>(
     buffer: &mut PutBuffer,
     sink: &mut S,
-    verilog: &VModule,
+    scope: Scope,
     register: &VRegister,
     atom: Atom,
 ) -> Result<(), Failed>
-    ensures { Adds (spec.next_line (hand.contents verilog.now) register.now atom) result
+    ensures { Adds (spec.next_line (hand.scope scope.entry) register.now atom) result
         buffer.old buffer.new (S.writing sink.old) (S.writing sink.new) }
 {
-    add_edge(buffer, sink, verilog, register.name.bytes(), atom)
+    add_edge(buffer, sink, scope, register.name.bytes(), atom)
 }
 
 /// Adds what each register takes over.
 fn add_nexts<S: Sink>(
     buffer: &mut PutBuffer,
     sink: &mut S,
-    verilog: &VModule,
+    scope: Scope,
     registers: &[VRegister],
     nexts: &[Atom],
 ) -> Result<(), Failed>
-    ensures { Adds (spec.next_lines (hand.contents verilog.now) registers.now nexts.now) result
+    ensures { Adds (spec.next_lines (hand.scope scope.entry) registers.now nexts.now) result
         buffer.old buffer.new (S.writing sink.old) (S.writing sink.new) }
 {
     let mut left = registers;
@@ -158,7 +157,7 @@ fn add_nexts<S: Sink>(
         let Some((atom, more)) = held.split_first() else {
             return Ok(());
         };
-        add_next(buffer, sink, verilog, register, *atom)?;
+        add_next(buffer, sink, scope, register, *atom)?;
         left = others;
         held = more;
     }
@@ -170,23 +169,23 @@ fn add_nexts<S: Sink>(
 fn add_some_blocks<S: Sink>(
     buffer: &mut PutBuffer,
     sink: &mut S,
-    verilog: &VModule,
+    scope: Scope,
     registers: &[VRegister],
     nexts: &[Atom],
 ) -> Result<(), Failed>
-    ensures { Adds (spec.some_blocks (hand.contents verilog.now) registers.now nexts.now) result
+    ensures { Adds (spec.some_blocks (hand.scope scope.entry) registers.now nexts.now) result
         buffer.old buffer.new (S.writing sink.old) (S.writing sink.new) }
 {
     add(buffer, sink, b"  initial begin\n")?;
-    add_lines(buffer, sink, verilog, Line::Start, registers)?;
+    add_lines(buffer, sink, scope, Line::Start, registers)?;
     add(
         buffer,
         sink,
         b"  end\n  always @(posedge CLK) begin\n    if (!RST_N) begin\n",
     )?;
-    add_lines(buffer, sink, verilog, Line::Reset, registers)?;
+    add_lines(buffer, sink, scope, Line::Reset, registers)?;
     add(buffer, sink, b"    end else begin\n")?;
-    add_nexts(buffer, sink, verilog, registers, nexts)?;
+    add_nexts(buffer, sink, scope, registers, nexts)?;
     add(buffer, sink, b"    end\n  end\n")
 }
 
@@ -194,15 +193,15 @@ fn add_some_blocks<S: Sink>(
 pub(crate) fn add_blocks<S: Sink>(
     buffer: &mut PutBuffer,
     sink: &mut S,
-    verilog: &VModule,
+    scope: Scope,
     registers: &[VRegister],
     nexts: &[Atom],
 ) -> Result<(), Failed>
-    ensures { Adds (spec.blocks (hand.contents verilog.now) registers.now nexts.now) result
+    ensures { Adds (spec.blocks (hand.scope scope.entry) registers.now nexts.now) result
         buffer.old buffer.new (S.writing sink.old) (S.writing sink.new) }
 {
     match registers {
         [] => add(buffer, sink, b""),
-        [_, ..] => add_some_blocks(buffer, sink, verilog, registers, nexts),
+        [_, ..] => add_some_blocks(buffer, sink, scope, registers, nexts),
     }
 }

@@ -4,10 +4,17 @@ ghost use Rattle.bsv_vtext.specs.AtHand as hand;
 ghost use Rattle.bsv_vtext.specs.Signals as signals;
 ghost use Rattle.bsv_vtext.specs.VText as spec;
 
-use crate::modules::VModule;
 use crate::pieces::{Texts, add_texts};
 use crate::tree::{Atom, Target, VMethod, VRegister, VWire};
 use bsv_io::{Failed, PutBuffer, Sink, add_constant};
+
+/// The signals that a text names, by their places.
+#[derive(Clone, Copy)]
+pub(crate) struct Scope<'a> {
+    pub methods: &'a [VMethod],
+    pub registers: &'a [VRegister],
+    pub wires: &'a [VWire],
+}
 
 /// A name as it is.
 pub(crate) fn plain(name: &[u8]) -> Texts<'_>
@@ -97,25 +104,24 @@ fn own_name(methods: &[VMethod], method: u32, place: u32) -> &[u8]
 pub(crate) fn add_atom<S: Sink>(
     buffer: &mut PutBuffer,
     sink: &mut S,
-    verilog: &VModule,
+    scope: Scope,
     atom: Atom,
 ) -> Result<(), Failed>
-    ensures { Adds (spec.atom_text (hand.contents verilog.now) atom) result buffer.old buffer.new
+    ensures { Adds (spec.atom_text (hand.scope scope.entry) atom) result buffer.old buffer.new
         (S.writing sink.old) (S.writing sink.new) }
 {
-    let methods = verilog.methods.as_slice();
     match atom {
-        Atom::Enable(place) => add_texts(buffer, sink, enable(method_name(methods, place))),
+        Atom::Enable(place) => add_texts(buffer, sink, enable(method_name(scope.methods, place))),
         Atom::Argument(method, place) => {
-            let own = own_name(methods, method, place);
-            add_texts(buffer, sink, argument(method_name(methods, method), own))
+            let own = own_name(scope.methods, method, place);
+            add_texts(buffer, sink, argument(method_name(scope.methods, method), own))
         }
         Atom::Register(place) => {
-            let name = register_name(verilog.registers.as_slice(), place);
+            let name = register_name(scope.registers, place);
             add_texts(buffer, sink, plain(name))
         }
         Atom::Wire(place) => {
-            let name = wire_name(verilog.wires.as_slice(), place);
+            let name = wire_name(scope.wires, place);
             add_texts(buffer, sink, plain(name))
         }
         Atom::Constant(word) => add_constant(buffer, sink, word),
@@ -126,19 +132,18 @@ pub(crate) fn add_atom<S: Sink>(
 pub(crate) fn add_target<S: Sink>(
     buffer: &mut PutBuffer,
     sink: &mut S,
-    verilog: &VModule,
+    scope: Scope,
     target: Target,
 ) -> Result<(), Failed>
-    ensures { Adds (spec.target_text (hand.contents verilog.now) target) result
+    ensures { Adds (spec.target_text (hand.scope scope.entry) target) result
         buffer.old buffer.new (S.writing sink.old) (S.writing sink.new) }
 {
-    let methods = verilog.methods.as_slice();
     match target {
         Target::Wire(place) => {
-            let name = wire_name(verilog.wires.as_slice(), place);
+            let name = wire_name(scope.wires, place);
             add_texts(buffer, sink, plain(name))
         }
-        Target::Ready(place) => add_texts(buffer, sink, ready(method_name(methods, place))),
-        Target::Result(place) => add_texts(buffer, sink, plain(method_name(methods, place))),
+        Target::Ready(place) => add_texts(buffer, sink, ready(method_name(scope.methods, place))),
+        Target::Result(place) => add_texts(buffer, sink, plain(method_name(scope.methods, place))),
     }
 }

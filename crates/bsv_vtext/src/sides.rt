@@ -4,8 +4,7 @@ ghost use Rattle.bsv_io.specs.Adding.{Adds};
 ghost use Rattle.bsv_vtext.specs.AtHand as hand;
 ghost use Rattle.bsv_vtext.specs.VText as spec;
 
-use crate::modules::VModule;
-use crate::names::{add_atom, add_target};
+use crate::names::{Scope, add_atom, add_target};
 use crate::pieces::{Texts, add_all};
 use crate::tree::{Assign, Atom, Side, VOperator};
 use bsv_io::{Failed, PutBuffer, Sink, add};
@@ -35,33 +34,33 @@ fn operator_text(operator: VOperator) -> &'static [u8]
 fn add_behind<S: Sink>(
     buffer: &mut PutBuffer,
     sink: &mut S,
-    verilog: &VModule,
+    scope: Scope,
     front: &[u8],
     atom: Atom,
 ) -> Result<(), Failed>
-    ensures { Adds (front.now ++ spec.atom_text (hand.contents verilog.now) atom) result
+    ensures { Adds (front.now ++ spec.atom_text (hand.scope scope.entry) atom) result
         buffer.old buffer.new (S.writing sink.old) (S.writing sink.new) }
 {
     add(buffer, sink, front)?;
-    add_atom(buffer, sink, verilog, atom)
+    add_atom(buffer, sink, scope, atom)
 }
 
 /// Adds two atoms, with texts before, between and behind them.
 fn add_two<S: Sink>(
     buffer: &mut PutBuffer,
     sink: &mut S,
-    verilog: &VModule,
+    scope: Scope,
     texts: Texts,
     first: Atom,
     second: Atom,
 ) -> Result<(), Failed>
-    ensures { Adds (hand.two (hand.contents verilog.now) texts.entry first second) result
+    ensures { Adds (hand.two (hand.scope scope.entry) texts.entry first second) result
         buffer.old buffer.new (S.writing sink.old) (S.writing sink.new) }
 {
     add(buffer, sink, texts.front)?;
-    add_atom(buffer, sink, verilog, first)?;
+    add_atom(buffer, sink, scope, first)?;
     add(buffer, sink, texts.middle)?;
-    add_atom(buffer, sink, verilog, second)?;
+    add_atom(buffer, sink, scope, second)?;
     add(buffer, sink, texts.back)
 }
 
@@ -69,12 +68,12 @@ fn add_two<S: Sink>(
 fn add_operation<S: Sink>(
     buffer: &mut PutBuffer,
     sink: &mut S,
-    verilog: &VModule,
+    scope: Scope,
     operator: VOperator,
     first: Atom,
     second: Atom,
 ) -> Result<(), Failed>
-    ensures { Adds (spec.side_text (hand.contents verilog.now) (Side.Two operator first second))
+    ensures { Adds (spec.side_text (hand.scope scope.entry) (Side.Two operator first second))
         result buffer.old buffer.new (S.writing sink.old) (S.writing sink.new) }
 {
     let texts = Texts {
@@ -82,19 +81,19 @@ fn add_operation<S: Sink>(
         middle: operator_text(operator),
         back: b"",
     };
-    add_two(buffer, sink, verilog, texts, first, second)
+    add_two(buffer, sink, scope, texts, first, second)
 }
 
 /// Adds a comparison of signed numbers.
 fn add_signed<S: Sink>(
     buffer: &mut PutBuffer,
     sink: &mut S,
-    verilog: &VModule,
+    scope: Scope,
     comparison: &[u8],
     first: Atom,
     second: Atom,
 ) -> Result<(), Failed>
-    ensures { Adds (hand.signed (hand.contents verilog.now) comparison.now first second) result
+    ensures { Adds (hand.signed (hand.scope scope.entry) comparison.now first second) result
         buffer.old buffer.new (S.writing sink.old) (S.writing sink.new) }
 {
     let texts = Texts {
@@ -102,18 +101,18 @@ fn add_signed<S: Sink>(
         middle: comparison,
         back: b")",
     };
-    add_two(buffer, sink, verilog, texts, first, second)
+    add_two(buffer, sink, scope, texts, first, second)
 }
 
 /// Adds a signed shift.
 fn add_shift<S: Sink>(
     buffer: &mut PutBuffer,
     sink: &mut S,
-    verilog: &VModule,
+    scope: Scope,
     first: Atom,
     second: Atom,
 ) -> Result<(), Failed>
-    ensures { Adds (spec.side_text (hand.contents verilog.now) (Side.ShiftSigned first second))
+    ensures { Adds (spec.side_text (hand.scope scope.entry) (Side.ShiftSigned first second))
         result buffer.old buffer.new (S.writing sink.old) (S.writing sink.new) }
 {
     let texts = Texts {
@@ -121,19 +120,19 @@ fn add_shift<S: Sink>(
         middle: b") >>> ",
         back: b"",
     };
-    add_two(buffer, sink, verilog, texts, first, second)
+    add_two(buffer, sink, scope, texts, first, second)
 }
 
 /// Adds a choice.
 fn add_pick<S: Sink>(
     buffer: &mut PutBuffer,
     sink: &mut S,
-    verilog: &VModule,
+    scope: Scope,
     test: Atom,
     first: Atom,
     second: Atom,
 ) -> Result<(), Failed>
-    ensures { Adds (spec.side_text (hand.contents verilog.now) (Side.Pick test first second))
+    ensures { Adds (spec.side_text (hand.scope scope.entry) (Side.Pick test first second))
         result buffer.old buffer.new (S.writing sink.old) (S.writing sink.new) }
 {
     let texts = Texts {
@@ -141,23 +140,23 @@ fn add_pick<S: Sink>(
         middle: b" : ",
         back: b"",
     };
-    add_atom(buffer, sink, verilog, test)?;
-    add_two(buffer, sink, verilog, texts, first, second)
+    add_atom(buffer, sink, scope, test)?;
+    add_two(buffer, sink, scope, texts, first, second)
 }
 
 /// Adds atoms, each behind a comma.
 fn add_others<S: Sink>(
     buffer: &mut PutBuffer,
     sink: &mut S,
-    verilog: &VModule,
+    scope: Scope,
     parts: &[Atom],
 ) -> Result<(), Failed>
-    ensures { Adds (flat_map (spec.joined_atom (hand.contents verilog.now)) parts.now) result
+    ensures { Adds (flat_map (spec.joined_atom (hand.scope scope.entry)) parts.now) result
         buffer.old buffer.new (S.writing sink.old) (S.writing sink.new) }
 {
     let mut left = parts;
     while let Some((part, others)) = left.split_first() {
-        add_behind(buffer, sink, verilog, b", ", *part)?;
+        add_behind(buffer, sink, scope, b", ", *part)?;
         left = others;
     }
     Ok(())
@@ -167,29 +166,29 @@ fn add_others<S: Sink>(
 fn add_some<S: Sink>(
     buffer: &mut PutBuffer,
     sink: &mut S,
-    verilog: &VModule,
+    scope: Scope,
     first: Atom,
     others: &[Atom],
 ) -> Result<(), Failed>
-    ensures { Adds (spec.joined_atoms (hand.contents verilog.now) (first ∷ others.now)) result
+    ensures { Adds (spec.joined_atoms (hand.scope scope.entry) (first ∷ others.now)) result
         buffer.old buffer.new (S.writing sink.old) (S.writing sink.new) }
 {
-    add_atom(buffer, sink, verilog, first)?;
-    add_others(buffer, sink, verilog, others)
+    add_atom(buffer, sink, scope, first)?;
+    add_others(buffer, sink, scope, others)
 }
 
 /// Adds the atoms of a join.
 fn add_joined<S: Sink>(
     buffer: &mut PutBuffer,
     sink: &mut S,
-    verilog: &VModule,
+    scope: Scope,
     parts: &[Atom],
 ) -> Result<(), Failed>
-    ensures { Adds (spec.joined_atoms (hand.contents verilog.now) parts.now) result
+    ensures { Adds (spec.joined_atoms (hand.scope scope.entry) parts.now) result
         buffer.old buffer.new (S.writing sink.old) (S.writing sink.new) }
 {
     match parts.split_first() {
-        Some((first, others)) => add_some(buffer, sink, verilog, *first, others),
+        Some((first, others)) => add_some(buffer, sink, scope, *first, others),
         None => add(buffer, sink, b""),
     }
 }
@@ -198,14 +197,14 @@ fn add_joined<S: Sink>(
 fn add_join<S: Sink>(
     buffer: &mut PutBuffer,
     sink: &mut S,
-    verilog: &VModule,
+    scope: Scope,
     parts: &[Atom],
 ) -> Result<(), Failed>
-    ensures { Adds (spec.side_text (hand.contents verilog.now) (Side.Join parts.now)) result
+    ensures { Adds (spec.side_text (hand.scope scope.entry) (Side.Join parts.now)) result
         buffer.old buffer.new (S.writing sink.old) (S.writing sink.new) }
 {
     add(buffer, sink, b"{")?;
-    add_joined(buffer, sink, verilog, parts)?;
+    add_joined(buffer, sink, scope, parts)?;
     add(buffer, sink, b"}")
 }
 
@@ -230,15 +229,15 @@ fn add_range<S: Sink>(
 fn add_slice<S: Sink>(
     buffer: &mut PutBuffer,
     sink: &mut S,
-    verilog: &VModule,
+    scope: Scope,
     atom: Atom,
     high: u32,
     low: u32,
 ) -> Result<(), Failed>
-    ensures { Adds (spec.side_text (hand.contents verilog.now) (Side.Slice atom high low)) result
+    ensures { Adds (spec.side_text (hand.scope scope.entry) (Side.Slice atom high low)) result
         buffer.old buffer.new (S.writing sink.old) (S.writing sink.new) }
 {
-    add_atom(buffer, sink, verilog, atom)?;
+    add_atom(buffer, sink, scope, atom)?;
     add_range(buffer, sink, high, low)
 }
 
@@ -246,22 +245,22 @@ fn add_slice<S: Sink>(
 fn add_side<S: Sink>(
     buffer: &mut PutBuffer,
     sink: &mut S,
-    verilog: &VModule,
+    scope: Scope,
     side: &Side,
 ) -> Result<(), Failed>
-    ensures { Adds (spec.side_text (hand.contents verilog.now) side.now) result
+    ensures { Adds (spec.side_text (hand.scope scope.entry) side.now) result
         buffer.old buffer.new (S.writing sink.old) (S.writing sink.new) }
 {
     match side {
-        Side::Is(a) => add_atom(buffer, sink, verilog, *a),
-        Side::Not(a) => add_behind(buffer, sink, verilog, b"~", *a),
-        Side::Two(operator, a, b) => add_operation(buffer, sink, verilog, *operator, *a, *b),
-        Side::LessSigned(a, b) => add_signed(buffer, sink, verilog, b") < $signed(", *a, *b),
-        Side::UpToSigned(a, b) => add_signed(buffer, sink, verilog, b") <= $signed(", *a, *b),
-        Side::ShiftSigned(a, b) => add_shift(buffer, sink, verilog, *a, *b),
-        Side::Pick(test, a, b) => add_pick(buffer, sink, verilog, *test, *a, *b),
-        Side::Join(parts) => add_join(buffer, sink, verilog, parts.as_slice()),
-        Side::Slice(a, high, low) => add_slice(buffer, sink, verilog, *a, *high, *low),
+        Side::Is(a) => add_atom(buffer, sink, scope, *a),
+        Side::Not(a) => add_behind(buffer, sink, scope, b"~", *a),
+        Side::Two(operator, a, b) => add_operation(buffer, sink, scope, *operator, *a, *b),
+        Side::LessSigned(a, b) => add_signed(buffer, sink, scope, b") < $signed(", *a, *b),
+        Side::UpToSigned(a, b) => add_signed(buffer, sink, scope, b") <= $signed(", *a, *b),
+        Side::ShiftSigned(a, b) => add_shift(buffer, sink, scope, *a, *b),
+        Side::Pick(test, a, b) => add_pick(buffer, sink, scope, *test, *a, *b),
+        Side::Join(parts) => add_join(buffer, sink, scope, parts.as_slice()),
+        Side::Slice(a, high, low) => add_slice(buffer, sink, scope, *a, *high, *low),
     }
 }
 
@@ -269,16 +268,16 @@ fn add_side<S: Sink>(
 fn add_assign<S: Sink>(
     buffer: &mut PutBuffer,
     sink: &mut S,
-    verilog: &VModule,
+    scope: Scope,
     assign: &Assign,
 ) -> Result<(), Failed>
-    ensures { Adds (spec.assign_line (hand.contents verilog.now) assign.now) result
+    ensures { Adds (spec.assign_line (hand.scope scope.entry) assign.now) result
         buffer.old buffer.new (S.writing sink.old) (S.writing sink.new) }
 {
     add(buffer, sink, b"  assign ")?;
-    add_target(buffer, sink, verilog, assign.target)?;
+    add_target(buffer, sink, scope, assign.target)?;
     add(buffer, sink, b" = ")?;
-    add_side(buffer, sink, verilog, &assign.side)?;
+    add_side(buffer, sink, scope, &assign.side)?;
     add(buffer, sink, b";\n")
 }
 
@@ -286,15 +285,15 @@ fn add_assign<S: Sink>(
 pub(crate) fn add_assigns<S: Sink>(
     buffer: &mut PutBuffer,
     sink: &mut S,
-    verilog: &VModule,
+    scope: Scope,
     assigns: &[Assign],
 ) -> Result<(), Failed>
-    ensures { Adds (flat_map (spec.assign_line (hand.contents verilog.now)) assigns.now) result
+    ensures { Adds (flat_map (spec.assign_line (hand.scope scope.entry)) assigns.now) result
         buffer.old buffer.new (S.writing sink.old) (S.writing sink.new) }
 {
     let mut left = assigns;
     while let Some((assign, others)) = left.split_first() {
-        add_assign(buffer, sink, verilog, assign)?;
+        add_assign(buffer, sink, scope, assign)?;
         left = others;
     }
     Ok(())

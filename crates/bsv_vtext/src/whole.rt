@@ -4,15 +4,28 @@ ghost use Rattle.bsv_io.specs.Adding.{Adds};
 ghost use Rattle.bsv_io.specs.Faults.{MayFault};
 ghost use Rattle.bsv_io.specs.Writing.{appended, AppendsPrefix};
 ghost use Rattle.bsv_vtext.specs.AtHand.{contents};
-ghost use Rattle.bsv_vtext.specs.Signals.{ports};
+ghost use Rattle.bsv_vtext.specs.AtHand as hand;
+ghost use Rattle.bsv_vtext.specs.Signals.{ports, scope};
 ghost use Rattle.bsv_vtext.specs.VText.{vtext};
 ghost use Rattle.bsv_vtext.specs.VText as spec;
 
 use crate::blocks::add_blocks;
 use crate::modules::VModule;
+use crate::names::Scope;
 use crate::ports::{add_declarations, add_header};
 use crate::sides::add_assigns;
 use bsv_io::{Failed, PutBuffer, Sink, add};
+
+/// What the text of a module names.
+fn scope_of(verilog: &VModule) -> Scope<'_>
+    ensures { hand.scope result ≡ scope (contents verilog.now) }
+{
+    Scope {
+        methods: verilog.methods.as_slice(),
+        registers: verilog.registers.as_slice(),
+        wires: verilog.wires.as_slice(),
+    }
+}
 
 /// Adds the header of a module.
 fn add_front<S: Sink>(buffer: &mut PutBuffer, sink: &mut S, verilog: &VModule) -> Result<(), Failed>
@@ -44,10 +57,10 @@ fn add_equations<S: Sink>(
     sink: &mut S,
     verilog: &VModule,
 ) -> Result<(), Failed>
-    ensures { Adds (flat_map (spec.assign_line (contents verilog.now)) verilog.now.assigns) result
+    ensures { Adds (flat_map (spec.assign_line (scope (contents verilog.now))) verilog.now.assigns) result
         buffer.old buffer.new (S.writing sink.old) (S.writing sink.new) }
 {
-    add_assigns(buffer, sink, verilog, verilog.assigns.as_slice())
+    add_assigns(buffer, sink, scope_of(verilog), verilog.assigns.as_slice())
 }
 
 /// Adds the blocks of a module.
@@ -56,11 +69,11 @@ fn add_clocked<S: Sink>(
     sink: &mut S,
     verilog: &VModule,
 ) -> Result<(), Failed>
-    ensures { Adds (spec.blocks (contents verilog.now) verilog.now.registers verilog.now.nexts)
+    ensures { Adds (spec.blocks (scope (contents verilog.now)) verilog.now.registers verilog.now.nexts)
         result buffer.old buffer.new (S.writing sink.old) (S.writing sink.new) }
 {
     let registers = verilog.registers.as_slice();
-    add_blocks(buffer, sink, verilog, registers, verilog.nexts.as_slice())
+    add_blocks(buffer, sink, scope_of(verilog), registers, verilog.nexts.as_slice())
 }
 
 /// Adds a module.

@@ -8,7 +8,7 @@ use Rattle.bsv_vtext.proofs.blocks.add_nexts.Goals as goal
 
 pub returns-in_err-add_next : goal.returns-in_err-add_next
 returns-in_err-add_next g c =
-    let all = hand.contents c.args.verilog.now in
+    let all = hand.scope c.args.scope in
     let both = ap (λ (l : List VRegister). spec.next_lines all l c.loop-register.held.now) c.in-Some.ensures.cases.0
     ∙ ap (λ (l : List Atom). spec.next_lines all (c.in-Some.register.now ∷ c.in-Some.others.now) l) c.in-Some-split_first.ensures.cases.0 in
     going_failed (spec.next_lines all c.in-Some.others.now c.in-Some-split_first.more.now) c.from_residual.result c.from_residual.ensures.0
@@ -16,7 +16,7 @@ returns-in_err-add_next g c =
 
 pub loop-register-preserved : goal.loop-register-preserved
 loop-register-preserved g c =
-    let all = hand.contents c.args.verilog.now in
+    let all = hand.scope c.args.scope in
     let both = ap (λ (l : List VRegister). spec.next_lines all l c.loop-register.held.now) c.in-Some.ensures.cases.0
     ∙ ap (λ (l : List Atom). spec.next_lines all (c.in-Some.register.now ∷ c.in-Some.others.now) l) c.in-Some-split_first.ensures.cases.0 in
     going_on (spec.next_lines all c.in-Some.others.now c.in-Some-split_first.more.now)

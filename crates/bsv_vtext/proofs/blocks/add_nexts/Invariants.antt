@@ -9,5 +9,5 @@ decreases-loop-register g l = length l.left
 
 abbrev pub invariant-loop-register : goal.invariant-loop-register
 invariant-loop-register g l =
-    let c = hand.contents l.verilog in
+    let c = hand.scope l.scope in
     Going (spec.next_lines c l.fn.registers l.fn.nexts) (spec.next_lines c l.left l.held) l.fn.buffer l.buffer (g.S.Sink.writing l.fn.sink) (g.S.Sink.writing l.sink)

@@ -7,8 +7,8 @@ use Rattle.bsv_vtext.proofs.sides.add_assigns.Goals as goal
 
 pub returns-in_err-add_assign : goal.returns-in_err-add_assign
 returns-in_err-add_assign g c =
-    going_failed (flat_map (spec.assign_line (hand.contents c.args.verilog.now)) c.in-Some.others.now) c.from_residual.result c.from_residual.ensures.0 (going_text (ap (flat_map (spec.assign_line (hand.contents c.args.verilog.now))) c.in-Some.ensures.cases.0) c.loop-assign.invariant) c.in_err-add_assign.ensures
+    going_failed (flat_map (spec.assign_line (hand.scope c.args.scope)) c.in-Some.others.now) c.from_residual.result c.from_residual.ensures.0 (going_text (ap (flat_map (spec.assign_line (hand.scope c.args.scope))) c.in-Some.ensures.cases.0) c.loop-assign.invariant) c.in_err-add_assign.ensures
 
 pub loop-assign-preserved : goal.loop-assign-preserved
 loop-assign-preserved g c =
-    going_on (flat_map (spec.assign_line (hand.contents c.args.verilog.now)) c.in-Some.others.now) (going_text (ap (flat_map (spec.assign_line (hand.contents c.args.verilog.now))) c.in-Some.ensures.cases.0) c.loop-assign.invariant) c.in_ok-add_assign.ensures
+    going_on (flat_map (spec.assign_line (hand.scope c.args.scope)) c.in-Some.others.now) (going_text (ap (flat_map (spec.assign_line (hand.scope c.args.scope))) c.in-Some.ensures.cases.0) c.loop-assign.invariant) c.in_ok-add_assign.ensures

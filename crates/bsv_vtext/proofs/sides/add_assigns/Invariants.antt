@@ -10,4 +10,4 @@ decreases-loop-assign g l = length l.left
 
 abbrev pub invariant-loop-assign : goal.invariant-loop-assign
 invariant-loop-assign g l =
-    Going (flat_map (spec.assign_line (hand.contents l.verilog)) l.fn.assigns) (flat_map (spec.assign_line (hand.contents l.verilog)) l.left) l.fn.buffer l.buffer (g.S.Sink.writing l.fn.sink) (g.S.Sink.writing l.sink)
+    Going (flat_map (spec.assign_line (hand.scope l.scope)) l.fn.assigns) (flat_map (spec.assign_line (hand.scope l.scope)) l.left) l.fn.buffer l.buffer (g.S.Sink.writing l.fn.sink) (g.S.Sink.writing l.sink)

@@ -10,4 +10,4 @@ decreases-loop-part g l = length l.left
 
 abbrev pub invariant-loop-part : goal.invariant-loop-part
 invariant-loop-part g l =
-    Going (flat_map (spec.joined_atom (hand.contents l.verilog)) l.fn.parts) (flat_map (spec.joined_atom (hand.contents l.verilog)) l.left) l.fn.buffer l.buffer (g.S.Sink.writing l.fn.sink) (g.S.Sink.writing l.sink)
+    Going (flat_map (spec.joined_atom (hand.scope l.scope)) l.fn.parts) (flat_map (spec.joined_atom (hand.scope l.scope)) l.left) l.fn.buffer l.buffer (g.S.Sink.writing l.fn.sink) (g.S.Sink.writing l.sink)
