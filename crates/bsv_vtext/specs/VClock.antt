@@ -20,20 +20,20 @@ pub record Inputs : Type 0 where
   pub enables : List Bool
   pub arguments : List (List Bits)
 
--- the word of each wire and each output
-abbrev pub Outputs : Type 0
-Outputs = Target → Bits
+-- the word of each net: each wire and each output
+abbrev pub Nets : Type 0
+Nets = Target → Bits
 
 -- the word of this place; there is one wherever a module asks for it
 abbrev pub word_at : List Bits → ℕ → Bits
 word_at ws k = unwrap_or (slice_get ws k) (bit false)
 
-abbrev pub atom_word : List Bits → Inputs → Outputs → Atom → Bits
-atom_word registers inputs outputs (atom.Enable m) = bit (unwrap_or (slice_get inputs.enables m) false)
-atom_word registers inputs outputs (atom.Argument m k) = word_at (unwrap_or (slice_get inputs.arguments m) []) k
-atom_word registers inputs outputs (atom.Register k) = word_at registers k
-atom_word registers inputs outputs (atom.Wire k) = outputs (target.Wire k)
-atom_word registers inputs outputs (atom.Constant w) = w
+abbrev pub atom_word : List Bits → Inputs → Nets → Atom → Bits
+atom_word registers inputs nets (atom.Enable m) = bit (unwrap_or (slice_get inputs.enables m) false)
+atom_word registers inputs nets (atom.Argument m k) = word_at (unwrap_or (slice_get inputs.arguments m) []) k
+atom_word registers inputs nets (atom.Register k) = word_at registers k
+atom_word registers inputs nets (atom.Wire k) = nets (target.Wire k)
+atom_word registers inputs nets (atom.Constant w) = w
 
 -- ---- expressions
 
@@ -81,9 +81,9 @@ abbrev pub reset_words : List VRegister → List Bits → List Bits
 reset_words (r ∷ rs) (w ∷ ws) = (if r.resets then r.start else w) ∷ reset_words rs ws
 reset_words _ _ = []
 
--- one clock: the registers before the edge, the inputs, whether `RST_N` is 1, the words of wires and outputs, and the
+-- one clock: the registers before the edge, the inputs, whether `RST_N` is 1, the words of the nets, and the
 -- registers behind the edge
-pub record VClock (c : Contents) (registers : List Bits) (inputs : Inputs) (rst_n : Bool) (outputs : Outputs) (nexts : List Bits) : Type 0 where
+pub record VClock (c : Contents) (registers : List Bits) (inputs : Inputs) (rst_n : Bool) (nets : Nets) (nexts : List Bits) : Type 0 where
   -- every assignment is true as an equation
-  pub assigned : (line : ℕ) (x : Assign) → slice_get c.assigns line ≡ Some x → outputs x.target ≡ side_word (atom_word registers inputs outputs) x.side
-  pub edge : nexts ≡ (if rst_n then map (atom_word registers inputs outputs) c.nexts else reset_words c.registers registers)
+  pub assigned : (line : ℕ) (x : Assign) → slice_get c.assigns line ≡ Some x → nets x.target ≡ side_word (atom_word registers inputs nets) x.side
+  pub edge : nexts ≡ (if rst_n then map (atom_word registers inputs nets) c.nexts else reset_words c.registers registers)

@@ -1,10 +1,11 @@
-//! Verilog modules: the tree of a verilog, and its text.
+//! Verilog modules: the tree of a module, and its text.
 //!
-//! Modules in reading order: `tree` (ports, registers, wires and assignments), `modules` (a verilog, of which
-//! it is known that its names are apart and its widths belong together), `pieces` (texts that are added
-//! piece by piece), `names` (the names of signals), `ports` (the header and the declarations), `sides` (the
-//! assignments), `blocks` (the registers at the start and at the edge), `whole` (all of it). What holds of a module stands
-//! in `specs/Modules.antt`, its text in `specs/VText.antt`, and what it means in `specs/VClock.antt`.
+//! Modules in reading order: `tree` (ports, registers, wires and assignments), `modules` (a whole module, of
+//! which it is known that its names are apart and its widths belong together), `pieces` (texts that are
+//! added piece by piece), `names` (the names of signals), `ports` (the header and the declarations), `sides`
+//! (the assignments), `blocks` (the registers at the start and at the edge), `whole` (all of it). What holds
+//! of a module stands in `specs/Modules.antt`, its text in `specs/VText.antt`, and what it means in
+//! `specs/VClock.antt`.
 #![tactic(auto)]
 
 mod blocks;
@@ -13,6 +14,8 @@ mod names;
 mod pieces;
 mod ports;
 mod sides;
+#[cfg(test)]
+mod tests;
 mod tree;
 mod whole;
 

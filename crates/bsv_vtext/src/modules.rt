@@ -5,8 +5,8 @@ use crate::tree::{Assign, Atom, VMethod, VRegister, VWire};
 use bsv_bits::Name;
 use sqlite_items::Items;
 
-/// A Verilog module. No two of its signals have one name, each wire and each output is assigned once, from
-/// what is known before it, and the widths of an assignment belong together.
+/// A Verilog module. No two of its signals have one name, each wire and each output is assigned once,
+/// from what is known before it, and the widths of an assignment belong together.
 #[derive(Drop)]
 pub struct VModule {
     pub name: Name,

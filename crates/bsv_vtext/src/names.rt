@@ -114,7 +114,11 @@ pub(crate) fn add_atom<S: Sink>(
         Atom::Enable(place) => add_texts(buffer, sink, enable(method_name(scope.methods, place))),
         Atom::Argument(method, place) => {
             let own = own_name(scope.methods, method, place);
-            add_texts(buffer, sink, argument(method_name(scope.methods, method), own))
+            add_texts(
+                buffer,
+                sink,
+                argument(method_name(scope.methods, method), own),
+            )
         }
         Atom::Register(place) => {
             let name = register_name(scope.registers, place);

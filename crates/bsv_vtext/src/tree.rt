@@ -39,8 +39,8 @@ pub enum Target {
     Result(u32),
 }
 
-/// What an expression is made of. Numbers name methods, arguments of a method, registers and wires by their
-/// places.
+/// What an expression is made of. Numbers name methods, arguments of a method, registers and wires by
+/// their places.
 #[derive(Clone, Copy, Debug, PartialEq, Eq)]
 pub enum Atom {
     Enable(u32),

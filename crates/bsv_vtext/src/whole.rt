@@ -57,8 +57,9 @@ fn add_equations<S: Sink>(
     sink: &mut S,
     verilog: &VModule,
 ) -> Result<(), Failed>
-    ensures { Adds (flat_map (spec.assign_line (scope (contents verilog.now))) verilog.now.assigns) result
-        buffer.old buffer.new (S.writing sink.old) (S.writing sink.new) }
+    ensures { Adds (flat_map (spec.assign_line (scope (contents verilog.now)))
+        verilog.now.assigns)
+        result buffer.old buffer.new (S.writing sink.old) (S.writing sink.new) }
 {
     add_assigns(buffer, sink, scope_of(verilog), verilog.assigns.as_slice())
 }
@@ -69,11 +70,18 @@ fn add_clocked<S: Sink>(
     sink: &mut S,
     verilog: &VModule,
 ) -> Result<(), Failed>
-    ensures { Adds (spec.blocks (scope (contents verilog.now)) verilog.now.registers verilog.now.nexts)
+    ensures { Adds (spec.blocks (scope (contents verilog.now)) verilog.now.registers
+        verilog.now.nexts)
         result buffer.old buffer.new (S.writing sink.old) (S.writing sink.new) }
 {
     let registers = verilog.registers.as_slice();
-    add_blocks(buffer, sink, scope_of(verilog), registers, verilog.nexts.as_slice())
+    add_blocks(
+        buffer,
+        sink,
+        scope_of(verilog),
+        registers,
+        verilog.nexts.as_slice(),
+    )
 }
 
 /// Adds a module.
