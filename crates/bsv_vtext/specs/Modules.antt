@@ -1,6 +1,6 @@
 -- What holds of every module, rule by rule.
 use Rattle.std.specs.Prelude.{◌≡◌, ℕ, ◌<◌, Bool, true, false, not, ◌&&◌, ◌||◌, ◌==◌, if◌then◌else◌, IsTrue, List, [], ◌∷◌, length, slice_get, Option, Some, None, codes}
-use Rattle.std.specs.Option.{option_map, option_and_then}
+use Rattle.std.specs.Option.{option_map}
 use Rattle.std.specs.List.{list_all}
 use Rattle.bsv_bits.specs.Words.{IsWord}
 use Rattle.bsv_ast.specs.Names.{begins_name, is_word, is_keyword, is_lower}
@@ -12,7 +12,7 @@ use Rattle.bsv_vtext.specs.declared.tree.Atom.{Atom}
 use Rattle.bsv_vtext.specs.declared.tree.Atom.TheVariants as atom
 use Rattle.bsv_vtext.specs.declared.tree.Target.{Target}
 use Rattle.bsv_vtext.specs.declared.tree.Target.TheVariants as target
-use Rattle.bsv_vtext.specs.Signals.{Contents, argument_name, enable_name, ready_name, fire_name, arguments_of}
+use Rattle.bsv_vtext.specs.Signals.{Contents, argument_name, enable_name, ready_name, fire_name}
 use Rattle.bsv_vtext.specs.Widths.{width_fits, atom_width, target_width, Fits}
 
 -- ---- names

@@ -1,7 +1,7 @@
 -- What a module is made of, and the names of its signals: ports, registers and wires (IEEE 1364-2005, 12.3 and 3.2).
 use Rattle.std.specs.Prelude.{ℕ, Bool, true, false, if◌then◌else◌, List, [], ◌∷◌, ◌++◌, map, slice_get, Option, Some, None, codes}
 use Rattle.std.specs.List.{flat_map}
-use Rattle.std.specs.Option.{option_map, option_and_then}
+use Rattle.std.specs.Option.{option_map}
 use Rattle.bsv_vtext.specs.declared.tree.VMethod.{VMethod}
 use Rattle.bsv_vtext.specs.declared.tree.VRegister.{VRegister}
 use Rattle.bsv_vtext.specs.declared.tree.VWire.{VWire}

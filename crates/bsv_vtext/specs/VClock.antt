@@ -1,6 +1,6 @@
 -- What a module means in a clock: continuous assignments hold as equations, and at the edge all right sides are read before a
 -- register changes (IEEE 1364-2005, 6.1 and 9.2.2), where every bit is 0 or 1.
-use Rattle.std.specs.Prelude.{◌≡◌, ℕ, Bool, true, false, not, nat_eq, ◌||◌, if◌then◌else◌, List, [], ◌∷◌, map, slice_get, Option, Some, None, unwrap_or}
+use Rattle.std.specs.Prelude.{◌≡◌, ℕ, Bool, false, not, nat_eq, if◌then◌else◌, List, [], ◌∷◌, map, slice_get, Some, unwrap_or}
 use Rattle.bsv_bits.specs.Words.{Bits, bit, word_add, word_sub, word_mul, word_and, word_or, word_xor, word_not, word_same, word_less, word_shl, word_shr, word_slice, word_concat}
 use Rattle.bsv_bits.specs.Signed.{word_less_signed, word_sar}
 use Rattle.bsv_vtext.specs.declared.tree.VRegister.{VRegister}

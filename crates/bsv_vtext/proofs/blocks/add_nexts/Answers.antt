@@ -1,5 +1,5 @@
 use Rattle.std.proofs.Common.{◌∙◌, ◌∷◌, List, ap}
-use Rattle.bsv_io.proofs.Adding.{going_on, going_failed, going_text, adds_text}
+use Rattle.bsv_io.proofs.Adding.{going_on, going_failed, going_text}
 use Rattle.bsv_vtext.specs.declared.tree.VRegister.{VRegister}
 use Rattle.bsv_vtext.specs.declared.tree.Atom.{Atom}
 use Rattle.bsv_vtext.specs.VText as spec
