@@ -12,8 +12,6 @@ mod ground;
 mod growing;
 mod ports;
 mod spots;
-#[cfg(test)]
-mod tests;
 
 pub use firing::add_fire;
 pub use ground::{register_starts, registers_of};

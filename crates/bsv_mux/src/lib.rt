@@ -5,7 +5,5 @@
 
 mod muxing;
 mod parts;
-#[cfg(test)]
-mod tests;
 
 pub use muxing::add_next;
