@@ -1,5 +1,6 @@
 ghost use Rattle.std.specs.Prelude.{◌≡◌};
 ghost use Rattle.bsv_bits.specs.Operators as operators;
+ghost use Rattle.bsv_design.specs.Bodies.{at};
 ghost use Rattle.bsv_design.specs.Computing as spec;
 
 use bsv_bits::{Operator, Word};
@@ -11,6 +12,16 @@ pub fn word(width: u32, number: u128) -> Word
 {
     match Word::new(width, number) {
         Some(word) => word,
+        None => Word::bit(false),
+    }
+}
+
+/// The word of a node, where these words stand.
+pub fn word_at(words: &[Word], node: u32) -> Word
+    ensures { result ≡ at words.now node }
+{
+    match words.get(node as usize) {
+        Some(word) => *word,
         None => Word::bit(false),
     }
 }

@@ -30,7 +30,7 @@ mod tree;
 mod values;
 mod whole;
 
-pub use computing::{between, extended, joined, picked, sign_extended, sliced, word};
+pub use computing::{between, extended, joined, picked, sign_extended, sliced, word, word_at};
 pub use design::{Design, NamedPart};
 pub use element::{Call, Condition, Element, Port, Role};
 pub use fired::Fired;

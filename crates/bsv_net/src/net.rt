@@ -9,7 +9,7 @@ use crate::checks::is_circuit;
 use crate::circuit::Circuit;
 use crate::node::{NetNode, Site};
 use bsv_bits::{OutOfMemory, Word};
-use bsv_design::{between, extended, joined, picked, sign_extended, sliced};
+use bsv_design::{between, extended, joined, picked, sign_extended, sliced, word_at};
 use bsv_prim::RegisterInfo;
 use sqlite_items::Items;
 use std::alloc::Global;
@@ -36,16 +36,6 @@ pub struct Net {
       results = results;
       sites = sites;
     }) ∥₁ },
-}
-
-/// The word of the node of this place, where these words stand.
-fn word_at(words: &[Word], node: u32) -> Word
-    ensures { result ≡ at words.now node }
-{
-    match words.get(node as usize) {
-        Some(word) => *word,
-        None => Word::bit(false),
-    }
 }
 
 /// The word of a node behind nodes of these words.

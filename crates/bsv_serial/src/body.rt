@@ -9,9 +9,9 @@ ghost use Rattle.bsv_design.specs.declared.node.Node.TheVariants as node;
 ghost use Rattle.bsv_serial.specs.Bodies as spec;
 
 use crate::looks::Looks;
-use crate::words::{is_one, word_at, words_at};
+use crate::words::{is_one, words_at};
 use bsv_bits::{OutOfMemory, Word};
-use bsv_design::{Condition, Element, Need, Node};
+use bsv_design::{Condition, Element, Need, Node, word_at};
 use sqlite_items::at;
 
 /// What an element is computed from.

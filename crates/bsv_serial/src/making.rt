@@ -6,9 +6,9 @@ ghost use Rattle.bsv_serial.specs.AtHand.{kinds};
 ghost use Rattle.bsv_serial.specs.Making as spec;
 
 use crate::made::{MadeCall, MadeCalls};
-use crate::words::{is_one, word_at, words_at};
+use crate::words::{is_one, words_at};
 use bsv_bits::{OutOfMemory, Word};
-use bsv_design::{Call, NamedPart};
+use bsv_design::{Call, NamedPart, word_at};
 use bsv_prim::Primitive;
 use std::alloc::Global;
 

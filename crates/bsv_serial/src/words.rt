@@ -3,18 +3,9 @@ ghost use Rattle.bsv_design.specs.Bodies.{at};
 ghost use Rattle.bsv_design.specs.Running as running;
 
 use bsv_bits::{OutOfMemory, Word};
+use bsv_design::word_at;
 use sqlite_items::Items;
 use std::alloc::Global;
-
-/// The word of a node, where these words stand.
-pub fn word_at(words: &[Word], node: u32) -> Word
-    ensures { result ≡ at words.now node }
-{
-    match words.get(node as usize) {
-        Some(word) => *word,
-        None => Word::bit(false),
-    }
-}
 
 pub fn is_one(word: Word) -> bool
     ensures { result ≡ running.is_one word }
