@@ -1,2 +1,12 @@
 pub mod Bare
 pub mod Listed
+pub mod Runs
+pub mod Glyphs
+pub mod SignalNames
+pub mod SameAtoms
+pub mod SameSides
+pub mod SameMethods
+pub mod SameDeclarations
+pub mod SameAssigns
+pub mod SameBlocks
+pub mod OneText

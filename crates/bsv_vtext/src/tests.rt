@@ -1,4 +1,4 @@
-use crate::{VModule, write};
+use crate::{VModule, one_text, write};
 use bsv_bits::{Name, OutOfMemory};
 use bsv_io::{Failed, MemSink, SureSink};
 use sqlite_items::Items;
@@ -46,4 +46,9 @@ fn a_put_that_fails(rt: HostRuntime) -> Result<(), Fail> {
     assert_eq!(rt; write(&bare(alloc)?, &mut sink), Err(Failed));
     assert!(rt; BARE.starts_with(sink.bytes()) && sink.bytes().len() < BARE.len());
     Ok(())
+}
+
+#[test]
+fn the_law_can_be_called() {
+    one_text();
 }
