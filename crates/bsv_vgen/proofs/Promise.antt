@@ -1,0 +1,89 @@
+-- What is promised of the module of a design and of its net.
+use Rattle.std.proofs.Common.{◌≡◌, ◌∙◌, ℕ, ◌<◌, ◌^◌, Bool, true, IsTrue, List, length, map, sym, ap, ap₂, subst, arith}
+use Rattle.std.specs.Prelude.{nat_lt}
+use Rattle.std.proofs.Math.Logic.{∥∥₁_elim, ∥∥₁_prop}
+use Rattle.std.proofs.lemmas.Bool.{ltb-true}
+use Rattle.bsv_design.specs.declared.design.Design.{Design}
+use Rattle.bsv_design.specs.declared.schedule.Schedule.{Schedule}
+use Rattle.bsv_design.specs.Designs.{Blueprint, IsDesign}
+use Rattle.bsv_design.specs.Schemes.{Scheme, AreAlike, design_scheme, kinds_of, outline}
+use Rattle.bsv_design.specs.Seen.{blueprint}
+use Rattle.bsv_clock.specs.Carrying as carrying
+use Rattle.bsv_clock.specs.Carrying.{cells_of, input_widths, input_widths_of}
+use Rattle.bsv_clock.specs.Grounds.{IsLawful, IsScheduleOf}
+use Rattle.bsv_net.specs.declared.circuit.Circuit.{Circuit}
+use Rattle.bsv_net.specs.declared.net.Net.{Net}
+use Rattle.bsv_net.specs.AtHand.{circuit}
+use Rattle.bsv_net.specs.Circuits.{IsCircuit}
+use Rattle.bsv_mux.specs.Hardware.{NetCarries}
+use Rattle.bsv_vtext.specs.declared.tree.Assign.{Assign}
+use Rattle.bsv_vtext.specs.declared.tree.Atom.{Atom}
+use Rattle.bsv_vtext.specs.declared.tree.VMethod.{VMethod}
+use Rattle.bsv_vtext.specs.declared.tree.VRegister.{VRegister}
+use Rattle.bsv_vtext.specs.declared.tree.VWire.{VWire}
+use Rattle.bsv_vtext.specs.Modules.{IsModule}
+use Rattle.bsv_vtext.specs.Signals.{Contents}
+use Rattle.bsv_vgen.specs.Carrying.{ModuleCarries}
+use Rattle.bsv_vgen.specs.Interfaces.{IsModuleOf, cell}
+use Rattle.bsv_vgen.specs.Modules.{module_of}
+use Rattle.bsv_vgen.specs.Resetting.{BeginsOpen, Resets}
+use Rattle.bsv_vgen.proofs.Carried.{carries}
+use Rattle.bsv_vgen.proofs.Registers.{begins_open, resets}
+use Rattle.bsv_vgen.proofs.Whole as whole
+
+module _ (d : Design) (n : Net) (v : Contents) (is : v ≡ module_of (blueprint d) (circuit n))
+    (registers : map carrying.cell n.registers ≡ cells_of (kinds_of (blueprint d))) (inputs : n.inputs ≡ input_widths (design_scheme (blueprint d))) where
+  abbrev b : Blueprint
+  b = blueprint d
+
+  abbrev c : Circuit
+  c = circuit n
+
+  widths : c.inputs ≡ input_widths_of (map outline b.elements)
+  unfolding input_widths design_scheme
+  widths = inputs
+
+  same : whole.m b c registers widths ≡ v
+  unfolding module_of
+  same = sym is
+
+  few : (k : ℕ) → nat_lt k (2 ^ 32) ≡ true → k < 2 ^ 64
+  few k e = let l = ltb-true k (2 ^ 32) e in omega (arith, l)
+
+  pub is_module : IsTrue (nat_lt (length v.registers) (2 ^ 32)) → IsTrue (nat_lt (length v.wires) (2 ^ 32)) → ∥ IsModule v ∥₁
+  is_module few_registers few_wires =
+      ∥∥₁_elim d.right ∥∥₁_prop (λ (design : IsDesign b).
+      ∥∥₁_elim n.right ∥∥₁_prop (λ (right : IsCircuit c).
+      ∣ subst IsModule same (whole.is_module b c registers widths right design
+      (few (length (whole.m b c registers widths).registers) (ap (λ (x : Contents). nat_lt (length x.registers) (2 ^ 32)) same ∙ few_registers))
+      (few (length (whole.m b c registers widths).wires) (ap (λ (x : Contents). nat_lt (length x.wires) (2 ^ 32)) same ∙ few_wires))) ∣₁))
+
+  pub is_its_module : IsModuleOf d.name d.parts (map outline d.elements) v
+  is_its_module = subst (IsModuleOf d.name d.parts (map outline d.elements)) same (whole.is_its_module b c registers widths d.right)
+
+  pub carries_too : (aggressive : Bool) (S : Scheme) (made : Schedule) → AreAlike S (design_scheme b) → IsLawful S → IsScheduleOf S made
+      → NetCarries aggressive S made n → ModuleCarries aggressive S made v
+  carries_too aggressive S made alike lawful scheduled net_carries =
+      subst (ModuleCarries aggressive S made) same
+      (carries b d.right n (whole.m b c registers widths) (whole.computes b c registers widths d.right n.right) (whole.methods_count b c registers widths)
+      aggressive S made alike lawful scheduled net_carries)
+
+  cells_are : map cell v.registers ≡ cells_of (kinds_of b)
+  cells_are = is_its_module.cells
+
+  pub begins : BeginsOpen (kinds_of b) v
+  begins = begins_open (kinds_of b) v cells_are
+
+  pub resets_too : Resets (kinds_of b) v
+  resets_too = resets (kinds_of b) v cells_are
+
+-- modules of the same parts
+abbrev of_parts : List ℕ → List VMethod → List VRegister → List VWire → List Assign → List Atom → Contents
+of_parts name methods registers wires assigns nexts =
+    record { name = name; methods = methods; registers = registers; wires = wires; assigns = assigns; nexts = nexts }
+
+pub same_parts : (x y : Contents) → x.name ≡ y.name → x.methods ≡ y.methods → x.registers ≡ y.registers → x.wires ≡ y.wires → x.assigns ≡ y.assigns → x.nexts ≡ y.nexts → x ≡ y
+same_parts x y name methods registers wires assigns nexts =
+    ap₂ (λ n ms. of_parts n ms x.registers x.wires x.assigns x.nexts) name methods
+    ∙ ap₂ (λ rs ws. of_parts y.name y.methods rs ws x.assigns x.nexts) registers wires
+    ∙ ap₂ (λ xs ns. of_parts y.name y.methods y.registers y.wires xs ns) assigns nexts

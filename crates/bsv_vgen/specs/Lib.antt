@@ -1,0 +1,7 @@
+pub mod Names
+pub mod Interfaces
+pub mod Carrying
+pub mod Resetting
+pub mod Lines
+pub mod Modules
+pub mod AtHand
