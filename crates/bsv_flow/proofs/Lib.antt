@@ -16,3 +16,4 @@ pub mod FirstBreaches
 pub mod OneSchedule
 pub mod ScheduledTrees
 pub mod Planned
+pub mod VerilogOfTree

@@ -1,5 +1,5 @@
 -- What the files hold has one tree, with one schedule, or no program.
-use Rattle.std.proofs.Common.{◌≡◌, ℕ, ◌⊎◌, inl, inr, Bool, true, false, List, Option, Result, Ok, Err, refl, sym, subst, ap, ◌∙◌}
+use Rattle.std.proofs.Common.{◌≡◌, ℕ, Bool, true, false, List, Option, Result, Ok, Err, refl, sym, subst, ap, ◌∙◌}
 use Rattle.std.specs.Prelude.{IfOk}
 use Rattle.bsv_types.specs.declared.typed.Typed.{Typed}
 use Rattle.bsv_check.specs.Rightness.{is_in_order}
@@ -14,8 +14,8 @@ use Rattle.bsv_flow.specs.declared.scheduling.Compiled.{Compiled}
 use Rattle.bsv_flow.specs.Buildings.{tree_of, IsProgram, IsBuilt, Rejects}
 use Rattle.bsv_flow.specs.Compilings.{IsScheduledAs, CompilesTo, Declines, IsPlanned, IsCompiled}
 use Rattle.bsv_flow.specs.Loads.{IsLoaded}
-use Rattle.bsv_flow.specs.Schedulings.{subject, IsScheduled, IsCompiledOf, Unscheduled}
-use Rattle.bsv_flow.specs.Typings.{IsTyped, IsUntyped}
+use Rattle.bsv_flow.specs.Schedulings.{subject, IsScheduled, IsCompiledOf}
+use Rattle.bsv_flow.specs.Typings.{IsUntyped}
 use Rattle.bsv_flow.proofs.Decided as loading
 use Rattle.bsv_flow.proofs.OneSchedule.{one_schedule}
 use Rattle.bsv_flow.proofs.Programs.{one_program, program_at}

@@ -54,13 +54,15 @@ use Rattle.bsv_net.specs.AtHand.{circuit}
 use Rattle.bsv_fire.specs.Firing.{gives}
 use Rattle.bsv_mux.specs.Hardware.{NetCarries}
 use Rattle.bsv_mux.specs.Results.{KeepsResults}
+use Rattle.bsv_vtext.specs.declared.modules.VModule.{VModule}
+use Rattle.bsv_vtext.specs.AtHand.{contents}
 use Rattle.bsv_flow.specs.declared.refusal.CompileFault.{CompileFault}
 use Rattle.bsv_flow.specs.declared.refusal.CompileFault.TheVariants as fault
 use Rattle.bsv_flow.specs.declared.refusal.Refusal.{Refusal}
 use Rattle.bsv_flow.specs.declared.refusal.Refusal.TheVariants as refusal
 use Rattle.bsv_flow.specs.Attributes.{attribute_word}
 use Rattle.bsv_flow.specs.Breaches.{element_name, outline_name, or_no_name}
-use Rattle.bsv_flow.specs.Schedulings.{subject, design_subject, related, IsOrdered, IsScheduled, order_told, urgency_told, pair_told, demand_name, call_name, names_in, implicit_told, stopper_told, condition_at, call_of, call_at, call_text, texts_in, IsUnexecuted, IsUnurged, IsUnasserted, Unscheduled, IsCompiledOf}
+use Rattle.bsv_flow.specs.Schedulings.{subject, design_subject, related, IsOrdered, IsScheduled, order_told, urgency_told, pair_told, demand_name, call_name, names_in, implicit_told, stopper_told, condition_at, call_of, call_at, call_text, texts_in, IsUnexecuted, IsUnurged, IsUnasserted, Unscheduled, IsCompiledOf, IsVerilogOf}
 
 -- ---- names of conditions and calls
 
@@ -350,11 +352,11 @@ schedule_there d made execution urgency e u executes urges stops =
 
 -- ---- what was compiled
 
-pub compiled_of : (h : Hierarchy) (d : Design) (g : Guards) (s : Schedule) (n : Net) → AreAlike (tree_scheme h) (design_scheme (blueprint d))
+pub compiled_of : (h : Hierarchy) (d : Design) (g : Guards) (s : Schedule) (n : Net) (v : VModule) → AreAlike (tree_scheme h) (design_scheme (blueprint d))
     → top_name h ≡ Some d.name → d.parts ≡ parts_among h.instances → g.needs ≡ needs_of (kinds_of (blueprint d)) d.elements
     → AreLifted (blueprint d) g.needs → NetCarries false (design_scheme (blueprint d)) s n → KeepsResults (design_scheme (blueprint d)) (circuit n)
-    → IsCompiledOf h (record { design = d; guards = g; schedule = s; net = n })
-compiled_of h d g s n alike name parts needs lifted carries no_result =
+    → IsVerilogOf h s (contents v) → IsCompiledOf h (record { design = d; guards = g; schedule = s; net = n; verilog = v })
+compiled_of h d g s n v alike name parts needs lifted carries no_result verilog =
     let S = tree_scheme h in
     let T = design_scheme (blueprint d) in
     record {
@@ -365,6 +367,7 @@ compiled_of h d g s n alike name parts needs lifted carries no_result =
       lifted = lifted;
       carries = carried_to false T S s (same.alike_back S T alike) (map cell n.registers) n.inputs (gives (circuit n)) carries;
       no_result = λ k o at. no_result k o (subst (λ (os : List Outline). slice_get os k ≡ Some o) alike.elements at);
+      verilog = verilog;
     }
 
 pub executed_order : (r : Relating) (xs : List ℕ) → Executes r xs → IsOrderOf r.count xs

@@ -20,7 +20,7 @@ pub record IsScheduledAs (l : Loaded) (top : List ℕ) (tree : Hierarchy) (made 
   pub built : tree_of program top ≡ Ok tree
   pub scheduled : IsScheduled (subject tree) made
 
--- and the design is that of the tree, with the guards that its calls need and a net that carries the tree, and the
+-- and the design is that of the tree, with the guards that its calls need, a net and a module that carry the tree, and the
 -- schedule obeys every attribute
 pub record CompilesTo (l : Loaded) (top : List ℕ) (c : Compiled) : Type 0 where
   pub tree : Hierarchy

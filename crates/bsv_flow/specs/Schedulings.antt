@@ -33,6 +33,12 @@ use Rattle.bsv_inline.specs.Flattening.{top_name}
 use Rattle.bsv_net.specs.AtHand.{circuit}
 use Rattle.bsv_mux.specs.Hardware.{NetCarries}
 use Rattle.bsv_mux.specs.Results.{KeepsResults}
+use Rattle.bsv_vtext.specs.AtHand.{contents}
+use Rattle.bsv_vtext.specs.Modules.{IsModule}
+use Rattle.bsv_vtext.specs.Signals.{Contents}
+use Rattle.bsv_vgen.specs.Carrying.{ModuleCarries}
+use Rattle.bsv_vgen.specs.Interfaces.{IsModuleOf}
+use Rattle.bsv_vgen.specs.Resetting.{BeginsOpen, Resets}
 use Rattle.bsv_flow.specs.declared.refusal.Refusal.{Refusal}
 use Rattle.bsv_flow.specs.declared.refusal.Refusal.TheVariants as refusal
 use Rattle.bsv_flow.specs.declared.scheduling.Compiled.{Compiled}
@@ -160,7 +166,18 @@ pub data Unscheduled (h : Hierarchy) (r : Refusal) : Type 0 where
 
 -- ---- what was compiled
 
--- the design is that of the tree, with the guards that its calls need, and its net
+-- the module carries the tree: its name, ports, registers and wires are those of the tree, it begins with registers that show
+-- the parts before the first clock, and a reset shows them again but for registers without a start
+pub record IsVerilogOf (h : Hierarchy) (made : Schedule) (v : Contents) : Type 0 where
+  pub right : ∥ IsModule v ∥₁
+  pub name : List ℕ
+  pub top : top_name h ≡ Some name
+  pub is : IsModuleOf name (parts_among h.instances) (tree_scheme h).elements v
+  pub carries : ModuleCarries false (tree_scheme h) made v
+  pub begins : BeginsOpen (tree_scheme h).kinds v
+  pub resets : Resets (tree_scheme h).kinds v
+
+-- the design is that of the tree, with the guards that its calls need, its net and its module
 pub record IsCompiledOf (h : Hierarchy) (c : Compiled) : Type 0 where
   pub alike : AreAlike (tree_scheme h) (design_scheme (blueprint c.design))
   pub name : top_name h ≡ Some c.design.name
@@ -170,3 +187,4 @@ pub record IsCompiledOf (h : Hierarchy) (c : Compiled) : Type 0 where
   -- the net carries the tree, and what gives nothing names no node of it
   pub carries : NetCarries false (tree_scheme h) c.schedule c.net
   pub no_result : KeepsResults (tree_scheme h) (circuit c.net)
+  pub verilog : IsVerilogOf h c.schedule (contents c.verilog)

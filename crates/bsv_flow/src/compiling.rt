@@ -20,8 +20,8 @@ use bsv_io::Files;
 use std::alloc::Global;
 use std::thread::Threads;
 
-/// What was loaded as a design with its guards, its schedule and its net, or the first refusal of typing,
-/// building and scheduling.
+/// What was loaded as a design with its guards, its schedule, its net and its Verilog, or the first refusal
+/// of typing, building and scheduling.
 pub fn compiled<R: Threads + Sync>(
     rt: &R,
     alloc: Global,
@@ -39,7 +39,7 @@ pub fn compiled<R: Threads + Sync>(
 }
 
 /// The first file and what it imports, compiled: the design of the module `top`, with its guards, its
-/// schedule and its net; or the first refusal.
+/// schedule, its net and its Verilog; or the first refusal.
 ///
 /// The file lies where its name says, and the files of the packages that it imports beside it. A design
 /// is accepted exactly where none of the refusals 1 to 26 holds; else the answer is the first one: of

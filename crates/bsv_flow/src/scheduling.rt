@@ -41,17 +41,20 @@ use bsv_mux::add_next;
 use bsv_net::Net;
 use bsv_order::{OrderFault, execution};
 use bsv_urgency::{UrgencyFault, schedule, urgency};
+use bsv_vgen::generate;
+use bsv_vtext::VModule;
 use sqlite_items::Items;
 use std::alloc::Global;
 use std::thread::Threads;
 
-/// A design that was compiled: its flat bodies, its guards, its schedule, and its net.
+/// A design that was compiled: its flat bodies, its guards, its schedule, its net, and its Verilog.
 #[derive(Drop)]
 pub struct Compiled {
     pub design: Design,
     pub guards: Guards,
     pub schedule: Schedule,
     pub net: Net,
+    pub verilog: VModule,
 }
 
 /// The name of an element.
@@ -277,8 +280,8 @@ fn net_of(
     add_next(alloc, design, schedule, net)
 }
 
-/// The design of a tree with its guards, its schedule, which obeys the attributes, and its net, which
-/// carries the tree; or the first refusal of two calls of one element, of the two orders, or of the marks
+/// The design of a tree with its guards, its schedule, which obeys the attributes, and its net and its
+/// module, which carry the tree; or the first refusal of two calls of one element, of the two orders, or of the marks
 /// of rules.
 #[tactic(auto, using(crate::proofs::ScheduledTrees::executed_order, crate::proofs::ScheduledTrees::urged_order))]
 pub fn scheduled<R: Threads + Sync>(
@@ -301,11 +304,13 @@ pub fn scheduled<R: Threads + Sync>(
     let schedule = schedule(alloc, &design, execution, urgency)?;
     asserted(alloc, &design, &schedule)?;
     let net = net_of(alloc, &design, &guards, &schedule)?;
+    let verilog = generate(alloc, &design, &net)?;
     Ok(Compiled {
         design,
         guards,
         schedule,
         net,
+        verilog,
     })
 }
 

@@ -1,32 +1,43 @@
--- All words and contents have an answer, where what is accepted can be laid out.
+-- All words and contents have an answer, where what is accepted can be laid out and has a module.
 use Rattle.std.proofs.Common.{◌≡◌, ℕ, List, []}
+use Rattle.bsv_design.specs.declared.schedule.Schedule.{Schedule}
+use Rattle.bsv_design.specs.Trees.{Hierarchy}
+use Rattle.bsv_vtext.specs.VText.{vtext}
+use Rattle.bsv_flow.specs.Compilings.{IsPlanned}
 use Rattle.bsv_flow.specs.Refusals.{refusal_line}
+use Rattle.bsv_top.specs.declared.form.Product.{Product}
+use Rattle.bsv_top.specs.declared.form.Product.TheVariants as product
 use Rattle.bsv_top.specs.declared.status.Status.TheVariants as status
 use Rattle.bsv_top.specs.Answers as a
-use Rattle.bsv_top.specs.Answers.{Asks, HasAnswer, schedule_words, sim_words, no_memory_line, printed, usage_line}
-use Rattle.bsv_top.specs.OneAnswer.{LayOut}
+use Rattle.bsv_top.specs.Answers.{Asks, HasAnswer, sim_words, no_memory_line, printed, usage_line}
+use Rattle.bsv_top.specs.OneAnswer.{HaveModules, LayOut}
+use Rattle.bsv_top.specs.Products.{product_words}
 use Rattle.bsv_top.proofs.Answering.{some_answer}
 use Rattle.bsv_top.proofs.Decides.{Decides, decide}
-use Rattle.bsv_top.proofs.Spelled.{Spells, spells}
+use Rattle.bsv_top.proofs.Spelled.{Spells, asks, spells}
 
-module _ (words : List (List ℕ)) (contents : List ℕ → List ℕ) (lays : LayOut words contents) where
-  of_plan : (file top : List ℕ) → words ≡ schedule_words file top → HasAnswer words contents
-  of_plan file top is = elim (decide file top contents) [
-    | Decides.refused r h ↦ record { decided = status.Refused; output = []; text = refusal_line r; answer = a.Answer.refused r (Asks.schedule is) h }
-    | Decides.no_program l built none ↦ record { decided = status.OutOfMemory; output = []; text = no_memory_line; answer = a.Answer.no_program l (Asks.schedule is) built none }
-    | Decides.planned tree made p ↦ record { decided = status.Done; output = printed tree made; text = []; answer = a.Answer.scheduled tree made is p }
-  ]
+module _ (words : List (List ℕ)) (contents : List ℕ → List ℕ) (lays : LayOut words contents) (has : HaveModules words contents) where
+  -- of what is accepted
+  of_product : (p : Product) (file top : List ℕ) → words ≡ product_words p file top → (tree : Hierarchy) (made : Schedule) → IsPlanned file contents top tree made
+      → HasAnswer words contents
+  of_product product.Schedule file top is tree made p =
+      record { decided = status.Done; output = printed tree made; text = []; answer = a.Answer.scheduled tree made is p }
+  of_product product.Verilog file top is tree made p =
+      let one = has file top tree made is p in
+      record { decided = status.Done; output = vtext one.0; text = []; answer = a.Answer.written tree made one.0 is p one.1 }
 
-  of_run : (file top trace : List ℕ) → words ≡ sim_words file top trace → HasAnswer words contents
-  of_run file top trace is = elim (decide file top contents) [
-    | Decides.refused r h ↦ record { decided = status.Refused; output = []; text = refusal_line r; answer = a.Answer.refused r (Asks.sim trace is) h }
-    | Decides.no_program l built none ↦ record { decided = status.OutOfMemory; output = []; text = no_memory_line; answer = a.Answer.no_program l (Asks.sim trace is) built none }
-    | Decides.planned tree made p ↦ some_answer words contents file top trace is tree made p (lays file top trace tree made is p)
+  -- of words that ask for a file and a module, where what is accepted has an answer
+  of_files : (file top : List ℕ) → Asks words file top → ((tree : Hierarchy) (made : Schedule) → IsPlanned file contents top tree made → HasAnswer words contents)
+      → HasAnswer words contents
+  of_files file top asked accepted = elim (decide file top contents) [
+    | Decides.refused r h ↦ record { decided = status.Refused; output = []; text = refusal_line r; answer = a.Answer.refused r asked h }
+    | Decides.no_program l built none ↦ record { decided = status.OutOfMemory; output = []; text = no_memory_line; answer = a.Answer.no_program l asked built none }
+    | Decides.planned tree made p ↦ accepted tree made p
   ]
 
   pub some : HasAnswer words contents
   some = elim (spells words) [
-    | Spells.plan file top is ↦ of_plan file top is
-    | Spells.run file top trace is ↦ of_run file top trace is
+    | Spells.plan p file top is ↦ of_files file top (asks words p file top is) (of_product p file top is)
+    | Spells.run file top trace is ↦ of_files file top (Asks.sim trace is) (λ tree made p. some_answer words contents file top trace is tree made p (lays file top trace tree made is p))
     | Spells.none h ↦ record { decided = status.Usage; output = []; text = usage_line; answer = a.Answer.usage h }
   ]

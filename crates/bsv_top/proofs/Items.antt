@@ -11,6 +11,10 @@ three_items (p ∷ q ∷ []) a b c len first second third = absurd (omega (arith
 three_items (p ∷ q ∷ r ∷ []) a b c len first second third = cc
 three_items (p ∷ q ∷ r ∷ s ∷ rest) a b c len first second third = absurd (omega (arith, len))
 
+-- lists of three with the same items
+pub same_three : {A : Type 0} (a b c x y z : A) → a ≡ x → b ≡ y → c ≡ z → a ∷ b ∷ c ∷ [] ≡ x ∷ y ∷ z ∷ []
+same_three a b c x y z first second third = cc
+
 -- a list of four has its items
 pub four_items : {A : Type 0} (xs : List A) (a b c d : A) → length xs ≡ 4 → a ≡ get_or xs 0 a → b ≡ get_or xs 1 b → c ≡ get_or xs 2 c → d ≡ get_or xs 3 d → xs ≡ a ∷ b ∷ c ∷ d ∷ []
 four_items [] a b c d len first second third fourth = absurd (omega (arith, len))

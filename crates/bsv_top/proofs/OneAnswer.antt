@@ -1,4 +1,5 @@
--- Two answers to one input are one: they have one status, one output, and one fault text but for the place of a `Syntax`.
+-- Two answers to one input are one: they have one status, one output but for words that ask for Verilog, and one fault text but
+-- for the place of a `Syntax`.
 use Rattle.std.proofs.Common.{◌≡◌, ◌∙◌, ◌⊎◌, inl, inr, ℕ, ◌+◌, false, List, [], ◌∷◌, ◌++◌, length, refl, sym, ap, ap₂, subst}
 use Rattle.std.specs.Prelude.{codes}
 use Rattle.std.specs.List.{flat_map}
@@ -16,27 +17,30 @@ use Rattle.bsv_clock.specs.Runs.{AllFit, Row, Runs, TellRunsAlike}
 use Rattle.bsv_clock.proofs.Clocks.{clock_fed}
 use Rattle.bsv_clock.proofs.OneRun.{same_runs}
 use Rattle.bsv_clock.proofs.Steadily.{steady_scheme}
+use Rattle.bsv_vtext.specs.Signals.{Contents}
+use Rattle.bsv_vtext.specs.VText.{vtext}
 use Rattle.bsv_flow.specs.declared.loading.Loaded.{Loaded}
 use Rattle.bsv_flow.specs.declared.refusal.Refusal.{Refusal}
 use Rattle.bsv_flow.specs.Breaches.{element_name}
 use Rattle.bsv_flow.specs.Buildings.{IsBuilt, Rejects}
 use Rattle.bsv_flow.specs.Compilings.{IsPlanned}
 use Rattle.bsv_flow.specs.Refusals.{refusal_line}
-use Rattle.bsv_flow.specs.Schedulings.{Subject, subject}
+use Rattle.bsv_flow.specs.Schedulings.{IsVerilogOf, Subject, subject}
 use Rattle.bsv_flow.proofs.Planned.{one_tree_planned, one_made_planned}
 use Rattle.bsv_flow.proofs.Trees as trees
+use Rattle.bsv_top.specs.declared.form.Product.TheVariants as product
 use Rattle.bsv_top.specs.declared.status.Status.{Status}
 use Rattle.bsv_top.specs.declared.status.Status.TheVariants as status
 use Rattle.bsv_top.specs.Answers as a
-use Rattle.bsv_top.specs.Answers.{Answer, Asks, HasNoForm, IsNoProgram, schedule_words, sim_words, printed, no_memory_line, trace_fault_line, usage_line}
+use Rattle.bsv_top.specs.Answers.{Answer, Asks, HasNoForm, IsNoProgram, schedule_words, sim_words, verilog_words, printed, no_memory_line, trace_fault_line, usage_line}
 use Rattle.bsv_top.specs.LaidOut.{IsLaidOut}
-use Rattle.bsv_top.specs.OneAnswer.{IsSameText}
+use Rattle.bsv_top.specs.OneAnswer.{AsksNoVerilog, IsSameText}
 use Rattle.bsv_top.specs.Reports.{clocks_text, report}
 use Rattle.bsv_top.specs.Traces.{IsClean, HasBadLine, lines_of}
 use Rattle.bsv_top.proofs.Asked.{asked_once, bad_once, not_both}
 use Rattle.bsv_top.proofs.Decides.{not_refused, not_other}
 use Rattle.bsv_top.proofs.Grounds as grounds
-use Rattle.bsv_top.proofs.Spelled.{forms_apart, same_asked, same_sim}
+use Rattle.bsv_top.proofs.Spelled.{forms_apart, products_apart, same_asked, same_sim}
 
 -- ---- reports of runs that tell the same
 
@@ -72,9 +76,9 @@ report_same s rows others h = ap (λ (t : List ℕ). opening_text s.parts (openi
 
 -- ---- two answers say the same
 
-pub record SameAnswer (s s' : Status) (output more text said : List ℕ) : Type 0 where
+pub record SameAnswer (words : List (List ℕ)) (s s' : Status) (output more text said : List ℕ) : Type 0 where
   pub status_is : s ≡ s'
-  pub output_is : output ≡ more
+  pub output_is : AsksNoVerilog words → output ≡ more
   pub text_is : IsSameText text said
 
 equal_text : (text said : List ℕ) → text ≡ said → IsSameText text said
@@ -96,6 +100,7 @@ module _ (words : List (List ℕ)) (contents : List ℕ → List ℕ) (file top 
     refused : (r : Refusal) → Rejects file contents top r → Tells status.Refused [] (refusal_line r)
     no_program : (l : Loaded) → IsBuilt file contents top l → IsNoProgram l → Tells status.OutOfMemory [] no_memory_line
     scheduled : (tree : Hierarchy) (made : Schedule) → words ≡ schedule_words file top → Accepted tree made → Tells status.Done (printed tree made) []
+    written : (tree : Hierarchy) (made : Schedule) (v : Contents) → words ≡ verilog_words file top → Accepted tree made → IsVerilogOf tree made v → Tells status.Done (vtext v) []
     done : (trace : List ℕ) (tree : Hierarchy) (made : Schedule) (qs : List Asking) (rows : List Row) → words ≡ sim_words file top trace → Accepted tree made → IsLaidOut tree
         → Clean tree trace qs → Runs false (tree_scheme tree) made qs rows → Tells status.Done (report (subject tree) rows) []
     trace_fault : (trace : List ℕ) (tree : Hierarchy) (made : Schedule) (qs : List Asking) (rows : List Row) → words ≡ sim_words file top trace → Accepted tree made → IsLaidOut tree
@@ -160,33 +165,44 @@ module _ (words : List (List ℕ)) (contents : List ℕ → List ℕ) (file top 
     report_there : (rows : List Row) → report (subject tree) rows ≡ report (subject u) rows
     report_there rows = ap (λ (t : Hierarchy). report (subject t) rows) (sym tree_is)
 
-  same : (s s' : Status) (output more text said : List ℕ) → Tells s output text → Tells s' more said → SameAnswer s s' output more text said
+  same : (s s' : Status) (output more text said : List ℕ) → Tells s output text → Tells s' more said → SameAnswer words s s' output more text said
   same s s' output more text said (refused r h) (refused e g) =
-      record { status_is = refl; output_is = refl; text_is = IsSameText.refused (trees.of_building file contents top r e h g) }
+      record { status_is = refl; output_is = λ none. refl; text_is = IsSameText.refused (trees.of_building file contents top r e h g) }
   same s s' output more text said (refused r h) (no_program l built none) = apart r l h built
   same s s' output more text said (refused r h) (scheduled tree made is p) = absurd (not_refused file top contents r h tree made p)
+  same s s' output more text said (refused r h) (written tree made v is p has) = absurd (not_refused file top contents r h tree made p)
   same s s' output more text said (refused r h) (done trace tree made qs rows is p laid clean runs) = absurd (not_refused file top contents r h tree made p)
   same s s' output more text said (refused r h) (trace_fault trace tree made qs rows is p laid bad runs) = absurd (not_refused file top contents r h tree made p)
   same s s' output more text said (no_program l built none) (refused r h) = apart r l h built
-  same s s' output more text said (no_program l built none) (no_program k also n) = record { status_is = refl; output_is = refl; text_is = IsSameText.equal }
+  same s s' output more text said (no_program l built none) (no_program k also n) = record { status_is = refl; output_is = λ none. refl; text_is = IsSameText.equal }
   same s s' output more text said (no_program l built none) (scheduled tree made is p) = absurd (not_other file top contents l built none tree made p)
+  same s s' output more text said (no_program l built none) (written tree made v is p has) = absurd (not_other file top contents l built none tree made p)
   same s s' output more text said (no_program l built none) (done trace tree made qs rows is p laid clean runs) = absurd (not_other file top contents l built none tree made p)
   same s s' output more text said (no_program l built none) (trace_fault trace tree made qs rows is p laid bad runs) = absurd (not_other file top contents l built none tree made p)
   same s s' output more text said (scheduled tree made is p) (refused r h) = absurd (not_refused file top contents r h tree made p)
   same s s' output more text said (scheduled tree made is p) (no_program l built none) = absurd (not_other file top contents l built none tree made p)
   same s s' output more text said (scheduled tree made is p) (scheduled u other k q) = record {
     status_is = refl;
-    output_is = sym (ap (λ (t : Hierarchy). printed t other) (tree_is tree u made other p q) ∙ ap (printed tree) (made_is tree u made other p q));
+    output_is = λ none. sym (ap (λ (t : Hierarchy). printed t other) (tree_is tree u made other p q) ∙ ap (printed tree) (made_is tree u made other p q));
     text_is = IsSameText.equal;
   }
-  same s s' output more text said (scheduled tree made is p) (done trace u other qs rows k q laid clean runs) = absurd (forms_apart file top trace file top (sym k ∙ is))
-  same s s' output more text said (scheduled tree made is p) (trace_fault trace u other qs rows k q laid bad runs) = absurd (forms_apart file top trace file top (sym k ∙ is))
+  same s s' output more text said (scheduled tree made is p) (written u other v k q has) = absurd (products_apart file top file top (sym is ∙ k))
+  same s s' output more text said (scheduled tree made is p) (done trace u other qs rows k q laid clean runs) = absurd (forms_apart file top trace file top product.Schedule (sym k ∙ is))
+  same s s' output more text said (scheduled tree made is p) (trace_fault trace u other qs rows k q laid bad runs) = absurd (forms_apart file top trace file top product.Schedule (sym k ∙ is))
+  same s s' output more text said (written tree made v is p has) (refused r h) = absurd (not_refused file top contents r h tree made p)
+  same s s' output more text said (written tree made v is p has) (no_program l built none) = absurd (not_other file top contents l built none tree made p)
+  same s s' output more text said (written tree made v is p has) (scheduled u other k q) = absurd (products_apart file top file top (sym k ∙ is))
+  same s s' output more text said (written tree made v is p has) (written u other w k q also) = record { status_is = refl; output_is = λ none. absurd (none file top is); text_is = IsSameText.equal }
+  same s s' output more text said (written tree made v is p has) (done trace u other qs rows k q laid clean runs) = absurd (forms_apart file top trace file top product.Verilog (sym k ∙ is))
+  same s s' output more text said (written tree made v is p has) (trace_fault trace u other qs rows k q laid bad runs) = absurd (forms_apart file top trace file top product.Verilog (sym k ∙ is))
   same s s' output more text said (done trace tree made qs rows is p laid clean runs) (refused r h) = absurd (not_refused file top contents r h tree made p)
   same s s' output more text said (done trace tree made qs rows is p laid clean runs) (no_program l built none) = absurd (not_other file top contents l built none tree made p)
-  same s s' output more text said (done trace tree made qs rows is p laid clean runs) (scheduled u other k q) = absurd (forms_apart file top trace file top (sym is ∙ k))
+  same s s' output more text said (done trace tree made qs rows is p laid clean runs) (scheduled u other k q) = absurd (forms_apart file top trace file top product.Schedule (sym is ∙ k))
+  same s s' output more text said (done trace tree made qs rows is p laid clean runs) (written u other v k q has) = absurd (forms_apart file top trace file top product.Verilog (sym is ∙ k))
   same s s' output more text said (done trace tree made qs rows is p laid clean runs) (done r u other rs others k q again clear run) = record {
     status_is = refl;
-    output_is = done_same tree made p laid trace qs rs rows others clean (clean_here tree u made other p q trace r rs (same_trace trace r is k) clear) runs (runs_here tree u made other p q rs others run)
+    output_is = λ none.
+        done_same tree made p laid trace qs rs rows others clean (clean_here tree u made other p q trace r rs (same_trace trace r is k) clear) runs (runs_here tree u made other p q rs others run)
         ∙ report_there tree u made other p q others;
     text_is = IsSameText.equal;
   }
@@ -194,14 +210,15 @@ module _ (words : List (List ℕ)) (contents : List ℕ → List ℕ) (file top 
       absurd (not_both (tree_scheme tree).elements 0 (lines_of (contents trace)) qs rs clean (bad_here tree u made other p q trace r rs (same_trace trace r is k) bad))
   same s s' output more text said (trace_fault trace tree made qs rows is p laid bad runs) (refused r h) = absurd (not_refused file top contents r h tree made p)
   same s s' output more text said (trace_fault trace tree made qs rows is p laid bad runs) (no_program l built none) = absurd (not_other file top contents l built none tree made p)
-  same s s' output more text said (trace_fault trace tree made qs rows is p laid bad runs) (scheduled u other k q) = absurd (forms_apart file top trace file top (sym is ∙ k))
+  same s s' output more text said (trace_fault trace tree made qs rows is p laid bad runs) (scheduled u other k q) = absurd (forms_apart file top trace file top product.Schedule (sym is ∙ k))
+  same s s' output more text said (trace_fault trace tree made qs rows is p laid bad runs) (written u other v k q has) = absurd (forms_apart file top trace file top product.Verilog (sym is ∙ k))
   same s s' output more text said (trace_fault trace tree made qs rows is p laid bad runs) (done r u other rs others k q again clear run) =
       absurd (not_both (tree_scheme tree).elements 0 (lines_of (contents trace)) rs qs (clean_here tree u made other p q trace r rs (same_trace trace r is k) clear) bad)
   same s s' output more text said (trace_fault trace tree made qs rows is p laid bad runs) (trace_fault r u other rs others k q again wrong run) =
       let both = fault_same tree made p laid trace qs rs rows others bad (bad_here tree u made other p q trace r rs (same_trace trace r is k) wrong) runs (runs_here tree u made other p q rs others run) in
       record {
         status_is = refl;
-        output_is = both.0 ∙ report_there tree u made other p q others;
+        output_is = λ none. both.0 ∙ report_there tree u made other p q others;
         text_is = equal_text (trace_fault_line (length qs + 1)) (trace_fault_line (length rs + 1)) (ap (λ (xs : List Asking). trace_fault_line (length xs + 1)) both.1);
       }
 
@@ -219,6 +236,8 @@ module _ (words : List (List ℕ)) (contents : List ℕ → List ℕ) where
       tells_at f t file top s output text (same_asked words f t file top k asks) (Tells.no_program l built none)
   told file top s output text asks (a.Answer.scheduled {file = f} {top = t} tree made is p) =
       tells_at f t file top s output text (same_asked words f t file top (Asks.schedule is) asks) (Tells.scheduled tree made is p)
+  told file top s output text asks (a.Answer.written {file = f} {top = t} tree made v is p has) =
+      tells_at f t file top s output text (same_asked words f t file top (Asks.verilog is) asks) (Tells.written tree made v is p has)
   told file top s output text asks (a.Answer.done {file = f} {top = t} {trace = r} tree made qs rows is p laid clean runs) =
       tells_at f t file top s output text (same_asked words f t file top (Asks.sim r is) asks) (Tells.done r tree made qs rows is p laid clean runs)
   told file top s output text asks (a.Answer.trace_fault {file = f} {top = t} {trace = r} tree made qs rows is p laid bad runs) =
@@ -235,11 +254,12 @@ module _ (words : List (List ℕ)) (contents : List ℕ → List ℕ) where
   same_usage s output text none (a.Answer.refused r k h) = absurd (none _ _ k)
   same_usage s output text none (a.Answer.no_program l k built other) = absurd (none _ _ k)
   same_usage s output text none (a.Answer.scheduled tree made is p) = absurd (none _ _ (Asks.schedule is))
+  same_usage s output text none (a.Answer.written tree made v is p has) = absurd (none _ _ (Asks.verilog is))
   same_usage s output text none (a.Answer.done tree made qs rows is p laid clean runs) = absurd (none _ _ (Asks.sim _ is))
   same_usage s output text none (a.Answer.trace_fault tree made qs rows is p laid bad runs) = absurd (none _ _ (Asks.sim _ is))
 
   same_form : (s s' : Status) (output more text said : List ℕ) (file top : List ℕ) → Asks words file top → Answer words contents s output text → Answer words contents s' more said
-      → SameAnswer s s' output more text said
+      → SameAnswer words s s' output more text said
   same_form s s' output more text said file top asks answer other =
       same words contents file top s s' output more text said (told file top s output text asks answer) (told file top s' more said asks other)
 
@@ -249,10 +269,11 @@ module _ (words : List (List ℕ)) (contents : List ℕ → List ℕ) where
   asked s output text (a.Answer.refused {file = f} {top = t} r k h) = inl (f, t, k)
   asked s output text (a.Answer.no_program {file = f} {top = t} l k built none) = inl (f, t, k)
   asked s output text (a.Answer.scheduled {file = f} {top = t} tree made is p) = inl (f, t, Asks.schedule is)
+  asked s output text (a.Answer.written {file = f} {top = t} tree made v is p has) = inl (f, t, Asks.verilog is)
   asked s output text (a.Answer.done {file = f} {top = t} {trace = r} tree made qs rows is p laid clean runs) = inl (f, t, Asks.sim r is)
   asked s output text (a.Answer.trace_fault {file = f} {top = t} {trace = r} tree made qs rows is p laid bad runs) = inl (f, t, Asks.sim r is)
 
-  pub one_answer : (s s' : Status) (output more text said : List ℕ) → Answer words contents s output text → Answer words contents s' more said → SameAnswer s s' output more text said
+  pub one_answer : (s s' : Status) (output more text said : List ℕ) → Answer words contents s output text → Answer words contents s' more said → SameAnswer words s s' output more text said
   one_answer s s' output more text said answer other =
       elim (asked s output text answer) [
         | inl form ↦ same_form s s' output more text said form.0 form.1 form.2 answer other
@@ -261,7 +282,7 @@ module _ (words : List (List ℕ)) (contents : List ℕ → List ℕ) where
             let two = same_usage s' more said none other in
             record {
               status_is = sym one.status_is ∙ two.status_is;
-              output_is = sym one.output_is ∙ two.output_is;
+              output_is = λ asks. sym one.output_is ∙ two.output_is;
               text_is = equal_text text said (sym one.text_is ∙ two.text_is);
             })
       ]

@@ -1,39 +1,46 @@
--- The text of a schedule of what is compiled is that of its tree.
+-- What is put of what was compiled, a schedule or Verilog, is the output of an answer.
 use Rattle.std.proofs.Common.{◌≡◌, ◌∙◌, ℕ, List, [], refl, sym, ap, subst}
 use Rattle.std.proofs.Math.Path.{fun_ext}
 use Rattle.bsv_io.specs.Writing.{Writing, appended, AppendsPrefix}
 use Rattle.bsv_design.specs.Schemes.{Outline, tree_scheme}
 use Rattle.std.specs.Prelude.{slice_get}
 use Rattle.bsv_trace.specs.Texts.{name_at, schedule_text}
+use Rattle.bsv_vtext.specs.AtHand as hand
 use Rattle.bsv_flow.specs.declared.scheduling.Compiled.{Compiled}
 use Rattle.bsv_flow.specs.Breaches.{element_name, outline_name}
-use Rattle.bsv_flow.specs.Compilings.{IsCompiled}
+use Rattle.bsv_flow.specs.Compilings.{IsCompiled, IsPlanned}
 use Rattle.bsv_flow.proofs.Planned.{compiled_planned}
+use Rattle.bsv_top.specs.declared.form.Product.{Product}
+use Rattle.bsv_top.specs.declared.form.Product.TheVariants as product
+use Rattle.bsv_top.specs.declared.status.Status.TheVariants as status
 use Rattle.bsv_top.specs.Answers as a
-use Rattle.bsv_top.specs.Answers.{printed, schedule_words}
+use Rattle.bsv_top.specs.Answers.{Answer, printed, schedule_words}
 use Rattle.bsv_top.specs.Outcomes.{IsDoneBy, OutputBegun, begun}
+use Rattle.bsv_top.specs.Products.{product_text, product_words}
 use Rattle.bsv_top.proofs.Named.{names_are}
 
 module _ (file : List ℕ) (contents : List ℕ → List ℕ) (top : List ℕ) (c : Compiled) (x : IsCompiled file contents top c) where
-  abbrev text : List ℕ
-  text = schedule_text (name_at c.design.elements) c.schedule
+  planned : IsPlanned file contents top x.compiled.tree c.schedule
+  planned = compiled_planned file contents top c x
 
+  -- the text of the schedule is that of the tree
   name_here : (n : ℕ) → name_at c.design.elements n ≡ element_name (tree_scheme x.compiled.tree) n
   name_here n = names_are c.design n ∙ ap (λ (os : List Outline). outline_name (slice_get os n)) (sym x.compiled.design.alike.elements)
 
-  printed_here : text ≡ printed x.compiled.tree c.schedule
+  printed_here : schedule_text (name_at c.design.elements) c.schedule ≡ printed x.compiled.tree c.schedule
   unfolding printed
   printed_here = ap (λ (named : ℕ → List ℕ). schedule_text named c.schedule) (fun_ext name_here)
 
+  product_answer : (p : Product) → Answer (product_words p file top) contents status.Done (product_text p c) []
+  product_answer product.Schedule =
+      subst (λ (t : List ℕ). Answer (schedule_words file top) contents status.Done t []) (sym printed_here)
+      (a.Answer.scheduled x.compiled.tree c.schedule refl planned)
+  product_answer product.Verilog = a.Answer.written x.compiled.tree c.schedule (hand.contents c.verilog) refl planned x.compiled.design.verilog
+
   -- it is put whole
-  pub plan_done : (out out' : Writing) → out' ≡ appended text out → IsDoneBy (schedule_words file top) contents out out'
-  plan_done out out' put = record {
-    output = printed x.compiled.tree c.schedule;
-    answer = a.Answer.scheduled x.compiled.tree c.schedule refl (compiled_planned file contents top c x);
-    put = put ∙ ap (λ (t : List ℕ). appended t out) printed_here;
-  }
+  pub plan_done : (p : Product) (out out' : Writing) → out' ≡ appended (product_text p c) out → IsDoneBy (product_words p file top) contents out out'
+  plan_done p out out' put = record { output = product_text p c; answer = product_answer p; put = put }
 
   -- or a prefix of it
-  pub plan_begun : (out out' : Writing) → AppendsPrefix text out out' → OutputBegun (schedule_words file top) contents out out'
-  plan_begun out out' prefix =
-      begun [] (a.Answer.scheduled x.compiled.tree c.schedule refl (compiled_planned file contents top c x)) (subst (λ (t : List ℕ). AppendsPrefix t out out') printed_here prefix)
+  pub plan_begun : (p : Product) (out out' : Writing) → AppendsPrefix (product_text p c) out out' → OutputBegun (product_words p file top) contents out out'
+  plan_begun p out out' prefix = begun [] (product_answer p) prefix

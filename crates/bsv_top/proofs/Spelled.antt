@@ -3,8 +3,11 @@ use Rattle.std.proofs.Common.{◌≡◌, ◌∙◌, ℕ, Bool, true, false, List
 use Rattle.std.specs.Str.{bytes_eq}
 use Rattle.std.proofs.lemmas.Slice.Eq.{bytes_eq-Decides}
 use Rattle.bsv_io.specs.Reading.{Reading}
+use Rattle.bsv_top.specs.declared.form.Product.{Product}
+use Rattle.bsv_top.specs.declared.form.Product.TheVariants as product
 use Rattle.bsv_top.specs.Places.{IsTraceWithin}
-use Rattle.bsv_top.specs.Answers.{Asks, HasNoForm, schedule_words, sim_words}
+use Rattle.bsv_top.specs.Products.{command_of, product_words}
+use Rattle.bsv_top.specs.Answers.{Asks, HasNoForm, schedule_words, sim_words, verilog_words}
 
 -- the parts of words
 second_of : List (List ℕ) → List ℕ
@@ -20,9 +23,13 @@ fourth_of : List (List ℕ) → List ℕ
 fourth_of [] = []
 fourth_of (x ∷ rest) = third_of rest
 
--- the words of a simulation ask for no schedule
-pub forms_apart : (file top trace name asked : List ℕ) → sim_words file top trace ≡ schedule_words name asked → ⊥
-forms_apart file top trace name asked e = cc
+-- the words of a simulation ask for no product
+pub forms_apart : (file top trace name asked : List ℕ) (p : Product) → sim_words file top trace ≡ product_words p name asked → ⊥
+forms_apart file top trace name asked p e = cc
+
+-- the words of a schedule ask for no Verilog
+pub products_apart : (file top name asked : List ℕ) → schedule_words file top ≡ verilog_words name asked → ⊥
+products_apart file top name asked e = cc
 
 -- words name one file, one module and one trace
 pub same_sim : (file top trace f t r : List ℕ) → sim_words file top trace ≡ sim_words f t r → (file ≡ f) × (top ≡ t) × (trace ≡ r)
@@ -37,56 +44,81 @@ same_trace file top trace f t u e contents r h =
     subst (λ (name : List ℕ). IsTraceWithin f t name contents r) same.2
     (subst (λ (name : List ℕ). IsTraceWithin f name trace contents r) same.1 (subst (λ (name : List ℕ). IsTraceWithin name top trace contents r) same.0 h))
 
-pub same_schedule : (file top f t : List ℕ) → schedule_words file top ≡ schedule_words f t → (file ≡ f) × (top ≡ t)
+-- the file and the module stand behind the first word
+asked_parts : (words : List (List ℕ)) (file top : List ℕ) → Asks words file top → (second_of words ≡ file) × (third_of words ≡ top)
 unfolding second_of third_of
-same_schedule file top f t e = (ap second_of e, ap third_of e)
+asked_parts words file top (Asks.schedule is) = (ap second_of is, ap third_of is)
+asked_parts words file top (Asks.verilog is) = (ap second_of is, ap third_of is)
+asked_parts words file top (Asks.sim trace is) = (ap second_of is, ap third_of is)
 
 pub same_asked : (words : List (List ℕ)) (file top f t : List ℕ) → Asks words file top → Asks words f t → (file ≡ f) × (top ≡ t)
-same_asked words file top f t (Asks.schedule one) (Asks.schedule two) = same_schedule file top f t (sym one ∙ two)
-same_asked words file top f t (Asks.schedule one) (Asks.sim trace two) = absurd (forms_apart f t trace file top (sym two ∙ one))
-same_asked words file top f t (Asks.sim trace one) (Asks.schedule two) = absurd (forms_apart file top trace f t (sym one ∙ two))
-same_asked words file top f t (Asks.sim trace one) (Asks.sim r two) = let same = same_sim file top trace f t r (sym one ∙ two) in (same.0, same.1)
+same_asked words file top f t one two =
+    let here = asked_parts words file top one in
+    let there = asked_parts words f t two in
+    (sym here.0 ∙ there.0, sym here.1 ∙ there.1)
 
 -- ---- words have a form or none
 
+pub asks : (words : List (List ℕ)) (p : Product) (file top : List ℕ) → words ≡ product_words p file top → Asks words file top
+asks words product.Schedule file top is = Asks.schedule is
+asks words product.Verilog file top is = Asks.verilog is
+
+pub asks_product : (p : Product) (file top : List ℕ) → Asks (product_words p file top) file top
+asks_product p file top = asks (product_words p file top) p file top refl
+
+pub no_form : (words : List (List ℕ)) → ((p : Product) (file top : List ℕ) → words ≡ product_words p file top → ⊥)
+    → ((file top trace : List ℕ) → words ≡ sim_words file top trace → ⊥) → HasNoForm words
+no_form words no_plan no_sim file top (Asks.schedule h) = no_plan product.Schedule file top h
+no_form words no_plan no_sim file top (Asks.verilog h) = no_plan product.Verilog file top h
+no_form words no_plan no_sim file top (Asks.sim trace h) = no_sim file top trace h
+
+-- a first word that is neither command is that of no product
+no_command : (command : List ℕ) → (command ≡ codes "schedule" → ⊥) → (command ≡ codes "verilog" → ⊥) → (p : Product) → command ≡ command_of p → ⊥
+no_command command no_schedule no_verilog product.Schedule = no_schedule
+no_command command no_schedule no_verilog product.Verilog = no_verilog
+
 pub data Spells (words : List (List ℕ)) : Type 0 where
-  plan : (file top : List ℕ) → words ≡ schedule_words file top → Spells words
+  plan : (p : Product) (file top : List ℕ) → words ≡ product_words p file top → Spells words
   run : (file top trace : List ℕ) → words ≡ sim_words file top trace → Spells words
   none : HasNoForm words → Spells words
 
-neither : (words : List (List ℕ)) → ((file top : List ℕ) → words ≡ schedule_words file top → ⊥) → ((file top trace : List ℕ) → words ≡ sim_words file top trace → ⊥)
-    → Spells words
-neither words no_plan no_sim = none without
-  where
-    without : HasNoForm words
-    without file top (Asks.schedule h) = no_plan file top h
-    without file top (Asks.sim trace h) = no_sim file top trace h
+neither : (words : List (List ℕ)) → ((p : Product) (file top : List ℕ) → words ≡ product_words p file top → ⊥)
+    → ((file top trace : List ℕ) → words ≡ sim_words file top trace → ⊥) → Spells words
+neither words no_plan no_sim = none (no_form words no_plan no_sim)
 
-plans_by : (command file top : List ℕ) (b : Bool) → bytes_eq command (codes "schedule") ≡ b → Spells (command ∷ file ∷ top ∷ [])
-plans_by command file top true same =
-    plan file top (ap (λ (first : List ℕ). first ∷ file ∷ top ∷ []) ((bytes_eq-Decides command (codes "schedule")).0 same))
-plans_by command file top false other = neither (command ∷ file ∷ top ∷ [])
-    (λ f t h.
-    let first : command ≡ codes "schedule" = cc in
-    let same = (bytes_eq-Decides command (codes "schedule")).1 first in
-    let no_value : ⊥ = cc in no_value)
+-- another command
+other : (command word : List ℕ) → bytes_eq command word ≡ false → command ≡ word → ⊥
+other command word different e =
+    let same = (bytes_eq-Decides command word).1 e in
+    let no_value : ⊥ = cc in no_value
+
+plans_as : (command file top : List ℕ) (p : Product) → bytes_eq command (command_of p) ≡ true → Spells (command ∷ file ∷ top ∷ [])
+plans_as command file top p same =
+    plan p file top (ap (λ (first : List ℕ). first ∷ file ∷ top ∷ []) ((bytes_eq-Decides command (command_of p)).0 same))
+
+plans_by : (command file top : List ℕ) (b d : Bool) → bytes_eq command (codes "schedule") ≡ b → bytes_eq command (codes "verilog") ≡ d → Spells (command ∷ file ∷ top ∷ [])
+plans_by command file top true d one two = plans_as command file top product.Schedule one
+plans_by command file top false true one two = plans_as command file top product.Verilog two
+plans_by command file top false false one two = neither (command ∷ file ∷ top ∷ [])
+    (λ p f t h.
+    let first : command ≡ command_of p = cc in
+    no_command command (other command (codes "schedule") one) (other command (codes "verilog") two) p first)
     (λ f t r h. let no_value : ⊥ = cc in no_value)
 
 runs_by : (command file top trace : List ℕ) (b : Bool) → bytes_eq command (codes "sim") ≡ b → Spells (command ∷ file ∷ top ∷ trace ∷ [])
 runs_by command file top trace true same =
     run file top trace (ap (λ (first : List ℕ). first ∷ file ∷ top ∷ trace ∷ []) ((bytes_eq-Decides command (codes "sim")).0 same))
-runs_by command file top trace false other = neither (command ∷ file ∷ top ∷ trace ∷ [])
-    (λ f t h. let no_value : ⊥ = cc in no_value)
+runs_by command file top trace false different = neither (command ∷ file ∷ top ∷ trace ∷ [])
+    (λ p f t h. let no_value : ⊥ = cc in no_value)
     (λ f t r h.
     let first : command ≡ codes "sim" = cc in
-    let same = (bytes_eq-Decides command (codes "sim")).1 first in
-    let no_value : ⊥ = cc in no_value)
+    other command (codes "sim") different first)
 
 pub spells : (words : List (List ℕ)) → Spells words
-spells [] = neither [] (λ f t h. let no_value : ⊥ = cc in no_value) (λ f t r h. let no_value : ⊥ = cc in no_value)
-spells (command ∷ []) = neither (command ∷ []) (λ f t h. let no_value : ⊥ = cc in no_value) (λ f t r h. let no_value : ⊥ = cc in no_value)
-spells (command ∷ file ∷ []) = neither (command ∷ file ∷ []) (λ f t h. let no_value : ⊥ = cc in no_value) (λ f t r h. let no_value : ⊥ = cc in no_value)
-spells (command ∷ file ∷ top ∷ []) = plans_by command file top (bytes_eq command (codes "schedule")) refl
+spells [] = neither [] (λ p f t h. let no_value : ⊥ = cc in no_value) (λ f t r h. let no_value : ⊥ = cc in no_value)
+spells (command ∷ []) = neither (command ∷ []) (λ p f t h. let no_value : ⊥ = cc in no_value) (λ f t r h. let no_value : ⊥ = cc in no_value)
+spells (command ∷ file ∷ []) = neither (command ∷ file ∷ []) (λ p f t h. let no_value : ⊥ = cc in no_value) (λ f t r h. let no_value : ⊥ = cc in no_value)
+spells (command ∷ file ∷ top ∷ []) = plans_by command file top (bytes_eq command (codes "schedule")) (bytes_eq command (codes "verilog")) refl refl
 spells (command ∷ file ∷ top ∷ trace ∷ []) = runs_by command file top trace (bytes_eq command (codes "sim")) refl
 spells (command ∷ file ∷ top ∷ trace ∷ more ∷ rest) = neither (command ∷ file ∷ top ∷ trace ∷ more ∷ rest)
-    (λ f t h. let no_value : ⊥ = cc in no_value) (λ f t r h. let no_value : ⊥ = cc in no_value)
+    (λ p f t h. let no_value : ⊥ = cc in no_value) (λ f t r h. let no_value : ⊥ = cc in no_value)

@@ -18,10 +18,11 @@ use Rattle.bsv_top.specs.Outcomes as o
 use Rattle.bsv_top.specs.Outcomes.{Answered, IsDecided, IsDoneBy, IsUnread, TextBegun, Unreadable}
 use Rattle.bsv_top.specs.Stops.{IsStopOf, status_of, text_of}
 use Rattle.bsv_top.proofs.OneAnswer as one
+use Rattle.bsv_top.proofs.Spelled.{asks}
 
 -- words of a form have one
 pub has_form : (words : List (List ℕ)) (f : Form) → words ≡ words_of f → HasNoForm words → ⊥
-has_form words (form.Schedule p) is none = none p.file.now p.top.now (Asks.schedule is)
+has_form words (form.Plan p) is none = none p.file.now p.top.now (asks words p.product p.file.now p.top.now is)
 has_form words (form.Sim s) is none = none s.file.now s.top.now (Asks.sim s.trace.now is)
 
 -- a decided status is not that of a write fault
@@ -43,6 +44,14 @@ only_bad (stop.Unread name) e = absurd cc
 only_bad stop.Unwritable e = absurd cc
 only_bad stop.OutOfMemory e = absurd cc
 only_bad (stop.BadLine number) e = (number, refl)
+
+-- want of memory alone is told as such
+pub only_memory : (s : Stop) → status_of s ≡ status.OutOfMemory → s ≡ stop.OutOfMemory
+only_memory (stop.Refused refusal) e = absurd cc
+only_memory (stop.Unread name) e = absurd cc
+only_memory stop.Unwritable e = absurd cc
+only_memory stop.OutOfMemory e = refl
+only_memory (stop.BadLine number) e = absurd cc
 
 -- a file that could not be read counts as a fault
 pub unread_faults : (words : List (List ℕ)) (name : List ℕ) (files files' : Reading) (out out' : Writing) → IsUnread words name files files' out out' → MayFault files.faults files'.faults

@@ -1,5 +1,5 @@
 -- What a run answers: how the words and the contents of the files decide the status, the output and the
--- fault text, where nothing fails and memory is there.
+-- fault text, where nothing fails and memory is there. Where Verilog is asked for, they leave a choice of modules.
 use Rattle.std.specs.Prelude.{◌≡◌, ℕ, ◌+◌, List, [], ◌∷◌, ◌++◌, length, false, codes, decimal}
 use Rattle.bsv_types.specs.declared.typed.Typed.{Typed}
 use Rattle.bsv_design.specs.declared.schedule.Schedule.{Schedule}
@@ -7,13 +7,15 @@ use Rattle.bsv_design.specs.Schemes.{Asking, tree_scheme}
 use Rattle.bsv_design.specs.Trees.{Hierarchy}
 use Rattle.bsv_trace.specs.Texts.{line_feed, schedule_text}
 use Rattle.bsv_clock.specs.Runs.{Row, Runs}
+use Rattle.bsv_vtext.specs.Signals.{Contents}
+use Rattle.bsv_vtext.specs.VText.{vtext}
 use Rattle.bsv_flow.specs.declared.loading.Loaded.{Loaded}
 use Rattle.bsv_flow.specs.declared.refusal.Refusal.{Refusal}
 use Rattle.bsv_flow.specs.Breaches.{element_name}
 use Rattle.bsv_flow.specs.Buildings.{IsProgram, IsBuilt, Rejects}
 use Rattle.bsv_flow.specs.Compilings.{IsPlanned}
 use Rattle.bsv_flow.specs.Refusals.{refusal_line}
-use Rattle.bsv_flow.specs.Schedulings.{subject}
+use Rattle.bsv_flow.specs.Schedulings.{IsVerilogOf, subject}
 use Rattle.bsv_top.specs.declared.status.Status.{Status}
 use Rattle.bsv_top.specs.declared.status.Status.TheVariants as status
 use Rattle.bsv_top.specs.LaidOut.{IsLaidOut}
@@ -26,13 +28,18 @@ use Rattle.bsv_top.specs.Traces.{IsClean, HasBadLine}
 abbrev pub schedule_words : List ℕ → List ℕ → List (List ℕ)
 schedule_words file top = codes "schedule" ∷ file ∷ top ∷ []
 
+-- the words of Verilog
+abbrev pub verilog_words : List ℕ → List ℕ → List (List ℕ)
+verilog_words file top = codes "verilog" ∷ file ∷ top ∷ []
+
 -- the words of a simulation
 abbrev pub sim_words : List ℕ → List ℕ → List ℕ → List (List ℕ)
 sim_words file top trace = codes "sim" ∷ file ∷ top ∷ trace ∷ []
 
--- the words ask for the schedule of a module of a file, or for its simulation over a trace
+-- the words ask for the schedule of a module of a file, for its Verilog, or for its simulation over a trace
 pub data Asks (words : List (List ℕ)) (file top : List ℕ) : Type 0 where
   schedule : words ≡ schedule_words file top → Asks words file top
+  verilog : words ≡ verilog_words file top → Asks words file top
   sim : (trace : List ℕ) → words ≡ sim_words file top trace → Asks words file top
 
 -- the words have no form that the program knows
@@ -73,6 +80,10 @@ pub data Answer (words : List (List ℕ)) (contents : List ℕ → List ℕ) : S
   scheduled : {file top : List ℕ} (tree : Hierarchy) (made : Schedule) → words ≡ schedule_words file top
       → IsPlanned file contents top tree made
       → Answer words contents status.Done (printed tree made) []
+  -- the text of a Verilog module of the tree; each such module is an answer, since its numbered wires are the compiler's choice
+  written : {file top : List ℕ} (tree : Hierarchy) (made : Schedule) (v : Contents) → words ≡ verilog_words file top
+      → IsPlanned file contents top tree made → IsVerilogOf tree made v
+      → Answer words contents status.Done (vtext v) []
   -- each line of the trace asks for a request, and the clocks of a run of these requests are reported
   done : {file top trace : List ℕ} (tree : Hierarchy) (made : Schedule) (qs : List Asking) (rows : List Row)
       → words ≡ sim_words file top trace → IsPlanned file contents top tree made → IsLaidOut tree

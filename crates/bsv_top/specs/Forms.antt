@@ -2,8 +2,13 @@
 use Rattle.std.specs.Prelude.{ℕ, List}
 use Rattle.bsv_top.specs.declared.form.Form.{Form}
 use Rattle.bsv_top.specs.declared.form.Form.TheVariants as form
-use Rattle.bsv_top.specs.Answers.{schedule_words, sim_words}
+use Rattle.bsv_top.specs.declared.form.Planning.{Planning}
+use Rattle.bsv_top.specs.Answers.{sim_words}
+use Rattle.bsv_top.specs.Products.{product_words}
+
+abbrev pub planning_words : Planning → List (List ℕ)
+planning_words p = product_words p.product p.file.now p.top.now
 
 abbrev pub words_of : Form → List (List ℕ)
-words_of (form.Schedule p) = schedule_words p.file.now p.top.now
+words_of (form.Plan p) = planning_words p
 words_of (form.Sim s) = sim_words s.file.now s.top.now s.trace.now

@@ -5,6 +5,7 @@ pub mod LaidOut
 pub mod OneAnswer
 pub mod Outcomes
 pub mod Places
+pub mod Products
 pub mod Reading
 pub mod Reports
 pub mod Running

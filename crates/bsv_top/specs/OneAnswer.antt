@@ -1,4 +1,5 @@
--- When there is an answer, and when two fault texts of one input are one: they differ at most in the place of a `Syntax`.
+-- When there is an answer, and when two answers of one input are one: two modules may carry one tree, and two fault texts differ
+-- at most in the place of a `Syntax`.
 use Rattle.std.specs.Prelude.{◌≡◌, ℕ, List}
 use Rattle.bsv_design.specs.declared.schedule.Schedule.{Schedule}
 use Rattle.bsv_design.specs.Trees.{Hierarchy}
@@ -6,7 +7,9 @@ use Rattle.bsv_flow.specs.Compilings.{IsPlanned}
 use Rattle.bsv_flow.specs.declared.refusal.Refusal.{Refusal}
 use Rattle.bsv_flow.specs.OneAnswer.{IsSameRefusal}
 use Rattle.bsv_flow.specs.Refusals.{refusal_line}
-use Rattle.bsv_top.specs.Answers.{sim_words}
+use Rattle.bsv_flow.specs.Schedulings.{IsVerilogOf}
+use Rattle.bsv_vtext.specs.Signals.{Contents}
+use Rattle.bsv_top.specs.Answers.{sim_words, verilog_words}
 use Rattle.bsv_top.specs.LaidOut.{IsLaidOut}
 
 -- where the words ask for a simulation, what is accepted can be laid out
@@ -14,6 +17,16 @@ abbrev pub LayOut : List (List ℕ) → (List ℕ → List ℕ) → Type 0
 LayOut words contents =
     (file top trace : List ℕ) (tree : Hierarchy) (made : Schedule) → words ≡ sim_words file top trace
     → IsPlanned file contents top tree made → IsLaidOut tree
+
+-- where the words ask for Verilog, what is accepted has a module
+abbrev pub HaveModules : List (List ℕ) → (List ℕ → List ℕ) → Type 0
+HaveModules words contents =
+    (file top : List ℕ) (tree : Hierarchy) (made : Schedule) → words ≡ verilog_words file top
+    → IsPlanned file contents top tree made → (v : Contents) × IsVerilogOf tree made v
+
+-- the words ask for no Verilog
+abbrev pub AsksNoVerilog : List (List ℕ) → Type 0
+AsksNoVerilog words = (file top : List ℕ) → words ≡ verilog_words file top → ⊥
 
 -- the texts are equal, or the lines of two refusals that are one
 pub data IsSameText : List ℕ → List ℕ → Type 0 where

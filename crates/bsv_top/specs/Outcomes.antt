@@ -11,6 +11,10 @@ use Rattle.bsv_top.specs.declared.status.Status.{Status}
 use Rattle.bsv_top.specs.declared.status.Status.TheVariants as status
 use Rattle.bsv_top.specs.Answers.{Answer, Asks, sim_words, cannot_read_line, no_memory_line}
 
+-- the words ask for no run
+abbrev pub AsksNoRun : List (List ℕ) → Type 0
+AsksNoRun words = (file top trace : List ℕ) → words ≡ sim_words file top trace → ⊥
+
 -- the statuses that the words and the contents decide
 abbrev pub IsDecided : Status → Type 0
 IsDecided status.Done = Unit {0}

@@ -3,9 +3,9 @@ ghost use Rattle.bsv_io.specs.Faults.{MayFault};
 ghost use Rattle.bsv_io.specs.Reading.{bytes_given};
 ghost use Rattle.bsv_flow.specs.Sources.{read_limit};
 ghost use Rattle.bsv_flow.specs.declared.refusal.Refusal.{Refusal as TheRefusal};
-ghost use Rattle.bsv_top.specs.Answers.{schedule_words, sim_words};
+ghost use Rattle.bsv_top.specs.Answers.{sim_words};
 ghost use Rattle.bsv_top.specs.Forms.{words_of};
-ghost use Rattle.bsv_top.specs.Outcomes.{IsDoneBy, IsUnread, OutputBegun};
+ghost use Rattle.bsv_top.specs.Outcomes.{AsksNoRun, IsDoneBy, IsUnread, OutputBegun};
 ghost use Rattle.bsv_top.specs.Places.{IsTraceWithin, ReadsWithin};
 ghost use Rattle.bsv_top.specs.Stops.{IsStopOf};
 ghost use Rattle.bsv_top.specs.declared.stop.Stop.{Stop as TheStop};
@@ -45,10 +45,9 @@ pub(crate) fn answer<R: Threads + Sync, F: Files, O: Sink>(
         (F.reading files.old) (F.reading files.new) (O.writing out.old) (O.writing out.new) }
     ensures unwritable { result ≡ Err Stop.Unwritable
         → MayFault (O.writing out.old).faults (O.writing out.new).faults }
-    ensures no_schedule { result ≡ Err Stop.OutOfMemory → (file top : List ℕ)
-        → words_of form.entry ≡ schedule_words file top
+    ensures no_output { result ≡ Err Stop.OutOfMemory → AsksNoRun (words_of form.entry)
         → O.writing out.new ≡ O.writing out.old }
-    ensures sources_within { (file top : List ℕ) → words_of form.entry ≡ schedule_words file top
+    ensures sources_within { AsksNoRun (words_of form.entry)
         → read_limit < bytes_given (F.reading files.new)
         → (F.reading files.new).current ≡ (F.reading files.old).current }
     ensures within { (contents : List ℕ → List ℕ)
@@ -71,7 +70,7 @@ pub(crate) fn answer<R: Threads + Sync, F: Files, O: Sink>(
         → (O.writing out.new).faults ≡ (O.writing out.old).faults }
 {
     match form {
-        Form::Schedule(form) => plan(rt, alloc, form, files, out),
+        Form::Plan(form) => plan(rt, alloc, form, files, out),
         Form::Sim(form) => simulate(rt, alloc, form, files, out),
     }
 }

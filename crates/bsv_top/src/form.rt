@@ -1,10 +1,20 @@
 ghost use Rattle.std.specs.Prelude.{◌≡◌, ℕ, List, map, string_bytes, IfNone, IfSome};
-ghost use Rattle.bsv_top.specs.Answers.{HasNoForm, schedule_words, sim_words};
-ghost use Rattle.bsv_top.specs.Forms.{words_of};
+ghost use Rattle.bsv_top.specs.Answers.{HasNoForm, sim_words};
+ghost use Rattle.bsv_top.specs.Forms.{planning_words, words_of};
+ghost use Rattle.bsv_top.specs.Products.{command_of, product_words};
+ghost use Rattle.bsv_top.specs.declared.form.Product.{Product as TheProduct};
 
-/// A command line of the form `schedule FILE TOP`.
+/// What is put of a design that is not run.
+#[derive(Clone, Copy)]
+pub(crate) enum Product {
+    Schedule,
+    Verilog,
+}
+
+/// A command line of the form `schedule FILE TOP` or `verilog FILE TOP`.
 #[derive(Clone, Copy)]
 pub(crate) struct Planning<'a> {
+    pub(crate) product: Product,
     pub(crate) file: &'a str,
     pub(crate) top: &'a str,
 }
@@ -20,24 +30,37 @@ pub(crate) struct Simulation<'a> {
 /// What the words behind the program's name ask for.
 #[derive(Clone, Copy)]
 pub(crate) enum Form<'a> {
-    Schedule(Planning<'a>),
+    Plan(Planning<'a>),
     Sim(Simulation<'a>),
 }
 
-/// The words behind the program's name as a form, where they ask for a schedule.
+/// What the first word asks for, where it asks for no run.
+fn product_of(command: &str) -> Option<Product>
+    ensures product { IfSome result (λ product. command.now ≡ command_of product) }
+    ensures none { IfNone result ((product : TheProduct)
+        → command.now ≡ command_of product → ⊥) }
+{
+    if command == "schedule" {
+        return Some(Product::Schedule);
+    }
+    if command == "verilog" {
+        return Some(Product::Verilog);
+    }
+    None
+}
+
+/// The words behind the program's name as a form, where they ask for a schedule or for Verilog.
 fn planning_of(words: &[String]) -> Option<Planning<'_>>
-    ensures form { IfSome result (λ form.
-        map string_bytes words.now ≡ schedule_words form.file.now form.top.now) }
-    ensures none { IfNone result ((file top : List ℕ)
-        → map string_bytes words.now ≡ schedule_words file top → ⊥) }
+    ensures form { IfSome result (λ form. map string_bytes words.now ≡ planning_words form) }
+    ensures none { IfNone result ((product : TheProduct) (file top : List ℕ)
+        → map string_bytes words.now ≡ product_words product file top → ⊥) }
 {
     let [command, file, top] = words else {
         return None;
     };
-    if command.as_str() != "schedule" {
-        return None;
-    }
+    let product = product_of(command.as_str())?;
     Some(Planning {
+        product,
         file: file.as_str(),
         top: top.as_str(),
     })
@@ -69,7 +92,7 @@ pub(crate) fn form_of(words: &[String]) -> Option<Form<'_>>
     ensures none { IfNone result (HasNoForm (map string_bytes words.now)) }
 {
     if let Some(form) = planning_of(words) {
-        return Some(Form::Schedule(form));
+        return Some(Form::Plan(form));
     }
     match simulation_of(words) {
         Some(form) => Some(Form::Sim(form)),

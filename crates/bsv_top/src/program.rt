@@ -4,17 +4,20 @@ ghost use Rattle.bsv_io.specs.InMemory.{contents_of};
 ghost use Rattle.bsv_io.specs.Reading.{bytes_given};
 ghost use Rattle.bsv_io.specs.Sure.{NoFault};
 ghost use Rattle.bsv_io.specs.Writing.{appended, count_behind};
-ghost use Rattle.bsv_top.specs.Answers.{Answer, HasAnswer, HasNoForm, schedule_words, sim_words};
-ghost use Rattle.bsv_top.specs.Answers.{no_memory_line, printed};
+ghost use Rattle.bsv_top.specs.Answers.{Answer, HasAnswer, HasNoForm, no_memory_line, printed};
+ghost use Rattle.bsv_top.specs.Answers.{schedule_words, sim_words, verilog_words};
 ghost use Rattle.bsv_design.specs.Schemes.{Asking, tree_scheme};
 ghost use Rattle.bsv_design.specs.Trees.{Hierarchy};
 ghost use Rattle.bsv_design.specs.declared.schedule.Schedule.{Schedule as TheSchedule};
 ghost use Rattle.bsv_flow.specs.Compilings.{IsPlanned};
+ghost use Rattle.bsv_flow.specs.Schedulings.{IsVerilogOf};
 ghost use Rattle.bsv_flow.specs.Sources.{read_limit};
-ghost use Rattle.bsv_top.specs.OneAnswer.{IsSameText, LayOut};
+ghost use Rattle.bsv_vtext.specs.Signals.{Contents};
+ghost use Rattle.bsv_vtext.specs.VText.{vtext};
+ghost use Rattle.bsv_top.specs.OneAnswer.{AsksNoVerilog, HaveModules, IsSameText, LayOut};
 ghost use Rattle.bsv_top.specs.Counts.{CountsAnswer};
-ghost use Rattle.bsv_top.specs.Outcomes.{Answered, IsDecided, IsFault, OutputBegun, TextBegun};
-ghost use Rattle.bsv_top.specs.Outcomes.{Unreadable};
+ghost use Rattle.bsv_top.specs.Outcomes.{Answered, AsksNoRun, IsDecided, IsFault, OutputBegun};
+ghost use Rattle.bsv_top.specs.Outcomes.{TextBegun, Unreadable};
 ghost use Rattle.bsv_top.specs.Places.{IsTraceWithin, ReadsWithin};
 ghost use Rattle.bsv_top.specs.LaidOut.{IsLaidOut};
 ghost use Rattle.bsv_top.specs.Traces.{IsClean};
@@ -60,20 +63,18 @@ pub fn run<R: Threads + Sync, F: Files, O: Sink, E: Sink>(
     ensures text { (contents : List ℕ → List ℕ) → (F.reading files.old).contents ≡ Some contents
         → TextBegun (map string_bytes words.now) contents (E.writing err.old) (E.writing err.new) }
 
-    // Nothing at all is put to the output where a file is refused, and nothing of a schedule where memory is
-    // wanting. A run may want memory when it has begun: then it put a prefix of an answer's output, as above.
+    // Nothing at all is put to the output where a file is refused; and nothing where memory is wanting, but by
+    // a run: it may want memory when it has begun, and then it put a prefix of an answer's output, as above.
     ensures refused { result ≡ Status.Refused → O.writing out.new ≡ O.writing out.old }
     ensures no_memory { result ≡ Status.OutOfMemory
         → (E.writing err.new ≡ appended no_memory_line (E.writing err.old))
         × ((O.writing out.new).faults ≡ (O.writing out.old).faults) }
-    ensures no_schedule { result ≡ Status.OutOfMemory → (file top : List ℕ)
-        → map string_bytes words.now ≡ schedule_words file top
+    ensures no_output { result ≡ Status.OutOfMemory → AsksNoRun (map string_bytes words.now)
         → O.writing out.new ≡ O.writing out.old }
 
     // No source is read on behind one byte more than it may have; where the trace was run, it was read
     // at most one piece behind its first bad line.
-    ensures sources_within { (file top : List ℕ)
-        → map string_bytes words.now ≡ schedule_words file top
+    ensures sources_within { AsksNoRun (map string_bytes words.now)
         → read_limit < bytes_given (F.reading files.new)
         → (F.reading files.new).current ≡ (F.reading files.old).current }
     ensures within { (contents : List ℕ → List ℕ) → (F.reading files.old).contents ≡ Some contents
@@ -145,18 +146,25 @@ pub fn run_surely<R: Threads + Sync>(
 }
 
 /// All words and contents have an answer, and it is one: one status, one output, and one fault text
-/// but for the place of a `Syntax`; of words that ask for a run where what is accepted can be laid out.
-/// Words that ask for a schedule, and files that have one, have it as their answer; and words that ask for
-/// a run, files that are accepted and a trace without a bad line have a report.
+/// but for the place of a `Syntax`. The output is left open where words ask for Verilog: two modules may
+/// carry one tree.
+///
+/// Words that ask for a run have an answer where what is accepted can be laid out, and words that ask for
+/// Verilog where it has a module. The program builds the module that it puts: so it has built one wherever
+/// such words are done, and of a tree that had none it could tell nothing but want of memory.
+///
+/// Words that ask for a schedule, and files that have one, have it as their answer; words that ask for
+/// Verilog have the text of every module that carries the tree; and words that ask for a run, files that are
+/// accepted and a trace without a bad line have a report.
 pub fn one_answer()
     ensures some { (words : List (List ℕ)) (contents : List ℕ → List ℕ) → LayOut words contents
-        → HasAnswer words contents }
+        → HaveModules words contents → HasAnswer words contents }
     ensures one_status { (words : List (List ℕ)) (contents : List ℕ → List ℕ)
         (status other : TheStatus) (output text more said : List ℕ)
         → Answer words contents status output text → Answer words contents other more said
         → status ≡ other }
     ensures one_output { (words : List (List ℕ)) (contents : List ℕ → List ℕ)
-        (status other : TheStatus) (output text more said : List ℕ)
+        (status other : TheStatus) (output text more said : List ℕ) → AsksNoVerilog words
         → Answer words contents status output text → Answer words contents other more said
         → output ≡ more }
     ensures one_text { (words : List (List ℕ)) (contents : List ℕ → List ℕ)
@@ -166,6 +174,10 @@ pub fn one_answer()
     ensures planned { (contents : List ℕ → List ℕ) (file top : List ℕ)
         (tree : Hierarchy) (made : TheSchedule) → IsPlanned file contents top tree made
         → Answer (schedule_words file top) contents Status.Done (printed tree made) [] }
+    ensures verilog { (contents : List ℕ → List ℕ) (file top : List ℕ)
+        (tree : Hierarchy) (made : TheSchedule) (v : Contents)
+        → IsPlanned file contents top tree made → IsVerilogOf tree made v
+        → Answer (verilog_words file top) contents Status.Done (vtext v) [] }
     ensures simulated { (contents : List ℕ → List ℕ) (file top trace : List ℕ)
         (tree : Hierarchy) (made : TheSchedule) (qs : List Asking)
         → IsPlanned file contents top tree made → IsLaidOut tree

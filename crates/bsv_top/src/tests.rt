@@ -1,3 +1,4 @@
+use crate::lines::first_line;
 use crate::{Status, run, run_surely};
 use bsv_bits::{Name, OutOfMemory};
 use bsv_io::{MemFiles, MemSink, SureFiles, SureSink};
@@ -280,6 +281,21 @@ fn fault_text_faults(rt: HostRuntime) -> Result<(), Fail> {
             expect_seen(&rt, row, &seen, status, report.as_slice(), told);
         }
     }
+    Ok(())
+}
+
+/// The module of the counter begins with its name and its ports.
+#[test]
+fn verilog(rt: HostRuntime) -> Result<(), Fail> {
+    let alloc = rt.alloc();
+    let files = [("A.bsv", COUNTER)];
+    let seen = answer_of(&rt, alloc, &["verilog", "A.bsv", "mkA"], sound(&files))?;
+    let Some((line, _)) = first_line(seen.out.bytes()) else {
+        panic!(rt; "no line is put");
+    };
+    assert_eq!(rt; seen.status, Status::Done);
+    assert_eq!(rt; line, b"module mkA(CLK, RST_N);\n".as_slice());
+    assert_eq!(rt; seen.err.bytes(), b"".as_slice());
     Ok(())
 }
 

@@ -1,4 +1,4 @@
-use Rattle.std.proofs.Common.{rules, ◌≡◌, ℕ, List, Some, Result, Err}
+use Rattle.std.proofs.Common.{rules, ◌≡◌, Some, Result, Err}
 use Rattle.bsv_flow.specs.Buildings.{Rejects}
 use Rattle.bsv_flow.specs.Typings.{IsUntyped}
 use Rattle.bsv_flow.specs.declared.loading.Loaded.{Loaded}

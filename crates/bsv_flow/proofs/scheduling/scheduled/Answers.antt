@@ -1,6 +1,7 @@
 use Rattle.std.proofs.Common.{Err, sym, ap, ◌∙◌}
 use Rattle.std.proofs.lemmas.Result.{err_from_is_err_and}
 use Rattle.bsv_flow.proofs.ScheduledTrees.{fault_same, unexecuted, unurged, unasserted, scheduled_of, obeyed_of, rules_there, schedule_there, compiled_of}
+use Rattle.bsv_flow.proofs.VerilogOfTree.{registers_there, verilog_there}
 use Rattle.bsv_flow.proofs.scheduling.scheduled.Goals as goal
 
 pub returns-in_err-execution-clause-refused : goal.returns-in_err-execution-clause-refused
@@ -54,12 +55,23 @@ net_of-requires-clause-schedule g c =
     schedule_there c.in_ok-design.design c.in_ok-schedule.schedule c.in_ok-execution.execution c.in_ok-urgency.urgency
     orders.execution orders.urgency c.in_ok-execution.ensures.executes c.in_ok-urgency.ensures.urges orders.stops
 
+pub generate-requires-clause-registers : goal.generate-requires-clause-registers
+generate-requires-clause-registers g c =
+    registers_there c.in_ok-design.design c.in_ok-schedule.schedule c.in_ok-net.net c.in_ok-net.ensures.carries
+
 pub returns-clause-compiled : goal.returns-clause-compiled
 returns-clause-compiled g c =
     let made = c.in_ok-design.ensures in
+    let orders = c.in_ok-schedule.ensures in
     let net = c.in_ok-net.ensures in
-    compiled_of _ c.in_ok-design.design c.in_ok-design.guards c.in_ok-schedule.schedule c.in_ok-net.net
+    let verilog = c.in_ok-verilog.ensures in
+    compiled_of _ c.in_ok-design.design c.in_ok-design.guards c.in_ok-schedule.schedule c.in_ok-net.net c.in_ok-verilog.verilog
     made.alike made.name made.parts made.needs made.lifted net.carries net.no_result
+    (verilog_there _ c.in_ok-design.design c.in_ok-schedule.schedule c.in_ok-net.net c.in_ok-verilog.verilog made.alike made.name made.parts
+    (rules_there _ c.in_ok-design.design made.alike made.kept)
+    (schedule_there c.in_ok-design.design c.in_ok-schedule.schedule c.in_ok-execution.execution c.in_ok-urgency.urgency
+    orders.execution orders.urgency c.in_ok-execution.ensures.executes c.in_ok-urgency.ensures.urges orders.stops)
+    net.carries verilog.module verilog.carries verilog.begins verilog.resets)
 
 pub returns-clause-runs : goal.returns-clause-runs
 returns-clause-runs g c =

@@ -6,17 +6,17 @@ use Rattle.bsv_top.specs.Stops.{IsStopOf}
 use Rattle.bsv_top.proofs.Spelled.{same_trace}
 use Rattle.bsv_top.proofs.answer.answer.Goals as goal
 
-pub returns-in-Schedule-clause-begun : goal.returns-in-Schedule-clause-begun
-returns-in-Schedule-clause-begun g c = λ contents told.
-    subst (λ (words : List (List ℕ)). OutputBegun words contents (g.O.Sink.writing c.args.out.now) (g.O.Sink.writing c.plan.new.out)) (sym (ap words_of c.in-Schedule.is))
+pub returns-in-Plan-clause-begun : goal.returns-in-Plan-clause-begun
+returns-in-Plan-clause-begun g c = λ contents told.
+    subst (λ (words : List (List ℕ)). OutputBegun words contents (g.O.Sink.writing c.args.out.now) (g.O.Sink.writing c.plan.new.out)) (sym (ap words_of c.in-Plan.is))
     (c.plan.ensures.begun contents told)
 
-pub returns-in-Schedule-clause-unread : goal.returns-in-Schedule-clause-unread
-returns-in-Schedule-clause-unread g c = λ name h.
+pub returns-in-Plan-clause-unread : goal.returns-in-Plan-clause-unread
+returns-in-Plan-clause-unread g c = λ name h.
     subst
     (λ (words : List (List ℕ)).
     IsUnread words name (g.F.Files.reading c.args.files.now) (g.F.Files.reading c.plan.new.files) (g.O.Sink.writing c.args.out.now) (g.O.Sink.writing c.plan.new.out))
-    (sym (ap words_of c.in-Schedule.is)) (c.plan.ensures.unread name h)
+    (sym (ap words_of c.in-Plan.is)) (c.plan.ensures.unread name h)
 
 pub returns-in-Sim-clause-stopped : goal.returns-in-Sim-clause-stopped
 returns-in-Sim-clause-stopped g c = λ s h contents told.
@@ -48,3 +48,13 @@ returns-in-Sim-clause-bad_within g c = λ number h contents told file top trace 
     let form = c.in-Sim.form in
     same_trace form.file.now form.top.now form.trace.now file top trace (sym (ap words_of c.in-Sim.is) ∙ words) contents (g.F.Files.reading c.simulate.new.files)
     (c.simulate.ensures.bad_within number h contents told)
+
+pub returns-in-Sim-clause-no_output : goal.returns-in-Sim-clause-no_output
+returns-in-Sim-clause-no_output g c = λ is none.
+    let form = c.in-Sim.form in
+    absurd (none form.file.now form.top.now form.trace.now (ap words_of c.in-Sim.is))
+
+pub returns-in-Sim-clause-sources_within : goal.returns-in-Sim-clause-sources_within
+returns-in-Sim-clause-sources_within g c = λ none far.
+    let form = c.in-Sim.form in
+    absurd (none form.file.now form.top.now form.trace.now (ap words_of c.in-Sim.is))

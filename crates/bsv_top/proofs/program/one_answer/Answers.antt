@@ -10,8 +10,9 @@ pub returns : goal.returns
 returns c = record {
   some = all.some;
   one_status = λ words contents s other output text more said h k. (one.one_answer words contents s other output more text said h k).status_is;
-  one_output = λ words contents s other output text more said h k. (one.one_answer words contents s other output more text said h k).output_is;
+  one_output = λ words contents s other output text more said none h k. (one.one_answer words contents s other output more text said h k).output_is none;
   one_text = λ words contents s other output text more said h k. (one.one_answer words contents s other output more text said h k).text_is;
   planned = λ contents file top tree made p. a.Answer.scheduled tree made refl p;
+  verilog = λ contents file top tree made v p has. a.Answer.written tree made v refl p has;
   simulated = λ contents file top trace tree made qs p laid clean. clean_answer (sim_words file top trace) contents file top trace refl tree made p laid qs clean;
 }

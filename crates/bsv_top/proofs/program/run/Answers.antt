@@ -10,7 +10,7 @@ use Rattle.bsv_top.specs.Outcomes as o
 use Rattle.bsv_top.specs.Outcomes.{Answered, IsDecided, IsDoneBy, IsUnread, OutputBegun}
 use Rattle.bsv_top.specs.Stops.{IsStopOf}
 use Rattle.bsv_top.proofs.OneAnswer as one
-use Rattle.bsv_top.proofs.Told.{decided_tells, done_answered, has_form, one_status, only_bad, stop_answered, stop_complete, stop_text, stop_unreadable, unread_faults}
+use Rattle.bsv_top.proofs.Told.{decided_tells, done_answered, has_form, one_status, only_bad, only_memory, stop_answered, stop_complete, stop_text, stop_unreadable, unread_faults}
 use Rattle.bsv_top.proofs.program.run.Goals as goal
 
 -- ---- words without a form
@@ -53,6 +53,10 @@ pub returns-in-Ok-clause-text : goal.returns-in-Ok-clause-text
 returns-in-Ok-clause-text g c = λ contents told.
     record { text = no_memory_line; fault_text = o.FaultText.of_memory; prefix = nothing_put no_memory_line (g.E.Sink.writing c.args.err.now) }
 
+pub returns-in-Ok-clause-sources_within : goal.returns-in-Ok-clause-sources_within
+returns-in-Ok-clause-sources_within g c = λ none far.
+    c.answer.ensures.sources_within (λ file top trace words. none file top trace (c.in-Some.ensures.form ∙ words)) far
+
 pub returns-in-Ok-clause-within : goal.returns-in-Ok-clause-within
 returns-in-Ok-clause-within g c = λ contents told file top trace words.
     c.answer.ensures.within contents told file top trace (sym c.in-Some.ensures.form ∙ words)
@@ -91,6 +95,16 @@ returns-in-Err-clause-text g c = λ contents told.
     stop_text (map string_bytes c.args.words.now) contents (g.O.Sink.writing c.args.out.now) (g.O.Sink.writing c.answer.new.out) (g.E.Sink.writing c.args.err.now) (g.E.Sink.writing c.tell_stop.new.err) c.in-Err.stop
     (subst (λ (words : List (List ℕ)). IsStopOf words contents (g.O.Sink.writing c.args.out.now) (g.O.Sink.writing c.answer.new.out) c.in-Err.stop) (sym c.in-Some.ensures.form) (c.in-Err.ensures.stopped c.in-Err.stop refl contents told))
     c.tell_stop.ensures.prefix
+
+pub returns-in-Err-clause-no_output : goal.returns-in-Err-clause-no_output
+returns-in-Err-clause-no_output g c = λ is none.
+    let said = c.tell_stop.ensures.told (λ write. let no_value : ⊥ = cc in no_value) in
+    c.in-Err.ensures.no_output (ap Err (only_memory c.in-Err.stop (sym said.0 ∙ is)))
+    (λ file top trace words. none file top trace (c.in-Some.ensures.form ∙ words))
+
+pub returns-in-Err-clause-sources_within : goal.returns-in-Err-clause-sources_within
+returns-in-Err-clause-sources_within g c = λ none far.
+    c.answer.ensures.sources_within (λ file top trace words. none file top trace (c.in-Some.ensures.form ∙ words)) far
 
 pub returns-in-Err-clause-within : goal.returns-in-Err-clause-within
 returns-in-Err-clause-within g c = λ contents told file top trace words.

@@ -1,0 +1,67 @@
+-- The module of a design is that of the tree from which the design was made.
+use Rattle.std.proofs.Common.{◌≡◌, Bool, false, List, map, Some, sym, subst}
+use Rattle.bsv_design.specs.declared.design.Design.{Design}
+use Rattle.bsv_design.specs.declared.design.NamedPart.{NamedPart}
+use Rattle.bsv_design.specs.declared.kind.Kind.{Kind}
+use Rattle.bsv_design.specs.declared.schedule.Schedule.{Schedule}
+use Rattle.bsv_design.specs.Schemes.{Scheme, Outline, AreAlike, design_scheme, kinds_of, outline, tree_scheme}
+use Rattle.bsv_design.specs.Seen.{blueprint}
+use Rattle.bsv_design.specs.Sources.{parts_among}
+use Rattle.bsv_design.specs.Trees.{Hierarchy}
+use Rattle.bsv_guard.proofs.Alike.{alike_back}
+use Rattle.bsv_inline.specs.Flattening.{top_name}
+use Rattle.bsv_clock.specs.Carrying.{cell, cells_of}
+use Rattle.bsv_clock.specs.Grounds.{IsLawful, IsScheduleOf, KeepsRules}
+use Rattle.bsv_clock.proofs.Belonging as belonging
+use Rattle.bsv_clock.proofs.CarriedAlike.{carried_to}
+use Rattle.bsv_net.specs.declared.net.Net.{Net}
+use Rattle.bsv_net.specs.AtHand.{circuit}
+use Rattle.bsv_fire.specs.Firing.{gives}
+use Rattle.bsv_mux.specs.Hardware.{NetCarries}
+use Rattle.bsv_vtext.specs.declared.modules.VModule.{VModule}
+use Rattle.bsv_vtext.specs.AtHand.{contents}
+use Rattle.bsv_vgen.specs.Carrying.{ModuleCarries}
+use Rattle.bsv_vgen.specs.Interfaces.{IsModuleOf}
+use Rattle.bsv_vgen.specs.Resetting.{BeginsOpen, Resets}
+use Rattle.bsv_flow.specs.Schedulings.{IsVerilogOf}
+
+-- a net that carries a design has its registers and its inputs
+pub registers_there : (d : Design) (made : Schedule) (n : Net) → NetCarries false (design_scheme (blueprint d)) made n
+    → map cell n.registers ≡ cells_of (kinds_of (blueprint d))
+unfolding design_scheme
+registers_there d made n carries = carries.registers
+
+module _ (h : Hierarchy) (d : Design) (made : Schedule) (n : Net) (v : VModule) (alike : AreAlike (tree_scheme h) (design_scheme (blueprint d))) where
+  abbrev S : Scheme
+  S = tree_scheme h
+
+  abbrev T : Scheme
+  T = design_scheme (blueprint d)
+
+  elements_same : map outline d.elements ≡ S.elements
+  unfolding design_scheme
+  elements_same = sym alike.elements
+
+  kinds_same : kinds_of (blueprint d) ≡ S.kinds
+  unfolding design_scheme
+  kinds_same = sym alike.kinds
+
+  back : AreAlike T S
+  back = alike_back S T alike
+
+  pub verilog_there : top_name h ≡ Some d.name → d.parts ≡ parts_among h.instances → KeepsRules T → IsScheduleOf T made → NetCarries false T made n
+      → IsModuleOf d.name d.parts (map outline d.elements) (contents v)
+      → ((aggressive : Bool) (S : Scheme) (made_by : Schedule) → AreAlike S T → IsLawful S → IsScheduleOf S made_by → NetCarries aggressive S made_by n
+      → ModuleCarries aggressive S made_by (contents v))
+      → BeginsOpen (kinds_of (blueprint d)) (contents v) → Resets (kinds_of (blueprint d)) (contents v) → IsVerilogOf h made (contents v)
+  verilog_there name parts rules scheduled net is carries begins resets = record {
+    right = v.right;
+    name = d.name;
+    top = name;
+    is = subst (λ (ps : List NamedPart). IsModuleOf d.name ps S.elements (contents v)) parts
+        (subst (λ (os : List Outline). IsModuleOf d.name d.parts os (contents v)) elements_same is);
+    carries = carries false S made alike (belonging.lawful_alike T S back (belonging.lawful_design d rules)) (belonging.schedule_alike T S back made scheduled)
+        (carried_to false T S made back (map cell n.registers) n.inputs (gives (circuit n)) net);
+    begins = subst (λ (ks : List Kind). BeginsOpen ks (contents v)) kinds_same begins;
+    resets = subst (λ (ks : List Kind). Resets ks (contents v)) kinds_same resets;
+  }

@@ -1,0 +1,6 @@
+use Rattle.std.proofs.Common.{map, string_bytes}
+use Rattle.bsv_top.proofs.Spelled.{no_form}
+use Rattle.bsv_top.proofs.form.form_of.Goals as goal
+
+pub returns-in-None-clause-none : goal.returns-in-None-clause-none
+returns-in-None-clause-none c = no_form (map string_bytes c.args.words.now) c.in_default.ensures.none c.in-None.ensures.none
