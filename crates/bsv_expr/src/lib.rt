@@ -18,8 +18,6 @@ mod input;
 mod lexeme;
 mod operators;
 mod reader;
-#[cfg(test)]
-mod tests;
 
 pub use extent::{ExprFault, MAX_OPEN, expression, lexemes, place};
 pub use fault::{ReadFault, forgives};

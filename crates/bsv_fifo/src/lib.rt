@@ -14,8 +14,6 @@ mod method;
 mod pieces;
 mod pipeline;
 mod plain;
-#[cfg(test)]
-mod tests;
 
 pub use bypass::BypassKind;
 pub use pipeline::PipelineKind;

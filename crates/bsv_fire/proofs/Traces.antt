@@ -2,7 +2,7 @@
 use Rattle.std.proofs.Common.{◌≡◌, ◌∙◌, ℕ, zero, suc, ◌<◌, ◌^◌, true, false, List, [], ◌∷◌, length, map, Option, Some, None, refl, sym, ap, ap₂, subst, arith}
 use Rattle.std.specs.Prelude.{slice_get, nat_lt, option_map, ◌==◌}
 use Rattle.std.specs.List.{AllByRecursion}
-use Rattle.std.proofs.lemmas.Bool.{and_parts, eqb-true}
+use Rattle.std.proofs.lemmas.Bool.{and_parts}
 use Rattle.std.proofs.lemmas.List.{length-map}
 use Rattle.std.proofs.lemmas.Option.{slice_get-map}
 use Rattle.bsv_bits.specs.Words.{Bits, bit}
@@ -20,7 +20,7 @@ use Rattle.bsv_design.specs.States.{AreWordsOf, FitLook}
 use Rattle.bsv_design.specs.Traces.{Site, Trace, acts, body_trace, demand_at, kind_at, site_at}
 use Rattle.bsv_design.specs.Widths.{args_fit, call_fits, condition_fits, has_width, method_fits}
 use Rattle.bsv_guard.specs.Fitting.{HaveWidths}
-use Rattle.bsv_guard.proofs.BodyFits.{call_fit, word_there}
+use Rattle.bsv_guard.proofs.BodyFits.{call_fit, width_is, word_there}
 use Rattle.bsv_guard.proofs.DesignFits.{element_words}
 use Rattle.bsv_guard.proofs.Extends.{answer_open}
 use Rattle.bsv_guard.proofs.Fits.{answers_fit}
@@ -52,11 +52,7 @@ pub one_bit : (w : Bits) → IsWordOf 1 w → w ≡ bit (is_one w)
 one_bit w h = bit_of w.width w.value h.same_width (subst (λ (n : ℕ). w.value < 2 ^ n) h.same_width h.word.below)
 
 pub has_bit : (us : List ℕ) (ws : List Bits) → HaveWidths us ws → (k : ℕ) → has_width (slice_get us k) 1 ≡ true → at ws k ≡ bit (is_one (at ws k))
-has_bit us ws have k h = one_bit (at ws k) (word_there us ws have k 1 (width_is (slice_get us k) h))
-  where
-    width_is : (o : Option ℕ) → has_width o 1 ≡ true → o ≡ Some 1
-    width_is None h = absurd (let n : ⊥ = cc in n)
-    width_is (Some w) h = ap Some (eqb-true w 1 h)
+has_bit us ws have k h = one_bit (at ws k) (word_there us ws have k 1 (width_is (slice_get us k) 1 h))
 
 -- ---- calls
 

@@ -18,8 +18,6 @@ mod queue;
 mod refusal;
 mod scheduling;
 mod source;
-#[cfg(test)]
-mod tests;
 mod typing;
 
 pub use building::{one_building, tree};

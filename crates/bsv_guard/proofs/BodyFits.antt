@@ -33,7 +33,7 @@ one_more [] (y ∷ vs) u v h k = absurd h
 one_more (x ∷ us) [] u v h k = absurd h
 one_more (x ∷ us) (y ∷ vs) u v h k = (h.0, one_more us vs u v h.1 k)
 
-width_is : (o : Option ℕ) (w : ℕ) → has_width o w ≡ true → o ≡ Some w
+pub width_is : (o : Option ℕ) (w : ℕ) → has_width o w ≡ true → o ≡ Some w
 width_is None w h = absurd (let n : ⊥ = cc in n)
 width_is (Some v) w h = ap Some (eqb-true v w h)
 

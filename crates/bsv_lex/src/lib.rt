@@ -10,8 +10,6 @@ mod number;
 mod piece;
 mod split;
 mod terminal;
-#[cfg(test)]
-mod tests;
 mod token;
 
 pub use number::literal;

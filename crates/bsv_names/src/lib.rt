@@ -8,21 +8,15 @@
 //! (the first attribute that is malformed).
 #![tactic(auto)]
 
-#[cfg(test)]
-mod attribute_tests;
 mod attributes;
 mod event;
 mod expression_events;
 mod module_events;
-#[cfg(test)]
-mod name_tests;
 mod names;
 mod package_events;
 mod place;
 mod statement_events;
 mod untyped;
-#[cfg(test)]
-mod untyped_tests;
 
 pub use attributes::bad_attribute;
 pub use names::{twice, unknown};

@@ -20,8 +20,6 @@ mod reg;
 mod regu;
 mod rwire;
 mod serial;
-#[cfg(test)]
-mod tests;
 mod wire;
 
 pub use dwire::DWireKind;

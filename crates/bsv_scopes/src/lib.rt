@@ -9,8 +9,6 @@
 mod definitions;
 mod scope;
 mod scopes;
-#[cfg(test)]
-mod tests;
 
 pub use definitions::{Definitions, Space, given};
 pub use scope::Scope;

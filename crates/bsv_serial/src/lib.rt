@@ -22,8 +22,6 @@ mod run_tests;
 mod setting;
 mod stopping;
 mod telling;
-#[cfg(test)]
-mod tests;
 mod turning;
 mod words;
 

@@ -153,6 +153,138 @@ fn traces(rt: HostRuntime) -> Result<(), Fail> {
     Ok(())
 }
 
+/// Sources with bytes that no text of lines holds: the line of the refusal.
+#[test]
+fn sources(rt: HostRuntime) -> Result<(), Fail> {
+    let alloc = rt.alloc();
+    let rows: [(&[u8], &[u8]); 13] = [
+        (b"\n\n\t \0", b"refused 1 BadByte A.bsv:3:3\n"),
+        (b"a\x0c\x0b", b"refused 1 BadByte A.bsv:1:3\n"),
+        (b"package \x80", b"refused 1 BadByte A.bsv:1:9\n"),
+        (b"// \xff\n\x7f", b"refused 1 BadByte A.bsv:2:1\n"),
+        (b"/* \xff */\xe9", b"refused 1 BadByte A.bsv:1:8\n"),
+        (b"a\xc3\xa9", b"refused 1 BadByte A.bsv:1:2\n"),
+        (b"x\r\n/*", b"refused 2 OpenComment A.bsv:2:1\n"),
+        (b"8'h ", b"refused 3 BadLiteral A.bsv:1:1\n"),
+        (b"\"\t\"", b"refused 3 BadLiteral A.bsv:1:1\n"),
+        (b"\"\x7f\"", b"refused 3 BadLiteral A.bsv:1:1\n"),
+        (b"\"\xe9\"", b"refused 3 BadLiteral A.bsv:1:1\n"),
+        (b"\"a\r\"", b"refused 3 BadLiteral A.bsv:1:1\n"),
+        (
+            b"module mkA(Empty); endmodule\r\n)",
+            b"refused 5 Syntax A.bsv:2:1\n",
+        ),
+    ];
+    for (row, (source, text)) in rows.iter().enumerate() {
+        let files = [("A.bsv", *source)];
+        let seen = answer_of(&rt, alloc, &COUNTER_WORDS, sound(&files))?;
+        expect_seen(&rt, row, &seen, Status::Refused, b"", text);
+    }
+    Ok(())
+}
+
+/// The greatest common divisor as a user writes it.
+const GCD: &str = "\
+package Gcd;
+interface Gcd;
+  method Action start(Bit#(8) a, Bit#(8) b);
+  method Bit#(8) result();
+endinterface
+(* synthesize *)
+module mkGcd(Gcd);
+  Reg#(Bit#(8)) x <- mkReg(0);
+  Reg#(Bit#(8)) y <- mkReg(0);
+  rule swap (x > y && y != 0); x <= y; y <= x; endrule
+  rule subtract (x <= y && y != 0); y <= y - x; endrule
+  method Action start(Bit#(8) a, Bit#(8) b) if (y == 0); x <= a; y <= b; endmethod
+  method Bit#(8) result() if (y == 0); return x; endmethod
+endmodule: mkGcd
+endpackage: Gcd
+";
+
+/// How many bytes of the greatest common divisor are a whole file: none, and up to `endpackage`,
+/// up to the name behind it, and all.
+const WHOLE_CUTS: [usize; 4] = [0, 491, 496, 497];
+
+/// Where a cut of the greatest common divisor has a last token with which no file goes on: from
+/// so many bytes to so many, and the byte where that token begins. Elsewhere the end is the place.
+const STRAYS: [(usize, usize, usize); 29] = [
+    (1, 6, 0),
+    (14, 21, 13),
+    (31, 35, 30),
+    (76, 80, 75),
+    (101, 111, 100),
+    (114, 114, 113),
+    (128, 128, 127),
+    (131, 135, 130),
+    (168, 168, 167),
+    (199, 199, 198),
+    (236, 236, 235),
+    (245, 245, 244),
+    (253, 253, 252),
+    (261, 261, 258),
+    (296, 296, 295),
+    (305, 305, 304),
+    (317, 317, 314),
+    (367, 367, 366),
+    (373, 373, 372),
+    (382, 382, 381),
+    (390, 390, 389),
+    (398, 398, 395),
+    (432, 432, 431),
+    (438, 438, 437),
+    (457, 457, 454),
+    (467, 467, 464),
+    (476, 479, 475),
+    (482, 490, 481),
+    (494, 495, 493),
+];
+
+/// The line and the column of a byte.
+fn place_of(source: &[u8], at: usize) -> (usize, usize) {
+    let mut place = (1usize, 1usize);
+    for byte in source.iter().take(at) {
+        if *byte == b'\n' {
+            place = (place.0.saturating_add(1), 1);
+        } else {
+            place.1 = place.1.saturating_add(1);
+        }
+    }
+    place
+}
+
+/// What is told of a cut: the place of a `Syntax`, and of a whole file that the module is not there.
+fn told_of_cut(alloc: Global, cut: &[u8]) -> Result<Vec<u8>, OutOfMemory> {
+    let count = cut.len();
+    if WHOLE_CUTS.contains(&count) {
+        return Ok(Vec::from_slice(alloc, NO_SUCH_MODULE)?);
+    }
+    let mut at = count;
+    for (from, to, start) in STRAYS {
+        if from <= count && count <= to {
+            at = start;
+        }
+    }
+    let (line, column) = place_of(cut, at);
+    let text = format!(in alloc; "refused 5 Syntax Gcd.bsv:{line}:{column}\n")?;
+    Ok(Vec::from_slice(alloc, text.as_bytes())?)
+}
+
+#[test]
+fn cuts_of_a_file(rt: HostRuntime) -> Result<(), Fail> {
+    let alloc = rt.alloc();
+    let source = GCD.as_bytes();
+    for count in 0..source.len() + 1 {
+        let cut = &source[..count];
+        let files = [("Gcd.bsv", cut)];
+        let words = ["schedule", "Gcd.bsv", "mkB"];
+        let seen = answer_of(&rt, alloc, &words, sound(&files))?;
+        let want = told_of_cut(alloc, cut)?;
+        expect_seen(&rt, count, &seen, Status::Refused, b"", want.as_slice());
+    }
+    Ok(())
+}
+
 #[test]
 fn read_faults(rt: HostRuntime) -> Result<(), Fail> {
     let alloc = rt.alloc();
@@ -176,6 +308,39 @@ fn read_faults(rt: HostRuntime) -> Result<(), Fail> {
         let seen = answer_of(&rt, alloc, &COUNTER_WORDS, outside)?;
         let report = front(alloc, &COUNTER_PUTS, *puts)?;
         expect_seen(&rt, row, &seen, Status::ReadFault, report.as_slice(), text);
+    }
+    Ok(())
+}
+
+/// Three files of which each imports the next, and each is chosen and read twice.
+#[test]
+fn read_faults_of_imports(rt: HostRuntime) -> Result<(), Fail> {
+    let alloc = rt.alloc();
+    let files: [(&str, &[u8]); 3] = [
+        ("T.bsv", b"import A::*;"),
+        ("A.bsv", b"import B::*;"),
+        ("B.bsv", b""),
+    ];
+    let rows: [(&[u64], Status, &[u8]); 10] = [
+        (&[0], Status::ReadFault, b"cannot read T.bsv\n"),
+        (&[1], Status::ReadFault, b"cannot read T.bsv\n"),
+        (&[2], Status::ReadFault, b"cannot read T.bsv\n"),
+        (&[3], Status::ReadFault, b"cannot read A.bsv\n"),
+        (&[4], Status::ReadFault, b"cannot read A.bsv\n"),
+        (&[5], Status::ReadFault, b"cannot read A.bsv\n"),
+        (&[6], Status::ReadFault, b"cannot read B.bsv\n"),
+        (&[7], Status::ReadFault, b"cannot read B.bsv\n"),
+        (&[8], Status::Refused, NO_SUCH_MODULE),
+        (&[7, 4, 5], Status::ReadFault, b"cannot read A.bsv\n"),
+    ];
+    for (row, (failing, status, text)) in rows.iter().enumerate() {
+        let outside = Outside {
+            failing,
+            ..sound(&files)
+        };
+        let words = ["verilog", "T.bsv", "mkB"];
+        let seen = answer_of(&rt, alloc, &words, outside)?;
+        expect_seen(&rt, row, &seen, *status, b"", text);
     }
     Ok(())
 }
@@ -284,18 +449,28 @@ fn fault_text_faults(rt: HostRuntime) -> Result<(), Fail> {
     Ok(())
 }
 
-/// The module of the counter begins with its name and its ports.
+/// The module of the counter begins with its name and its ports; where a put fails, a front of it
+/// is there.
 #[test]
 fn verilog(rt: HostRuntime) -> Result<(), Fail> {
     let alloc = rt.alloc();
     let files = [("A.bsv", COUNTER)];
-    let seen = answer_of(&rt, alloc, &["verilog", "A.bsv", "mkA"], sound(&files))?;
+    let words = ["verilog", "A.bsv", "mkA"];
+    let seen = answer_of(&rt, alloc, &words, sound(&files))?;
     let Some((line, _)) = first_line(seen.out.bytes()) else {
         panic!(rt; "no line is put");
     };
     assert_eq!(rt; seen.status, Status::Done);
     assert_eq!(rt; line, b"module mkA(CLK, RST_N);\n".as_slice());
     assert_eq!(rt; seen.err.bytes(), b"".as_slice());
+    let outside = Outside {
+        out_failing: &[0],
+        ..sound(&files)
+    };
+    let failed = answer_of(&rt, alloc, &words, outside)?;
+    assert_eq!(rt; failed.status, Status::WriteFault);
+    assert!(rt; seen.out.bytes().starts_with(failed.out.bytes()));
+    assert_eq!(rt; failed.err.bytes(), b"".as_slice());
     Ok(())
 }
 

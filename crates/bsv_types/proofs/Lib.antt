@@ -6,5 +6,4 @@ pub mod Gathering
 pub mod Least
 pub mod Pieces
 pub mod Same
-pub mod Sampled
 pub mod Unpacked

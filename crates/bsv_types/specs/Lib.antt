@@ -9,7 +9,6 @@ pub mod Names
 pub mod Operators
 pub mod Packing
 pub mod Programs
-pub mod Samples
 pub mod Shapes
 pub mod Statements
 pub mod Widths

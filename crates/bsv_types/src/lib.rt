@@ -14,8 +14,6 @@
 #![tactic(auto)]
 
 mod asked;
-#[cfg(test)]
-mod attribute_tests;
 mod attribute_text;
 mod attributes;
 mod definitions;
@@ -26,8 +24,6 @@ mod modules;
 mod operators;
 mod packing;
 mod statements;
-#[cfg(test)]
-mod tests;
 mod typed;
 mod types;
 mod widths;

@@ -130,9 +130,6 @@ module _ (m : Contents) where
     pub as_many : length ks ≡ length us
     pub each : (k u : ℕ) → slice_get us k ≡ Some u → IsKnownRight m n (known_at ks k) u
 
-  knows_later : (us : List ℕ) (ks : List Known) (n j : ℕ) → n ≤ j → Knows us ks n → Knows us ks j
-  knows_later us ks n j l h = record { as_many = h.as_many; each = λ k u e. right_later m n j (known_at ks k) u l (h.each k u e) }
-
   -- and of one more
   pub knows_more : (us : List ℕ) (ks : List Known) (n j : ℕ) (u : ℕ) (x : Known) → n ≤ j → Knows us ks n → IsKnownRight m j x u → Knows (us ++ u ∷ []) (ks ++ x ∷ []) j
   knows_more us ks n j u x l h own = record {

@@ -5,7 +5,7 @@ use Rattle.std.proofs.Math.Nat.{ℕ_set}
 use Rattle.std.specs.Prelude.{slice_get, option_map, nat_le, nat_lt}
 use Rattle.std.specs.Option.{option_and_then}
 use Rattle.std.specs.List.{list_all}
-use Rattle.std.proofs.lemmas.Bool.{and_parts, leb-true, ltb-true, ltb-false, eqb-true, cases_Bool}
+use Rattle.std.proofs.lemmas.Bool.{and_parts, leb-true, ltb-true, ltb-false, cases_Bool}
 use Rattle.std.proofs.Math.Pow.{pow_pos}
 use Rattle.std.proofs.Math.Logic.{∥∥₁_elim}
 use Rattle.std.proofs.lemmas.List.{length-map}
@@ -24,6 +24,7 @@ use Rattle.bsv_design.specs.Schemes.{Outline, outline}
 use Rattle.bsv_design.specs.States.{methods_in}
 use Rattle.bsv_design.specs.Widths.{has_width}
 use Rattle.bsv_guard.specs.Fitting.{HaveWidths}
+use Rattle.bsv_guard.proofs.BodyFits.{width_is}
 use Rattle.bsv_guard.proofs.Lists.{holds_at_all, mapped_at, item_of}
 use Rattle.bsv_net.specs.declared.circuit.Circuit.{Circuit}
 use Rattle.bsv_net.specs.Circuits.{IsCircuit, is_bit, is_within, names, nexts_fit, register_widths, words}
@@ -129,10 +130,6 @@ next_width us (x ∷ ns) (y ∷ rs) h zero n r there e =
     let both = and_parts (has_width (slice_get us x) y.width) (nexts_fit us ns rs) h in
     let own = width_is (slice_get us x) y.width both.0 in
     ap (slice_get us) (sym (same_Some x n there)) ∙ own ∙ ap (λ (z : RegisterInfo). Some z.width) (same_Some y r e)
-  where
-    width_is : (o : Option ℕ) (w : ℕ) → has_width o w ≡ true → o ≡ Some w
-    width_is None w h = absurd (let i : ⊥ = cc in i)
-    width_is (Some v) w h = ap Some (eqb-true v w h)
 next_width us (x ∷ ns) (y ∷ rs) h (suc k) n r there e =
     next_width us ns rs (and_parts (has_width (slice_get us x) y.width) (nexts_fit us ns rs) h).1 k n r there e
 
@@ -271,10 +268,6 @@ module _ (b : Blueprint) (c : Circuit)
     bit_stands : (n : ℕ) → length N.written.wires ≤ n → (ns : List ℕ) → list_all (is_bit us) ns ≡ true → (i : ℕ) → Stands m n (told_at ks ns i).atom 1
     bit_stands n long ns bits i = of (slice_get ns i) refl
       where
-        width_is : (o : Option ℕ) (w : ℕ) → has_width o w ≡ true → o ≡ Some w
-        width_is None w h = absurd (let k : ⊥ = cc in k)
-        width_is (Some v) w h = ap Some (eqb-true v w h)
-
         of : (o : Option ℕ) → slice_get ns i ≡ o → Stands m n (known_of ks o).atom 1
         of None e = constant_stands m n (bit false) 1 bit_word
         of (Some p) e =

@@ -1,4 +1,3 @@
-pub mod Bare
 pub mod Listed
 pub mod Runs
 pub mod Glyphs

@@ -15,8 +15,6 @@ mod names;
 mod pieces;
 mod ports;
 mod sides;
-#[cfg(test)]
-mod tests;
 mod tree;
 mod whole;
 
