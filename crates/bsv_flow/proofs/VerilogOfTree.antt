@@ -23,6 +23,7 @@ use Rattle.bsv_vtext.specs.AtHand.{contents}
 use Rattle.bsv_vgen.specs.Carrying.{ModuleCarries}
 use Rattle.bsv_vgen.specs.Interfaces.{IsModuleOf}
 use Rattle.bsv_vgen.specs.Resetting.{BeginsOpen, Resets}
+use Rattle.bsv_vgen.specs.Runs.{RunsAs}
 use Rattle.bsv_flow.specs.Schedulings.{IsVerilogOf}
 
 -- a net that carries a design has its registers and its inputs
@@ -49,19 +50,30 @@ module _ (h : Hierarchy) (d : Design) (made : Schedule) (n : Net) (v : VModule) 
   back : AreAlike T S
   back = alike_back S T alike
 
+  lawful : KeepsRules T → IsLawful S
+  lawful rules = belonging.lawful_alike T S back (belonging.lawful_design d rules)
+
+  scheduled : IsScheduleOf T made → IsScheduleOf S made
+  scheduled there = belonging.schedule_alike T S back made there
+
+  net_carries : NetCarries false T made n → NetCarries false S made n
+  net_carries net = carried_to false T S made back (map cell n.registers) n.inputs (gives (circuit n)) net
+
   pub verilog_there : top_name h ≡ Some d.name → d.parts ≡ parts_among h.instances → KeepsRules T → IsScheduleOf T made → NetCarries false T made n
       → IsModuleOf d.name d.parts (map outline d.elements) (contents v)
       → ((aggressive : Bool) (S : Scheme) (made_by : Schedule) → AreAlike S T → IsLawful S → IsScheduleOf S made_by → NetCarries aggressive S made_by n
       → ModuleCarries aggressive S made_by (contents v))
+      → ((aggressive : Bool) (S : Scheme) (made_by : Schedule) → AreAlike S T → IsLawful S → IsScheduleOf S made_by → NetCarries aggressive S made_by n
+      → RunsAs aggressive S made_by (contents v))
       → BeginsOpen (kinds_of (blueprint d)) (contents v) → Resets (kinds_of (blueprint d)) (contents v) → IsVerilogOf h made (contents v)
-  verilog_there name parts rules scheduled net is carries begins resets = record {
+  verilog_there name parts rules there net is carries runs begins resets = record {
     right = v.right;
     name = d.name;
     top = name;
     is = subst (λ (ps : List NamedPart). IsModuleOf d.name ps S.elements (contents v)) parts
         (subst (λ (os : List Outline). IsModuleOf d.name d.parts os (contents v)) elements_same is);
-    carries = carries false S made alike (belonging.lawful_alike T S back (belonging.lawful_design d rules)) (belonging.schedule_alike T S back made scheduled)
-        (carried_to false T S made back (map cell n.registers) n.inputs (gives (circuit n)) net);
+    carries = carries false S made alike (lawful rules) (scheduled there) (net_carries net);
+    runs = runs false S made alike (lawful rules) (scheduled there) (net_carries net);
     begins = subst (λ (ks : List Kind). BeginsOpen ks (contents v)) kinds_same begins;
     resets = subst (λ (ks : List Kind). Resets ks (contents v)) kinds_same resets;
   }

@@ -39,6 +39,7 @@ use Rattle.bsv_vtext.specs.Signals.{Contents}
 use Rattle.bsv_vgen.specs.Carrying.{ModuleCarries}
 use Rattle.bsv_vgen.specs.Interfaces.{IsModuleOf}
 use Rattle.bsv_vgen.specs.Resetting.{BeginsOpen, Resets}
+use Rattle.bsv_vgen.specs.Runs.{RunsAs}
 use Rattle.bsv_flow.specs.declared.refusal.Refusal.{Refusal}
 use Rattle.bsv_flow.specs.declared.refusal.Refusal.TheVariants as refusal
 use Rattle.bsv_flow.specs.declared.scheduling.Compiled.{Compiled}
@@ -166,14 +167,15 @@ pub data Unscheduled (h : Hierarchy) (r : Refusal) : Type 0 where
 
 -- ---- what was compiled
 
--- the module carries the tree: its name, ports, registers and wires are those of the tree, it begins with registers that show
--- the parts before the first clock, and a reset shows them again but for registers without a start
+-- the module carries the tree: its name, ports, registers and wires are those of the tree, from its initial words on it runs as the
+-- tree does, and a reset shows the parts before the first clock again but for registers without a start
 pub record IsVerilogOf (h : Hierarchy) (made : Schedule) (v : Contents) : Type 0 where
   pub right : ∥ IsModule v ∥₁
   pub name : List ℕ
   pub top : top_name h ≡ Some name
   pub is : IsModuleOf name (parts_among h.instances) (tree_scheme h).elements v
   pub carries : ModuleCarries false (tree_scheme h) made v
+  pub runs : RunsAs false (tree_scheme h) made v
   pub begins : BeginsOpen (tree_scheme h).kinds v
   pub resets : Resets (tree_scheme h).kinds v
 

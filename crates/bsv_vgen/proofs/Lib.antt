@@ -23,4 +23,8 @@ pub mod AskedToo
 pub mod Carried
 pub mod Registers
 pub mod Whole
+pub mod SideWords
+pub mod Solving
+pub mod NetWords
+pub mod ModuleRuns
 pub mod Promise

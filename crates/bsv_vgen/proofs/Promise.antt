@@ -4,9 +4,10 @@ use Rattle.std.specs.Prelude.{nat_lt}
 use Rattle.std.proofs.Math.Logic.{∥∥₁_elim, ∥∥₁_prop}
 use Rattle.std.proofs.lemmas.Bool.{ltb-true}
 use Rattle.bsv_design.specs.declared.design.Design.{Design}
+use Rattle.bsv_design.specs.declared.kind.Kind.{Kind}
 use Rattle.bsv_design.specs.declared.schedule.Schedule.{Schedule}
 use Rattle.bsv_design.specs.Designs.{Blueprint, IsDesign}
-use Rattle.bsv_design.specs.Schemes.{Scheme, AreAlike, design_scheme, kinds_of, outline}
+use Rattle.bsv_design.specs.Schemes.{Scheme, AreAlike, Outline, design_scheme, kinds_of, outline}
 use Rattle.bsv_design.specs.Seen.{blueprint}
 use Rattle.bsv_clock.specs.Carrying as carrying
 use Rattle.bsv_clock.specs.Carrying.{cells_of, input_widths, input_widths_of}
@@ -27,7 +28,9 @@ use Rattle.bsv_vgen.specs.Carrying.{ModuleCarries}
 use Rattle.bsv_vgen.specs.Interfaces.{IsModuleOf, cell}
 use Rattle.bsv_vgen.specs.Modules.{module_of}
 use Rattle.bsv_vgen.specs.Resetting.{BeginsOpen, Resets}
+use Rattle.bsv_vgen.specs.Runs.{RunsAs}
 use Rattle.bsv_vgen.proofs.Carried.{carries}
+use Rattle.bsv_vgen.proofs.ModuleRuns.{runs_as}
 use Rattle.bsv_vgen.proofs.Registers.{begins_open, resets}
 use Rattle.bsv_vgen.proofs.Whole as whole
 
@@ -76,6 +79,22 @@ module _ (d : Design) (n : Net) (v : Contents) (is : v ≡ module_of (blueprint 
 
   pub resets_too : Resets (kinds_of b) v
   resets_too = resets (kinds_of b) v cells_are
+
+  elements_are : (S : Scheme) → AreAlike S (design_scheme b) → S.elements ≡ map outline b.elements
+  unfolding design_scheme
+  elements_are S alike = alike.elements
+
+  kinds_are : (S : Scheme) → AreAlike S (design_scheme b) → S.kinds ≡ kinds_of b
+  unfolding design_scheme
+  kinds_are S alike = alike.kinds
+
+  pub runs_too : ∥ IsModule v ∥₁ → (aggressive : Bool) (S : Scheme) (made : Schedule) → AreAlike S (design_scheme b) → IsLawful S → IsScheduleOf S made
+      → NetCarries aggressive S made n → RunsAs aggressive S made v
+  runs_too right aggressive S made alike lawful scheduled net_carries =
+      let own : IsModuleOf d.name d.parts S.elements v = subst (λ (os : List Outline). IsModuleOf d.name d.parts os v) (sym (elements_are S alike)) is_its_module in
+      runs_as S v own.methods own.no_more aggressive made lawful right (cells_are ∙ ap cells_of (sym (kinds_are S alike)))
+      (carries_too aggressive S made alike lawful scheduled net_carries)
+      (subst (λ (ks : List Kind). BeginsOpen ks v) (sym (kinds_are S alike)) begins)
 
 -- modules of the same parts
 abbrev of_parts : List ℕ → List VMethod → List VRegister → List VWire → List Assign → List Atom → Contents

@@ -2,6 +2,7 @@ pub mod Names
 pub mod Interfaces
 pub mod Carrying
 pub mod Resetting
+pub mod Runs
 pub mod Lines
 pub mod Modules
 pub mod AtHand

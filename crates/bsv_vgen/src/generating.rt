@@ -11,6 +11,7 @@ ghost use Rattle.bsv_vgen.specs.Carrying.{ModuleCarries};
 ghost use Rattle.bsv_vgen.specs.Interfaces.{IsModuleOf};
 ghost use Rattle.bsv_vgen.specs.Modules as spec;
 ghost use Rattle.bsv_vgen.specs.Resetting.{BeginsOpen, Resets};
+ghost use Rattle.bsv_vgen.specs.Runs.{RunsAs};
 ghost use Rattle.bsv_vtext.specs.AtHand.{contents};
 
 use crate::known::Known;
@@ -114,6 +115,11 @@ pub fn generate(alloc: Global, design: &Design, net: &Net) -> Result<VModule, Ou
         → AreAlike S (design_scheme (blueprint design.now)) → IsLawful S
         → IsScheduleOf S made_by → NetCarries aggressive S made_by net.now
         → ModuleCarries aggressive S made_by (contents made)) }
+    // And from its initial words on it runs as they do, clock after clock.
+    ensures runs { IfOk result (λ made. (aggressive : Bool) (S : Scheme) (made_by : Schedule)
+        → AreAlike S (design_scheme (blueprint design.now)) → IsLawful S
+        → IsScheduleOf S made_by → NetCarries aggressive S made_by net.now
+        → RunsAs aggressive S made_by (contents made)) }
     ensures begins { IfOk result (λ made.
         BeginsOpen (kinds_of (blueprint design.now)) (contents made)) }
     ensures resets { IfOk result (λ made.
