@@ -39,8 +39,6 @@ mod expressions;
 mod modules;
 mod package;
 mod statements;
-#[cfg(test)]
-mod tests;
 mod text;
 mod types;
 

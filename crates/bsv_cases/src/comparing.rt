@@ -1,7 +1,6 @@
-use crate::kind::Kind;
 use crate::running::{Answer, bytes_of};
-use crate::want::{Want, Whole};
 use anyhow::Result;
+use bsv_case_files::{Kind, Want, Whole};
 use bsv_top::Status;
 use std::rt::Files;
 

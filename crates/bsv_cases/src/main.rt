@@ -1,31 +1,20 @@
 //! Runs the program on cases, and tells which do not answer as they say. The words are the names of
 //! the case files.
 //!
-//! Modules in reading order: `kind` (the kinds of refusals), `want` (what a case wants of an answer),
-//! `case` (a case), `fault` (why a case file is not read), `row` (a row of a table to a case),
-//! `section` (what the lines between two heads are), `reader` (the lines of a case file to cases),
-//! `running` (a case to an answer), `comparing` (whether an answer is as it is wanted), `telling`
-//! (where it is not).
+//! Modules in reading order: `running` (a case to an answer), `comparing` (whether an answer is as it is wanted),
+//! `telling` (where it is not).
 #![tactic(auto)]
 
-mod case;
 mod comparing;
-mod fault;
-mod kind;
-mod reader;
-mod row;
 mod running;
-mod section;
 mod telling;
-mod want;
 
-use crate::case::Case;
 use crate::comparing::agrees;
-use crate::fault::Unread;
-use crate::reader::cases_of;
-use crate::running::answer_to;
+use crate::running::{answer_to, is_sure};
 use crate::telling::tell;
 use anyhow::{Result, bail};
+use bsv_case_files::{Case, Unread, cases_of};
+use bsv_top::Status;
 use std::fs;
 use std::process::ExitCode;
 use std::rt::{Env, Files};
@@ -71,11 +60,16 @@ fn run_case<R: Files + AllocGlobal + Print + Threads + Sync>(
     case: &Case,
 ) -> Result<Count> {
     let answer = answer_to(rt, case)?;
-    if agrees(rt, &answer, &case.want)? {
-        return Ok(Count::AGREES);
+    if !agrees(rt, &answer, &case.want)? {
+        tell(rt, file, case, &answer)?;
+        return Ok(Count::DIFFERS);
     }
-    tell(rt, file, case, &answer)?;
-    Ok(Count::DIFFERS)
+    if answer.status == Status::Done && !is_sure(rt, case, &answer)? {
+        let line = case.line;
+        println!(rt; "{file}:{line}: over files and sinks that never fail the answer is another")?;
+        return Ok(Count::DIFFERS);
+    }
+    Ok(Count::AGREES)
 }
 
 /// Runs cases one after the other.

@@ -1,9 +1,8 @@
-use crate::case::Case;
-use crate::want::Text;
 use anyhow::{Context, Result};
 use bsv_bits::Name;
-use bsv_io::{MemFiles, MemSink};
-use bsv_top::{Status, run};
+use bsv_case_files::{Case, Text};
+use bsv_io::{MemFiles, MemSink, SureFiles, SureSink};
+use bsv_top::{Status, run, run_surely};
 use std::fs;
 use std::rt::Files;
 use std::thread::Threads;
@@ -15,9 +14,6 @@ pub(crate) struct Answer {
     pub(crate) out: MemSink,
     pub(crate) err: MemSink,
 }
-
-/// Room for all that a run puts to a sink.
-const ROOM: usize = 1 << 16;
 
 /// The bytes of a text.
 pub(crate) fn bytes_of<R: Files + AllocGlobal>(rt: &R, text: &Text) -> Result<Vec<u8>> {
@@ -46,10 +42,29 @@ pub(crate) fn answer_to<R: Files + AllocGlobal + Threads + Sync>(
     case: &Case,
 ) -> Result<Answer> {
     let alloc = rt.alloc();
-    let mut files = MemFiles::new(alloc, files_of(rt, case)?, Vec::new(alloc))?;
-    let mut out = MemSink::new(alloc, ROOM, Vec::new(alloc))?;
-    let mut err = MemSink::new(alloc, ROOM, Vec::new(alloc))?;
+    let outside = &case.outside;
+    let mut files = MemFiles::new(alloc, files_of(rt, case)?, outside.failing_reads.clone()?)?;
+    let mut out = MemSink::new(alloc, outside.room, outside.failing_puts.clone()?)?;
+    let mut err = MemSink::new(alloc, outside.text_room, outside.failing_texts.clone()?)?;
     let words = case.words.as_slice();
     let status = run(rt, alloc, words, &mut files, &mut out, &mut err);
     Ok(Answer { status, out, err })
+}
+
+/// Whether a run over files and sinks that never fail answers the same, and puts as many bytes.
+pub(crate) fn is_sure<R: Files + AllocGlobal + Threads + Sync>(
+    rt: &R,
+    case: &Case,
+    answer: &Answer,
+) -> Result<bool> {
+    let mut files = SureFiles::new(files_of(rt, case)?);
+    let mut out = SureSink::new();
+    let mut err = SureSink::new();
+    let words = case.words.as_slice();
+    let status = run_surely(rt, rt.alloc(), words, &mut files, &mut out, &mut err);
+    Ok(
+        status == answer.status
+            && out.taken() == answer.out.bytes().len() as u64
+            && err.taken() == answer.err.bytes().len() as u64,
+    )
 }

@@ -1,7 +1,6 @@
-use crate::case::Case;
 use crate::running::{Answer, bytes_of};
-use crate::want::{Want, Whole};
 use anyhow::Result;
+use bsv_case_files::{Case, Want, Whole};
 use std::rt::Files;
 
 /// A text that is told: these bytes, where they are one.

@@ -24,13 +24,13 @@ use Rattle.bsv_names.specs.PackageEvents.{items_of}
 use Rattle.bsv_typing.specs.Bodies.{Or, ◌>=>◌, at}
 use Rattle.bsv_typing.proofs.Bound.{some_is}
 use Rattle.bsv_typing.proofs.RightCalls.{ok_is, went, there_is}
-use Rattle.bsv_check.specs.Modules.{Header}
-use Rattle.bsv_check.specs.Programs.{Program, added, value_params, function_header, function_entry, with_function, has_number, is_function, function_case, module_params, module_header, header_of, module_entry, with_module, is_module, module_case}
+use Rattle.bsv_modules.specs.Modules.{Header}
+use Rattle.bsv_modules.specs.Programs.{Program, added, value_params, function_header, function_entry, with_function, has_number, is_function, function_case, module_params, module_header, header_of, module_entry, with_module, is_module, module_case}
 use Rattle.bsv_check.specs.Headers.{over_items, over_all, or_kept, header_step}
 use Rattle.bsv_check.specs.Checked.{Done, function_step, module_step, item_step, all_items, package_step, all_packages}
-use Rattle.bsv_check.proofs.Entries.{distinct_with}
-use Rattle.bsv_check.proofs.Headers.{function_seen, module_seen}
-use Rattle.bsv_check.proofs.RightTypes.{name_added}
+use Rattle.bsv_modules.proofs.Entries.{distinct_with}
+use Rattle.bsv_modules.proofs.Headers.{function_seen, module_seen}
+use Rattle.bsv_modules.proofs.RightTypes.{name_added}
 use Rattle.bsv_check.proofs.RightRuns.{at_place, packaged}
 
 -- ---- entries that are numbered by their places

@@ -34,23 +34,23 @@ use Rattle.bsv_typing.specs.Bodies.{Or, ◌>=>◌}
 use Rattle.bsv_typing.proofs.Bound.{some_is, tested_step, both_true}
 use Rattle.bsv_typing.proofs.RightOperands.{strict_value}
 use Rattle.bsv_typing.proofs.RightCalls.{ok_is, went}
-use Rattle.bsv_check.specs.Modules.{Header, params_at, are_named}
-use Rattle.bsv_check.specs.Programs.{Types, shapes_of, limits_of, type_names, no_types, types_behind, Program, env_of, value_kind, value_params, written_at, function_header, function_case, module_case}
+use Rattle.bsv_modules.specs.Modules.{Header, params_at, are_named}
+use Rattle.bsv_modules.specs.Programs.{Types, shapes_of, limits_of, type_names, no_types, types_behind, Program, env_of, value_kind, value_params, written_at, function_header, function_case, module_case}
 use Rattle.bsv_check.specs.Headers.{over_items, over_all, or_kept, type_step, all_types, no_headers, all_headers, AtPlace, ◌>==◌}
 use Rattle.bsv_check.specs.Checked.{Done, nothing, function_step, module_step, item_step, all_items, package_step, all_packages, Made, made_of, bodies, unless_blamed, typing}
 use Rattle.bsv_names.specs.declared.place.Place.{Place}
 use Rattle.bsv_check.specs.Blame.{Blame, headers_blame}
 use Rattle.bsv_check.specs.Rightness.{is_counted}
-use Rattle.bsv_check.specs.Laws.{FitsProgram}
-use Rattle.bsv_check.proofs.RightEnums.{enum_kept, enum_is_right}
-use Rattle.bsv_check.proofs.RightTypes.{struct_kept, interface_kept, labels, Kept}
-use Rattle.bsv_check.proofs.RightShapes.{item_right}
+use Rattle.bsv_modules.specs.Laws.{FitsProgram}
+use Rattle.bsv_modules.proofs.RightEnums.{enum_kept, enum_is_right}
+use Rattle.bsv_modules.proofs.RightTypes.{struct_kept, interface_kept, labels, Kept}
+use Rattle.bsv_modules.proofs.RightShapes.{item_right}
 use Rattle.bsv_check.proofs.RightRuns.{at_place, packaged, all_header_types}
 use Rattle.bsv_check.proofs.RightAligned.{found_at, ahead_self, Call, FunctionsAligned, ModulesAligned, Aligned, packages_aligned, calls_many}
-use Rattle.bsv_check.proofs.Headers.{function_seen}
-use Rattle.bsv_check.proofs.RightMethods.{sure_is}
-use Rattle.bsv_check.proofs.RightFunctions.{world_before, functions_right}
-use Rattle.bsv_check.proofs.RightModules.{modules_right}
+use Rattle.bsv_modules.proofs.Headers.{function_seen}
+use Rattle.bsv_modules.proofs.RightMethods.{sure_is}
+use Rattle.bsv_modules.proofs.RightFunctions.{world_before, functions_right}
+use Rattle.bsv_modules.proofs.RightModules.{modules_right}
 
 -- ---- all types are in order
 

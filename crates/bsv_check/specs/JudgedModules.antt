@@ -26,8 +26,8 @@ use Rattle.bsv_typing.specs.Bodies.{Or, ◌>=>◌, at, sure, Scopes}
 use Rattle.bsv_typing.specs.Env.{Env}
 use Rattle.bsv_typing.specs.Returns.{returns}
 use Rattle.bsv_typing.specs.Written.{TypeNames}
-use Rattle.bsv_check.specs.Modules as modules
-use Rattle.bsv_check.specs.Modules.{Site, State, task, task_of, scoped, asked, method_header, wanted_method, with_method, instance_case, array_case, place_case, declare_case, assign_case}
+use Rattle.bsv_modules.specs.Modules as modules
+use Rattle.bsv_modules.specs.Modules.{Site, State, task, task_of, scoped, asked, method_header, wanted_method, with_method, instance_case, array_case, place_case, declare_case, assign_case}
 use Rattle.bsv_check.specs.Judged.{Judged, Judges, leaf, all_judged, Judge, Judging, expr_judged, stmts_judged, head_opened}
 
 -- an arm of an `if` of a module, and the condition in front of it

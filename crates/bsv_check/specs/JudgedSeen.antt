@@ -5,7 +5,7 @@ use Rattle.bsv_check.specs.declared.judged_statements.Judge as code_judge
 use Rattle.bsv_check.specs.declared.judged_modules.ModuleJudge as code_module_judge
 use Rattle.bsv_check.specs.Judged.{Judging}
 use Rattle.bsv_check.specs.JudgedModules.{InModule}
-use Rattle.bsv_check.specs.Seen.{site_of}
+use Rattle.bsv_modules.specs.Seen.{site_of}
 
 abbrev pub judging : code_judge.Judge → Judging
 judging j = record { untyped = reached j.reach; task = task_of j.task }

@@ -1,12 +1,8 @@
 pub mod Headers
 pub mod Blame
 pub mod Checked
-pub mod Growing
 pub mod Judged
 pub mod JudgedModules
 pub mod JudgedSeen
-pub mod Laws
-pub mod Modules
-pub mod Programs
 pub mod Rightness
 pub mod Seen

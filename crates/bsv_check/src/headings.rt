@@ -4,15 +4,15 @@ ghost use Rattle.bsv_types.specs.Kinds.{kind};
 ghost use Rattle.bsv_typing.specs.SeenBodies.{GivesAt};
 ghost use Rattle.bsv_check.specs.Blame as blames;
 ghost use Rattle.bsv_check.specs.Headers as spec;
-ghost use Rattle.bsv_check.specs.Programs as programs;
-ghost use Rattle.bsv_check.specs.Seen.{KeptAt, blame_of, program_of, seen_by, types_of};
+ghost use Rattle.bsv_modules.specs.Programs as programs;
+ghost use Rattle.bsv_modules.specs.Seen.{KeptAt, program_of, seen_by, types_of};
+ghost use Rattle.bsv_check.specs.Seen.{blame_of};
 ghost use Rattle.bsv_names.specs.PackageEvents as listed;
 
 use crate::blame::Blame;
-use crate::definitions::define_types;
-use crate::program::{Program, announce_function, announce_module};
 use bsv_ast::{Item, Package};
 use bsv_bits::{Name, OutOfMemory};
+use bsv_modules::{Program, announce_function, announce_module, define_types};
 use bsv_scopes::Scope;
 use bsv_types::{Interface, Items, Methods, Ty};
 use bsv_typing::{BodyFail, Context};
@@ -44,7 +44,7 @@ fn empty_interface(alloc: Global) -> Result<Interface, OutOfMemory>
 }
 
 /// The name `Empty` alone.
-#[tactic(auto, unfolding(crate::specs::Seen::seen_by))]
+#[tactic(auto, unfolding(bsv_modules::specs::Seen::seen_by))]
 fn empty_name(alloc: Global) -> Result<Scope<Ty>, OutOfMemory>
     ensures { IfOk result (λ names. seen_by kind (entries names) ≡ programs.empty_name) }
 {
@@ -55,7 +55,7 @@ fn empty_name(alloc: Global) -> Result<Scope<Ty>, OutOfMemory>
 }
 
 /// `Empty` alone.
-#[tactic(auto, using(crate::proofs::Views::nothing))]
+#[tactic(auto, using(bsv_modules::proofs::Views::nothing))]
 fn no_types(alloc: Global, strict: bool) -> Result<Context, OutOfMemory>
     ensures { IfOk result (λ c. types_of c ≡ programs.no_types strict) }
 {
@@ -228,7 +228,7 @@ fn all_headings(
 }
 
 /// A program of these types, in which nothing has a heading yet.
-#[tactic(auto, using(crate::proofs::Views::nothing))]
+#[tactic(auto, using(bsv_modules::proofs::Views::nothing))]
 fn no_headings(alloc: Global, types: Context) -> Program
     ensures { program_of result ≡ spec.no_headers (types_of types) }
 {

@@ -4,20 +4,20 @@ ghost use Rattle.bsv_types.specs.Kinds.{kind};
 ghost use Rattle.bsv_names.specs.UntypedSeen.{reached, untyped as untyped_of};
 ghost use Rattle.bsv_typing.specs.SeenBodies.{GivesAt};
 ghost use Rattle.bsv_check.specs.Blame as spec;
-ghost use Rattle.bsv_check.specs.Programs.{site_at};
-ghost use Rattle.bsv_check.specs.Seen.{GivesPlace, blame_of, program_of};
+ghost use Rattle.bsv_modules.specs.Programs.{site_at};
+ghost use Rattle.bsv_modules.specs.Seen.{program_of};
+ghost use Rattle.bsv_check.specs.Seen.{GivesPlace, blame_of};
 
-use crate::attributes::asked;
 use crate::blame::Blame;
 use crate::checking::PlaceFail;
 use crate::headings::items_of;
 use crate::judged_modules::{ModuleJudge, judge_body};
-use crate::program::{
-    Program, defines_all, function_heading, module_heading, no_methods, param_scopes,
-};
-use crate::site::{Site, State};
 use bsv_ast::{Function as WrittenFunction, Item, Module as WrittenModule, Package};
 use bsv_bits::{Name, OutOfMemory};
+use bsv_modules::{
+    Program, Site, State, asked, defines_all, function_heading, module_heading, no_methods,
+    param_scopes,
+};
 use bsv_names::{Place, Reach, Untyped, Variables};
 use bsv_scopes::Space;
 use bsv_types::{Boxed, Items, MethodResult, Owner, Param, Ty};
@@ -25,7 +25,7 @@ use bsv_typing::{BodyFail, at, place_number};
 use std::alloc::Global;
 
 /// The number of the function of the name, if it has a header.
-#[tactic(auto, using(crate::proofs::Views::finds), unfolding(crate::specs::Seen::function_seen))]
+#[tactic(auto, using(bsv_modules::proofs::Views::finds), unfolding(bsv_modules::specs::Seen::function_seen))]
 fn own_number(program: &Program, name: &Name) -> u32
     ensures { result ≡ spec.own_number (found name.now (program_of program.now).functions) }
 {
@@ -36,7 +36,7 @@ fn own_number(program: &Program, name: &Name) -> u32
 }
 
 /// The body of a function, in the scope of its parameters, has no fault of its own.
-#[tactic(auto, using(crate::proofs::Views::bodies), unfolding(crate::specs::Blame::function_body_judged))]
+#[tactic(auto, using(bsv_modules::proofs::Views::bodies), unfolding(crate::specs::Blame::function_body_judged))]
 fn judge_function_body(
     alloc: Global,
     program: &Program,
@@ -92,7 +92,7 @@ fn judge_function(
 }
 
 /// The body of a module whose header has a typing has no fault of its own.
-#[tactic(auto, using(crate::proofs::Views::sites))]
+#[tactic(auto, using(bsv_modules::proofs::Views::sites))]
 fn judge_module_body(
     alloc: Global,
     program: &Program,
@@ -128,7 +128,7 @@ fn judge_module_body(
 }
 
 /// A module has no fault of its own behind its header.
-#[tactic(auto, using(crate::proofs::Views::lengths), unfolding(crate::specs::Blame::module_judged))]
+#[tactic(auto, using(bsv_modules::proofs::Views::lengths), unfolding(crate::specs::Blame::module_judged))]
 fn judge_module(
     alloc: Global,
     program: &mut Program,

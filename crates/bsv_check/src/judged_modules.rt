@@ -11,17 +11,15 @@ ghost use Rattle.bsv_names.specs.Untyped as untyped;
 ghost use Rattle.bsv_check.specs.Judged as statements;
 ghost use Rattle.bsv_check.specs.JudgedModules as spec;
 ghost use Rattle.bsv_check.specs.JudgedSeen.{in_module, judging};
-ghost use Rattle.bsv_check.specs.Modules as modules;
-ghost use Rattle.bsv_check.specs.Seen.{state_of};
+ghost use Rattle.bsv_modules.specs.Modules as modules;
+ghost use Rattle.bsv_modules.specs.Seen.{state_of};
 
-use crate::attributes::asked;
-use crate::elements::{level, method_header, stand, wanted};
 use crate::judged_statements::Judge;
-use crate::module_statements::nested;
-use crate::params::declare_params;
-use crate::site::{Site, State};
 use bsv_ast::{Body, Boxed, Expr, Head, Method, ModuleBranch, ModuleStmt, Rule, Span};
 use bsv_bits::{Name, OutOfMemory};
+use bsv_modules::{
+    Site, State, asked, declare_params, level, method_header, nested, stand, wanted,
+};
 use bsv_names::{Reach, Variables};
 use bsv_scopes::Scopes;
 use bsv_types::{Body as TypedBody, Items, Method as TypedMethod, MethodResult, Owner, Param, Ty};

@@ -9,8 +9,6 @@
 #![tactic(auto)]
 
 mod laws;
-#[cfg(test)]
-mod tests;
 
 pub use laws::{
     attributes, carried, fed, lawful, one_clock, one_run, settled, steady, value_methods,

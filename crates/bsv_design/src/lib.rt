@@ -24,8 +24,6 @@ mod source;
 mod state;
 mod statics;
 mod steps;
-#[cfg(test)]
-mod tests;
 mod tree;
 mod values;
 mod whole;

@@ -11,4 +11,3 @@ pub mod Answering
 pub mod UsesLemmas
 pub mod DesignLemmas
 pub mod RelationsLemmas
-pub mod NothingLemmas

@@ -26,8 +26,6 @@ mod reach;
 mod related;
 mod relations;
 mod table;
-#[cfg(test)]
-mod tests;
 mod usage;
 mod uses;
 

@@ -3,7 +3,6 @@ pub mod Searching
 pub mod Spreading
 pub mod Ready
 pub mod Whole
-pub mod SampleDesign
 pub mod Lists
 pub mod Given
 pub mod Agree

@@ -16,8 +16,6 @@ mod needs;
 mod pairs;
 mod search;
 mod spread;
-#[cfg(test)]
-mod tests;
 
 pub use fault::GuardFault;
 pub use laws::{sound_designs, sound_schemes};

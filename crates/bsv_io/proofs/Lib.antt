@@ -1,7 +1,6 @@
 pub mod Adding
 pub mod Appended
 pub mod Counted
-pub mod Counts
 mod Fronts
 pub mod NoFaults
 pub mod Pieces

@@ -23,8 +23,6 @@ mod sink;
 mod std_sink;
 mod sure_files;
 mod sure_sink;
-#[cfg(test)]
-mod tests;
 mod text;
 
 pub use disk_files::DiskFiles;

@@ -1,4 +1,4 @@
-ghost use Rattle.std.specs.Prelude.{◌≡◌, ◌≤◌, length, slice_range};
+ghost use Rattle.std.specs.Prelude.{◌≡◌};
 ghost use Rattle.bsv_lex.specs.declared.token.LexFault.TheVariants.{OutOfMemory};
 
 use bsv_ast::Span;
@@ -35,15 +35,6 @@ impl Token {
             start: self.start,
             end: self.end,
         }
-    }
-
-    /// The token's bytes, where `source` is the one that it was read from.
-    pub fn text(self, source: &[u8]) -> &[u8]
-        requires ordered { self.start ≤ self.end }
-        requires within { self.end ≤ length source.now }
-        ensures { result.now ≡ slice_range source.now self.start self.end }
-    {
-        &source[self.start as usize..self.end as usize]
     }
 }
 

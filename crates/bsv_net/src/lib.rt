@@ -12,8 +12,6 @@ mod circuit;
 mod net;
 mod node;
 mod nodes;
-#[cfg(test)]
-mod tests;
 mod wires;
 
 pub use circuit::Circuit;

@@ -2,5 +2,4 @@ pub mod Elements
 pub mod OddBits
 pub mod Orderly
 pub mod Parallel
-pub mod SameWord
 pub mod Seen

@@ -1,5 +1,5 @@
 ghost use Rattle.std.specs.Prelude.{◌≡◌, IfOk};
-ghost use Rattle.bsv_prim.specs.Shape.{shape_of, Given, IsCalled, ArgumentOf, Fixed, Inverted, Both, Chosen, Cut, Joined, Extended};
+ghost use Rattle.bsv_prim.specs.Shape.{shape_of, Given, IsCalled, ArgumentOf, Fixed, Inverted, Both, Chosen, Joined};
 
 use bsv_bits::{Operator, OutOfMemory, Word};
 use std::alloc::Global;
@@ -83,13 +83,6 @@ impl Piece {
         Ok(Piece::Pick(choice, a, b))
     }
 
-    /// The bits from `low` to `high`, both among them.
-    pub fn slice(alloc: Global, a: Piece, high: u32, low: u32) -> Result<Piece, OutOfMemory>
-        ensures { IfOk result (λ piece. shape_of piece ≡ Cut (shape_of a) high low) }
-    {
-        Ok(Piece::Slice(Box::new(alloc, a)?, high, low))
-    }
-
     /// The bits of one piece above those of another.
     pub fn join(alloc: Global, high: Piece, low: Piece) -> Result<Piece, OutOfMemory>
         ensures { IfOk result (λ piece. shape_of piece ≡ Joined (shape_of high) (shape_of low)) }
@@ -97,12 +90,5 @@ impl Piece {
         let high = Box::new(alloc, high)?;
         let low = Box::new(alloc, low)?;
         Ok(Piece::Join(high, low))
-    }
-
-    /// The same number in so many bits.
-    pub fn extend(alloc: Global, a: Piece, width: u32) -> Result<Piece, OutOfMemory>
-        ensures { IfOk result (λ piece. shape_of piece ≡ Extended (shape_of a) width) }
-    {
-        Ok(Piece::Extend(Box::new(alloc, a)?, width))
     }
 }

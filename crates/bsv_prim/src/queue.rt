@@ -1,4 +1,4 @@
-ghost use Rattle.std.specs.Prelude.{◌≡◌, ◌+◌, ◌<◌, ◌≤◌, ◌∷◌, ◌++◌, [], length, drop, slice_get, slice_set, IfOk};
+ghost use Rattle.std.specs.Prelude.{◌≡◌, ◌+◌, ◌<◌, ◌≤◌, ◌∷◌, ◌++◌, [], length, drop, slice_get, IfOk};
 
 use bsv_bits::{OutOfMemory, Word};
 use std::alloc::Global;
@@ -86,14 +86,6 @@ impl Queue {
         ensures { slice_get self.now.items number ≡ Some result }
     {
         self.items[number as usize]
-    }
-
-    /// Puts a word in the place of another.
-    pub fn replace(&mut self, number: u32, word: Word)
-        requires { number < length self.old.items }
-        ensures { self.new ≡ record self.old { items = slice_set self.old.items number word } }
-    {
-        self.items[number as usize] = word;
     }
 
     /// Takes all words away.

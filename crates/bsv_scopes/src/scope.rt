@@ -1,6 +1,5 @@
-ghost use Rattle.std.specs.Prelude.{◌≡◌, [], length, not, IfOk, OnOk, OnErr, slice_get};
-ghost use Rattle.std.specs.Map.Iter.{deref_pair};
-ghost use Rattle.std.specs.Option.{option_copied, option_map};
+ghost use Rattle.std.specs.Prelude.{◌≡◌, [], length, not, IfOk, OnOk, OnErr};
+ghost use Rattle.std.specs.Option.{option_copied};
 ghost use Rattle.bsv_scopes.specs.Scopes as spec;
 ghost use Rattle.bsv_scopes.specs.Seen.{entries};
 
@@ -54,13 +53,6 @@ impl<V: Drop> Scope<V> {
         ensures { result ≡ length (entries self.now) }
     {
         self.names.len()
-    }
-
-    /// The name of this number, with what it stands for.
-    pub fn entry(&self, number: usize) -> Option<(&Name, &V)>
-        ensures { option_map deref_pair result ≡ slice_get (entries self.now) number }
-    {
-        self.names.get_index(number)
     }
 
     /// Defines the name, and says whether it was not defined before. Where it was, the first

@@ -20,4 +20,3 @@ pub mod Placed
 pub mod ClockGround
 pub mod ClockWhole
 pub mod TurnSights
-pub mod SampleSchedule

@@ -17,8 +17,6 @@ mod making;
 mod outcome;
 mod parts;
 mod placing;
-#[cfg(test)]
-mod run_tests;
 mod setting;
 mod stopping;
 mod telling;

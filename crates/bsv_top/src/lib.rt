@@ -19,8 +19,6 @@ mod program;
 mod simulation;
 mod status;
 mod stop;
-#[cfg(test)]
-mod tests;
 
 pub use program::{one_answer, run, run_surely};
 pub use status::Status;

@@ -14,8 +14,6 @@ mod number;
 mod order;
 mod report;
 mod state;
-#[cfg(test)]
-mod tests;
 mod text;
 
 pub use law::one_request;

@@ -10,8 +10,6 @@ mod elements;
 mod methods;
 mod node_widths;
 mod operators;
-#[cfg(test)]
-mod tests;
 
 pub use elements::{has_widths, is_countable, value_acts_not};
 pub use node_widths::widths;

@@ -1,6 +1,7 @@
 use Rattle.std.proofs.Common.{◌≡◌, length}
 use Rattle.bsv_check.specs.Checked.{all_packages}
-use Rattle.bsv_check.specs.Seen.{done_of, program_of}
+use Rattle.bsv_modules.specs.Seen.{program_of}
+use Rattle.bsv_check.specs.Seen.{done_of}
 use Rattle.bsv_check.proofs.checking.add_packages.Given as goal
 
 abbrev pub decreases-loop-package : goal.decreases-loop-package

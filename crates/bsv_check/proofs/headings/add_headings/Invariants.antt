@@ -1,7 +1,8 @@
 use Rattle.std.proofs.Common.{◌≡◌, length}
 use Rattle.bsv_check.specs.Headers.{over_items, header_step}
 use Rattle.bsv_check.specs.Blame.{items_blame, header_blame}
-use Rattle.bsv_check.specs.Seen.{blame_of, program_of}
+use Rattle.bsv_modules.specs.Seen.{program_of}
+use Rattle.bsv_check.specs.Seen.{blame_of}
 use Rattle.bsv_check.proofs.headings.add_headings.Given as goal
 
 abbrev pub decreases-loop-item : goal.decreases-loop-item

@@ -1,7 +1,8 @@
 use Rattle.std.proofs.Common.{◌≡◌, length}
 use Rattle.bsv_check.specs.Headers.{over_all, type_step}
 use Rattle.bsv_check.specs.Blame.{all_blame, type_blame}
-use Rattle.bsv_check.specs.Seen.{blame_of, types_of}
+use Rattle.bsv_modules.specs.Seen.{types_of}
+use Rattle.bsv_check.specs.Seen.{blame_of}
 use Rattle.bsv_check.proofs.headings.all_types.Given as goal
 
 abbrev pub decreases-loop-package : goal.decreases-loop-package

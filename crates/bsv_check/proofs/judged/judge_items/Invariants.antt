@@ -1,6 +1,7 @@
 use Rattle.std.proofs.Common.{◌≡◌, length}
 use Rattle.bsv_check.specs.Blame.{items_judged}
-use Rattle.bsv_check.specs.Seen.{blame_of, program_of}
+use Rattle.bsv_modules.specs.Seen.{program_of}
+use Rattle.bsv_check.specs.Seen.{blame_of}
 use Rattle.bsv_check.proofs.judged.judge_items.Given as goal
 
 abbrev pub decreases-loop-item : goal.decreases-loop-item

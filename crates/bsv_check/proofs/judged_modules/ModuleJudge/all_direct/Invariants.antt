@@ -3,7 +3,7 @@ use Rattle.bsv_names.specs.UntypedSeen.{variables}
 use Rattle.bsv_check.specs.Judged.{all_judged}
 use Rattle.bsv_check.specs.JudgedModules.{direct_judged}
 use Rattle.bsv_check.specs.JudgedSeen.{in_module}
-use Rattle.bsv_check.specs.Seen.{state_of}
+use Rattle.bsv_modules.specs.Seen.{state_of}
 use Rattle.bsv_check.proofs.judged_modules.ModuleJudge.all_direct.Given as goal
 
 abbrev pub decreases-loop-stmt : goal.decreases-loop-stmt

@@ -1,0 +1,2 @@
+module mkA(Empty); endmodule
+)

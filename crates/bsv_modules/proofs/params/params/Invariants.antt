@@ -1,0 +1,12 @@
+use Rattle.std.proofs.Common.{◌≡◌, length}
+use Rattle.bsv_typing.specs.Seen.{type_names}
+use Rattle.bsv_typing.proofs.Fronts.{listed}
+use Rattle.bsv_modules.specs.Modules as spec
+use Rattle.bsv_modules.specs.Seen.{allowed}
+use Rattle.bsv_modules.proofs.params.params.Given as goal
+
+abbrev pub decreases-loop-next : goal.decreases-loop-next
+decreases-loop-next l = length l.rest
+
+abbrev pub invariant-loop-next : goal.invariant-loop-next
+invariant-loop-next l = listed l.found (spec.params_at (type_names l.context) (allowed l.which l.context) l.span l.rest) ≡ spec.params_at (type_names l.context) (allowed l.which l.context) l.span l.written

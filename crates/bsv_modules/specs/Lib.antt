@@ -1,0 +1,5 @@
+pub mod Growing
+pub mod Laws
+pub mod Modules
+pub mod Programs
+pub mod Seen
