@@ -1,19 +1,16 @@
 -- A type has one width, and the widths that the definitions of a program in order carry are the ones that the
 -- definition of widths gives.
-use Rattle.std.proofs.Common.{◌≡◌, ◌∙◌, ℕ, zero, suc, ◌+◌, ◌-◌, ◌^◌, ◌<◌, ◌≤◌, Bool, true, false, ◌&&◌, List, [], ◌∷◌, min, length, slice_get, option_map, Option, Some, None, drop, take, refl, ap, ap₂, sym, subst, IsTrue, arith}
+use Rattle.std.proofs.Common.{◌≡◌, ◌∙◌, ℕ, zero, suc, ◌+◌, ◌-◌, ◌^◌, ◌<◌, ◌≤◌, Bool, true, false, ◌&&◌, List, [], ◌∷◌, min, length, slice_get, option_map, Option, Some, None, refl, ap, sym, subst, IsTrue, arith}
 use Rattle.std.specs.Prelude.{nat_le, nat_lt}
 use Rattle.std.specs.List.{list_all}
 use Rattle.std.proofs.lemmas.Bool.{eqb-true, ltb-true, ltb-false, leb-true}
 use Rattle.std.proofs.Math.Pow.{pow_mono}
-use Rattle.std.proofs.Math.Seq.{take-length}
-use Rattle.std.proofs.lemmas.List.{length-drop, drop-map}
-use Rattle.bsv_types.specs.declared.definitions.Field.{Field}
 use Rattle.bsv_types.specs.declared.definitions.Enum.{Enum}
 use Rattle.bsv_types.specs.declared.definitions.Struct.{Struct}
 use Rattle.bsv_types.specs.declared.definitions.Interface.{Interface}
 use Rattle.bsv_types.specs.declared.definitions.Function.{Function}
 use Rattle.bsv_types.specs.declared.modules.Module.{Module}
-use Rattle.bsv_types.specs.Kinds.{Kind, bit, down, uint, int, bool, enum, struct, maybe, integer, interface, part, bare, kind}
+use Rattle.bsv_types.specs.Kinds.{Kind, bit, down, uint, int, bool, enum, struct, maybe, integer, interface, part, bare}
 use Rattle.bsv_types.specs.Widths.{IsLeast, HasWidth, HaveWidth, WidthWithin, bits, unsigned, signed, truth, labels, fields, tagged, nothing, beside, field_kinds}
 use Rattle.bsv_types.specs.Shapes.{Shapes, plus, width_by, widths_by, is_width, is_bits, is_enum_width}
 use Rattle.bsv_types.specs.Programs.{each_at, enum_right, struct_right, shapes_right, begins_empty, is_right}
@@ -150,18 +147,10 @@ struct_width_by (suc fuel) es ss faces all right k t less is =
 pub struct_width : (es : List Enum) (ss : List Struct) (faces : List Interface) (k : ℕ) (t : Struct) → list_all enum_right es ≡ true → each_at (struct_right (shapes es ss faces)) 0 ss ≡ true → slice_get ss k ≡ Some t → HasWidth es ss (struct k) t.width
 struct_width es ss faces k t all right is = struct_width_by (suc k) es ss faces all right k t (omega arith) is
 
-few_bits : (es : List Enum) (ss : List Struct) (faces : List Interface) (k : ℕ) (t : Struct) → each_at (struct_right (shapes es ss faces)) 0 ss ≡ true → slice_get ss k ≡ Some t → t.width ≤ 128
-few_bits es ss faces k t right is =
-    let whole = each_at_is (struct_right (shapes es ss faces)) 0 ss k t right is in
-    let a = both _ (is_width (widths_by es ss (field_kinds t.fields)) t.width) whole in
-    let b = both _ (nat_le 1 t.width && nat_le t.width 128) a.0 in
-    leb-true t.width 128 (both (nat_le 1 t.width) (nat_le t.width 128) b.1).1
-
 -- what the definitions of a program in order carry
 pub record Carries (es : List Enum) (ss : List Struct) : Type 0 where
   pub enums : (k : ℕ) (e : Enum) → slice_get es k ≡ Some e → HasWidth es ss (enum k) e.width
   pub structs : (k : ℕ) (t : Struct) → slice_get ss k ≡ Some t → HasWidth es ss (struct k) t.width
-  pub few : (k : ℕ) (t : Struct) → slice_get ss k ≡ Some t → t.width ≤ 128
 
 pub told : (es : List Enum) (ss : List Struct) → Carries es ss → (k : Kind) (w : ℕ) → w ≤ 128 → HasWidth es ss k w → width_by es ss k ≡ Some w
 told es ss c (bit n) w few bits = refl
@@ -187,7 +176,7 @@ program_carries es ss faces fs ms right =
     let d = both _ (begins_empty faces) c.1 in
     let e = both _ (list_all _ faces) d.0 in
     let f = both (list_all enum_right es) (each_at (struct_right (shapes es ss faces)) 0 ss) e.0 in
-    record { enums = λ k e is. enum_width es ss k e f.0 is; structs = λ k t is. struct_width es ss faces k t f.0 f.1 is; few = λ k t is. few_bits es ss faces k t f.1 is }
+    record { enums = λ k e is. enum_width es ss k e f.0 is; structs = λ k t is. struct_width es ss faces k t f.0 f.1 is }
 
 pub is_told : (es : List Enum) (ss : List Struct) → Carries es ss → (k : Kind) → (h : WidthWithin es ss k 128) → width_by es ss k ≡ Some h.0
 is_told es ss c k h = told es ss c k h.0 h.2 h.1
@@ -197,39 +186,3 @@ is_carried es ss r c k h is = subst (HasWidth es ss k) (some_is h.0 r (sym (is_t
 
 pub not_both : (o : Option ℕ) (w : ℕ) → o ≡ None → o ≡ Some w → ⊥
 not_both o w none some = cc
-
-all_told : (es : List Enum) (ss : List Struct) → Carries es ss → (ks : List Kind) (w : ℕ) → w ≤ 128 → HaveWidth es ss ks w → widths_by es ss ks ≡ Some w
-all_told es ss c [] w few nothing = refl
-all_told es ss c (k ∷ ks) w few (beside u v x xs is) =
-    let counts : min (u + v) 4294967295 ≡ w = omega arith in
-    ap₂ plus (told es ss c k u (omega arith) x) (all_told es ss c ks v (omega arith) xs) ∙ ap Some counts
-
-suffix : (es : List Enum) (ss : List Struct) (n : ℕ) (ks : List Kind) (w : ℕ) → HaveWidth es ss ks w → (v : ℕ) × HaveWidth es ss (drop n ks) v × (v ≤ w)
-suffix es ss zero ks w h = (w, h, omega arith)
-suffix es ss (suc n) [] w h = (w, h, omega arith)
-suffix es ss (suc n) (k ∷ ks) w (beside u v x xs is) =
-    let s = suffix es ss n ks v xs in
-    let less : s.0 ≤ w = omega (arith, s.2, is) in
-    (s.0, s.1, less)
-
-inside : {es : List Enum} {ss : List Struct} {k w : ℕ} (t : Struct) → slice_get ss k ≡ Some t → HasWidth es ss (struct k) w → HaveWidth es ss (field_kinds t.fields) w
-inside {es} {ss} {k} {w} t at (fields s is all) = subst (λ r. HaveWidth es ss (field_kinds r.fields) w) (some_is s t (sym is ∙ at)) all
-
--- the widths behind a field are those that are counted
-pub below : (es : List Enum) (ss : List Struct) → Carries es ss → (k n : ℕ) (t : Struct) → slice_get ss k ≡ Some t → (v : ℕ) × HaveWidth es ss (drop n (field_kinds t.fields)) v × (widths_by es ss (drop n (field_kinds t.fields)) ≡ Some v)
-below es ss c k n t is =
-    let s = suffix es ss n (field_kinds t.fields) t.width (inside t is (c.structs k t is)) in
-    let few : s.0 ≤ 128 = let whole : t.width ≤ 128 = c.few k t is in omega (arith, s.2) in
-    (s.0, s.1, all_told es ss c (drop n (field_kinds t.fields)) s.0 few s.1)
-
-pub has_below : (es : List Enum) (ss : List Struct) → Carries es ss → (k n r : ℕ) (t : Struct) → slice_get ss k ≡ Some t → widths_by es ss (drop n (field_kinds t.fields)) ≡ Some r → (u : Struct) → slice_get ss k ≡ Some u → HaveWidth es ss (drop n (field_kinds u.fields)) r
-has_below es ss c k n r t is counts u at =
-    let b = below es ss c k n t is in
-    let same : t ≡ u = some_is t u (sym is ∙ at) in
-    subst (λ s. HaveWidth es ss (drop n (field_kinds s.fields)) r) same (subst (HaveWidth es ss (drop n (field_kinds t.fields))) (some_is b.0 r (sym b.2 ∙ counts)) b.1)
-
--- the fields from one on, as a slice has them
-pub slice_kinds : (n : ℕ) (gs fs : List Field) → gs ≡ fs → n ≤ length gs → field_kinds (take (length gs - n) (drop n gs)) ≡ drop n (field_kinds fs)
-slice_kinds n gs fs same within =
-    let all : take (length gs - n) (drop n gs) ≡ drop n gs = subst (λ m. take m (drop n gs) ≡ drop n gs) (length-drop n gs) (take-length (drop n gs)) in
-    ap field_kinds all ∙ sym (drop-map (λ f. kind f.ty) n gs) ∙ ap (λ hs. drop n (field_kinds hs)) same

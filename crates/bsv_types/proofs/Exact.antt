@@ -2,7 +2,7 @@
 use Rattle.std.proofs.Common.{◌≡◌, ◌∙◌, Some, None, ap, sym, subst, true, IsTrue, ◌↔◌}
 use Rattle.bsv_types.specs.declared.types.Ty.{Ty, fold-roll-Ty, ind-Ty, roll-Ty, map-Ty}
 use Rattle.bsv_types.specs.declared.types.Ty.TheOpen.{Ty-F}
-use Rattle.bsv_types.specs.Kinds.{Kind, bit, down, uint, int, bool, enum, struct, maybe, integer, interface, part, bare, kind, kind_step, type_of, same_kind}
+use Rattle.bsv_types.specs.Kinds.{Kind, kind, kind_step, type_of, same_kind}
 use Rattle.bsv_types.proofs.Same.{same_is, same_self}
 
 abbrev Back : Ty → Type 0

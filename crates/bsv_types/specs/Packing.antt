@@ -1,9 +1,6 @@
 -- How values with bits pack into one number (Bluespec reference guide, "Bits", and "Deriving"): side by side, the
 -- first one most significant.
-use Rattle.std.specs.Prelude.{◌≡◌, ℕ, ◌+◌, ◌*◌, ◌^◌, ◌<◌, List, [], ◌∷◌, drop, length, slice_get, Option, Some, None}
-use Rattle.bsv_types.specs.declared.definitions.Enum.{Enum}
-use Rattle.bsv_types.specs.declared.definitions.Struct.{Struct}
-use Rattle.bsv_types.specs.Widths.{HaveWidth, field_kinds}
+use Rattle.std.specs.Prelude.{ℕ, ◌+◌, ◌*◌, ◌^◌, ◌<◌, List, [], ◌∷◌, Option, Some, None}
 
 -- a value with bits: how many they are, and the number that they are
 pub record Bits : Type 0 where
@@ -28,11 +25,3 @@ packed_maybe width (Some payload) = packed (record { width = 1; number = 1 } ∷
 abbrev pub AllFit : List Bits → Type 0
 AllFit [] = Unit {0}
 AllFit (x ∷ xs) = (x.number < 2 ^ x.width) × AllFit xs
-
--- so many bits of a struct stand below its field: those of the fields behind it
-abbrev pub HasBelow : List Enum → List Struct → ℕ → ℕ → ℕ → Type 0
-HasBelow es ss number field below = (s : Struct) → slice_get ss number ≡ Some s → HaveWidth es ss (drop (field + 1) (field_kinds s.fields)) below
-
--- the struct is there, and the field in it
-abbrev pub IsField : List Struct → ℕ → ℕ → Type 0
-IsField ss number field = (s : Struct) × (slice_get ss number ≡ Some s) × (field < length s.fields)

@@ -1,15 +1,13 @@
-ghost use Rattle.std.specs.Prelude.{◌≡◌, ◌+◌, ◌<◌, IsTrue, drop, length};
+ghost use Rattle.std.specs.Prelude.{◌≡◌, IsTrue};
 ghost use Rattle.bsv_types.specs.Kinds.{kind};
 ghost use Rattle.bsv_types.specs.Programs.{is_right};
-ghost use Rattle.bsv_types.specs.Packing.{HasBelow, IsField};
-ghost use Rattle.bsv_types.specs.Shapes.{widths_by};
-ghost use Rattle.bsv_types.specs.Widths.{HasWidth, WidthWithin, field_kinds};
+ghost use Rattle.bsv_types.specs.Widths.{HasWidth, WidthWithin};
 ghost use Rattle.bsv_types.specs.declared.typed.TheConstants.{MOST_BITS};
 
-use crate::definitions::{Enum, Field, Function, Interface, Struct};
+use crate::definitions::{Enum, Function, Interface, Struct};
 use crate::modules::Module;
 use crate::types::Ty;
-use crate::widths::{counted_width, counted_widths};
+use crate::widths::counted_width;
 use sqlite_items::Items;
 
 /// The most bits that a value has.
@@ -62,29 +60,5 @@ impl Typed {
             Some(width) => width,
             None => unreachable!(),
         }
-    }
-
-    /// The number of bits of a struct below one of its fields, by their numbers.
-    pub fn field_low(&self, structure: u32, field: u32) -> u32
-        requires { IsField self.now.structs structure field }
-        ensures { HasBelow self.now.enums self.now.structs structure field result }
-    {
-        match self.structs.get(structure as usize) {
-            Some(found) => match self.counted_below(found, field as usize) {
-                Some(below) => below,
-                None => unreachable!(),
-            },
-            None => unreachable!(),
-        }
-    }
-
-    /// The widths of the fields of a struct behind one of them together.
-    fn counted_below(&self, structure: &Struct, field: usize) -> Option<u32>
-        requires { field < length structure.now.fields }
-        ensures { result ≡ widths_by self.now.enums self.now.structs
-            (drop (field + 1) (field_kinds structure.now.fields)) }
-    {
-        let fields = structure.fields.as_slice();
-        counted_widths(&self.enums, &self.structs, &fields[field + 1..])
     }
 }
