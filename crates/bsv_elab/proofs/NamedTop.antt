@@ -16,7 +16,7 @@ use Rattle.bsv_elab.specs.declared.state.Grown.{Grown}
 use Rattle.bsv_elab.specs.Statics.{Here, put_at}
 use Rattle.bsv_elab.specs.Making.{instance, unbuilt, with_instance, inner}
 use Rattle.bsv_elab.specs.Elements.{most_elements, here_module, methods_of}
-use Rattle.bsv_elab.specs.Building.{body_at, most_modules, top_from, first_rule, first_rule_in, outside, nothing_grown, methods_from, tree, from_top, carried_out, building}
+use Rattle.bsv_elab.specs.Building.{body_at, most_modules, top_from, first_rule, first_rule_in, outside, begun, methods_from, tree, from_top, carried_out, building}
 use Rattle.bsv_elab.proofs.NamedLists.{ok_is, through, passed}
 use Rattle.bsv_elab.proofs.NamedGroups.{BuiltNamed, Group}
 use Rattle.bsv_elab.proofs.NamedMakes.{MarksWithin}
@@ -36,9 +36,6 @@ first_rule_is n first e = sym (ok_is n first (passed (nat_lt (n + most_elements)
 
 abbrev top_here : Typed → ℕ → ℕ → Here
 top_here t number first = inner (outside t number first) number []
-
-abbrev begun : ℕ → Grown
-begun number = with_instance (instance [] (unbuilt number)) nothing_grown
 
 -- what was built, and how
 pub record Whole (t : Typed) (h : Hierarchy) : Type 0 where

@@ -1,5 +1,5 @@
 -- For each method of the code the definition of its name, with what is at hand in front.
-use Rattle.std.specs.Prelude.{ℕ, ℤ, List, map, slice_get, Option, Some, option_map, Result, Ok}
+use Rattle.std.specs.Prelude.{ℕ, ℤ, List, [], map, slice_get, Option, Some, option_map, Result, Ok}
 use Rattle.bsv_fail.specs.declared.fail.Fail.{Fail}
 use Rattle.bsv_fail.specs.declared.fail.Fail.TheVariants as fail
 use Rattle.bsv_fail.specs.Given.{◌>>=◌}
@@ -144,6 +144,9 @@ inner_body b k path bs g = inner b (making.inner (here b) k path) bs g
 
 abbrev pub own_methods : Builder → List Method
 own_methods b = methods_of (here_module (here b))
+
+abbrev pub outermost : Builder → Result Done Refused
+outermost b = inner_body b b.«module» [] [] (building.begun b.«module»)
 
 abbrev pub top : Builder → Result (Done × ℕ) Refused
 top b = building.from_top (inner b) (here b)

@@ -128,10 +128,14 @@ tree t number d weight = record {
   weight = weight;
 }
 
+-- the tree as it begins, with the top alone
+abbrev pub begun : ℕ → Grown
+begun top = with_instance (instance [] (unbuilt top)) nothing_grown
+
 -- the top is carried out as an instance without parameters, and its methods come last
 abbrev pub from_top : Bodies → Here → Result (Done × ℕ) Refused
 from_top bodies here =
-    bodies (inner here here.within []) [] (with_instance (instance [] (unbuilt here.within)) nothing_grown) >>= λ d.
+    bodies (inner here here.within []) [] (begun here.within) >>= λ d.
     methods_from here d d.grown.weight 0 (methods_of (here_module here)) >>= λ weight. Ok (d, weight)
 
 abbrev pub carried_out : Typed → List ℕ → Result (ℕ × Done × ℕ) Refused

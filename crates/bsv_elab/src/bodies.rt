@@ -98,18 +98,33 @@ fn own_marks(alloc: Global, module: &Module, state: &State) -> Building<Marks>
     marks_of(alloc, module, state.scope.rules.as_slice())
 }
 
+/// The instance behind the end of its body, and the marks of the instances inside it.
+fn built_from(module: u32, scope: Scope) -> (Built, Marks)
+    ensures { result ≡ (building.built «module» scope, scope.marks) }
+{
+    let Scope {
+        bindings,
+        rules,
+        levels,
+        marks,
+        ..
+    } = scope;
+    let built = Built {
+        module,
+        bindings,
+        rules,
+        methods: levels,
+    };
+    (built, marks)
+}
+
 /// The instance behind the end of its body, and its own marks before those of the instances inside it.
 fn finished(module: u32, scope: Scope, own: Building<Marks>) -> Building<(Built, Marks)>
     ensures { Finishes «module» scope own result }
 {
     let mut marks = own?;
-    add_marks(&mut marks, scope.marks)?;
-    let built = Built {
-        module,
-        bindings: scope.bindings,
-        rules: scope.rules,
-        methods: scope.levels,
-    };
+    let (built, inside) = built_from(module, scope);
+    add_marks(&mut marks, inside)?;
     Ok((built, marks))
 }
 

@@ -1,4 +1,4 @@
-ghost use Rattle.std.specs.Prelude.{◌≡◌, ◌+◌, ◌<◌, Ok, IfOk, IfErr, length, slice_get, take};
+ghost use Rattle.std.specs.Prelude.{◌≡◌, ◌+◌, ◌<◌, Ok, IfOk, IfErr, length, slice_get};
 ghost use Rattle.bsv_fail.specs.Given.{Gives};
 ghost use Rattle.bsv_design.specs.Seen.{hierarchy};
 ghost use Rattle.bsv_design.specs.Trees.{IsTree};
@@ -21,8 +21,9 @@ use crate::values::countable;
 use crate::variables::put_at;
 use bsv_bits::{Name, OutOfMemory};
 use bsv_carry::Site;
-use bsv_design::{Binding, Fault, Made, Tree};
+use bsv_design::{Fault, Made, Tree};
 use bsv_fail::Fail;
+use bsv_steps::seen;
 use bsv_types::{Method, Module, Typed};
 use sqlite_items::Items;
 use std::alloc::Global;
@@ -63,19 +64,6 @@ fn levels_at(levels: &Items<u32>, number: u32) -> u32
     }
 }
 
-/// The first so many variables.
-fn seen(bindings: &Items<Binding>, count: u32) -> &[Binding]
-    ensures { result.now ≡ take count bindings.now }
-{
-    let all = bindings.as_slice();
-    let count = count as usize;
-    if count < all.len() {
-        &all[..count]
-    } else {
-        all
-    }
-}
-
 fn no_instances(alloc: Global) -> Grown
     ensures { result ≡ building.nothing_grown }
 {
@@ -100,6 +88,25 @@ fn no_scope(alloc: Global) -> Scope {
     }
 }
 
+/// The tree as it begins, with the top alone, whose body is still to be carried out.
+fn begun(alloc: Global, top: u32) -> Result<State, OutOfMemory>
+    ensures { IfOk result (λ state. state.grown ≡ building.begun top) }
+{
+    let own = instance(alloc, b"", unbuilt(alloc, top))?;
+    let mut grown = no_instances(alloc);
+    add_instance(own, &mut grown)?;
+    Ok(State {
+        grown,
+        scope: no_scope(alloc),
+    })
+}
+
+fn grown_of(state: State) -> Grown
+    ensures { result ≡ state.grown }
+{
+    state.grown
+}
+
 impl<'a> Builder<'a> {
     /// The weight behind a method of the top.
     #[tactic(auto, unfolding(crate::specs::Building::method_at, crate::specs::Elements::most_elements))]
@@ -111,12 +118,13 @@ impl<'a> Builder<'a> {
             let most = u64::from(MOST_ELEMENTS);
             return Err(Fail::Fault(Refused::Limit(LimitKind::Elements, most)));
         }
+        let levels = levels_at(&done.built.methods, number);
         let site = Site {
             alloc: self.alloc,
             typed: self.typed,
             instances: done.grown.instances.as_slice(),
             module: self.module,
-            bindings: seen(&done.built.bindings, levels_at(&done.built.methods, number)),
+            bindings: seen(done.built.bindings.as_slice(), levels as usize),
         };
         let (_value, work) = site.top_method(method, weight).map_err(from_carry)?;
         Ok(work.count.weight)
@@ -148,26 +156,25 @@ impl<'a> Builder<'a> {
         }
     }
 
+    /// The top as an instance inside nothing.
+    fn outermost(self) -> Building<Done>
+        ensures { Gives result (spec.outermost self.entry) }
+    {
+        let mut state = begun(self.alloc, self.module)?;
+        let none = Items::new(self.alloc);
+        let (built, marks) = self.inner_body(self.module, b"", none, &mut state)?;
+        Ok(Done {
+            built,
+            grown: grown_of(state),
+            marks,
+        })
+    }
+
     /// The top as an instance inside nothing, and the weight behind its methods.
     fn top(self) -> Building<(Done, u64)>
         ensures { Gives result (spec.top self.entry) }
     {
-        let own = instance(self.alloc, b"", unbuilt(self.alloc, self.module))?;
-        let mut state = State {
-            grown: no_instances(self.alloc),
-            scope: no_scope(self.alloc),
-        };
-        add_instance(own, &mut state.grown)?;
-        let (built, marks) = self.inner_body(self.module, b"", Items::new(self.alloc), &mut state)?;
-        let State {
-            grown,
-            scope: _outside,
-        } = state;
-        let done = Done {
-            built,
-            grown,
-            marks,
-        };
+        let done = self.outermost()?;
         let weight = self.top_methods(&done, self.own_methods())?;
         Ok((done, weight))
     }

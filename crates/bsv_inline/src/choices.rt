@@ -1,11 +1,11 @@
-ghost use Rattle.std.specs.Prelude.{◌≡◌};
+ghost use Rattle.std.specs.Prelude.{◌≡◌, IfOk};
 ghost use Rattle.bsv_inline.specs.Leaving.{Leaves};
 ghost use Rattle.bsv_inline.specs.Flat as spec;
 
-use crate::state::{Asked, Laid, State, add, put};
+use crate::state::{Asked, Laid, State, both, put};
 use bsv_design::Node;
 use sqlite_items::Items;
-use std::alloc::Global;
+use std::alloc::{AllocError, Global};
 
 /// The node that is 0, behind the first one, which is 1.
 pub(crate) const NO: u32 = 1;
@@ -60,26 +60,25 @@ fn picks(
     Ok(found)
 }
 
+/// What an arm asks, its condition first, and then the others.
+fn join_asked(head: Head, others: Given) -> Result<Asked, AllocError>
+    ensures { IfOk result (λ asked. asked
+        ≡ spec.both head.asked (spec.both head.body.asked others.asked)) }
+{
+    let Head { asked, body, .. } = head;
+    let Given { asked: own, .. } = body;
+    let Given { asked: more, .. } = others;
+    both(asked, both(own, more)?)
+}
+
 /// An arm before the others.
 fn join_one(alloc: Global, head: Head, others: Given, state: &mut State) -> Laid<Given>
     ensures { Leaves result state.new (spec.join_one head (others, state.old)) }
 {
-    let Head {
-        test,
-        asked: mut all,
-        body,
-    } = head;
-    let given = picks(
-        alloc,
-        test,
-        body.given.as_slice(),
-        others.given.as_slice(),
-        state,
-    )?;
-    let mut asked = body.asked;
-    add(&mut asked, others.asked)?;
-    add(&mut all, asked)?;
-    Ok(Given { given, asked: all })
+    let first = head.body.given.as_slice();
+    let given = picks(alloc, head.test, first, others.given.as_slice(), state)?;
+    let asked = join_asked(head, others)?;
+    Ok(Given { given, asked })
 }
 
 /// All arms, of which the last one is given.

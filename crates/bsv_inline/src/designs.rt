@@ -1,4 +1,5 @@
 ghost use Rattle.std.specs.Prelude.{◌≡◌, ◌+◌, ◌<◌, true, Some, length, IfOk};
+ghost use Rattle.bsv_types.specs.Names.{countable};
 ghost use Rattle.bsv_design.specs.Schemes.{design_scheme, tree_scheme, AreAlike};
 ghost use Rattle.bsv_design.specs.Seen.{blueprint, hierarchy};
 ghost use Rattle.bsv_design.specs.Sources as sources;
@@ -76,21 +77,24 @@ impl<'a> Layout<'a> {
             flattening.IsFlat (at_hand.tree self.entry.sources) position e) }
     {
         let source = self.sources.source(position)?;
-        let Source {
-            name,
-            role,
-            ports,
-            steps,
-            gives,
-        } = source;
-        let count = numbered(ports.len())?;
-        let body = flat_body(self.sources.alloc, count, steps.as_slice(), gives)?;
+        let count = numbered(source.ports.len())?;
+        let body = flat_body(
+            self.sources.alloc,
+            count,
+            source.steps.as_slice(),
+            source.gives,
+        )?;
         let placer = self.placer();
         if !placer.all_fit(self.parts, body.calls.as_slice()) {
             return Err(OutOfMemory);
         }
-        let element = placer.element(name, role, ports, body)?;
-        Ok(element)
+        let Source {
+            name,
+            role,
+            ports,
+            ..
+        } = source;
+        placer.element(name, role, ports, body)
     }
 
     /// Whether the nodes have the words that they need, and there are not too many of them.
@@ -155,30 +159,61 @@ fn top_name(alloc: Global, tree: &Tree) -> Laid<Name>
     }
 }
 
+/// The elements of a tree as flat bodies, in the order of their positions, over these primitives.
+#[tactic(auto, unfolding(bsv_design::specs::Sources::element_count))]
+fn all_elements(alloc: Global, tree: &Tree, parts: &[NamedPart]) -> Laid<Items<Element>>
+    requires { parts.now ≡ sources.parts_among tree.now.instances }
+    ensures laid { IfOk result (λ es. flattening.AreLaidOut (hierarchy tree.now) 0 es) }
+    ensures count { IfOk result (λ es.
+        length es ≡ sources.element_count (hierarchy tree.now)) }
+{
+    let sources = Sources { alloc, tree };
+    let instances = tree.instances.as_slice();
+    let numbers = part_numbers(alloc, instances)?;
+    let count = numbered(count_rules(instances, sources.top_methods().len())?)?;
+    let layout = Layout {
+        sources,
+        numbers: numbers.as_slice(),
+        parts,
+    };
+    layout.elements(count)
+}
+
+/// The design of these elements and primitives of a tree, with its name and what its attributes ask.
+#[tactic(auto, using(crate::proofs::Designed::designed, crate::proofs::Designed::is_alike))]
+fn design_of(
+    alloc: Global,
+    tree: &Tree,
+    elements: Items<Element>,
+    parts: Items<NamedPart>,
+) -> Result<Design, OutOfMemory>
+    requires laid { flattening.AreLaidOut (hierarchy tree.now) 0 elements }
+    requires count { length elements ≡ sources.element_count (hierarchy tree.now) }
+    requires elements { countable elements ≡ true }
+    requires parts { parts ≡ sources.parts_among tree.now.instances }
+    requires few { countable parts ≡ true }
+    ensures alike { IfOk result (λ d.
+        AreAlike (tree_scheme (hierarchy tree.now)) (design_scheme (blueprint d))) }
+    ensures name { IfOk result (λ d. flattening.top_name (hierarchy tree.now) ≡ Some d.name) }
+    ensures parts { IfOk result (λ d. d.parts ≡ sources.parts_among tree.now.instances) }
+{
+    let name = top_name(alloc, tree)?;
+    let pairs = Items::from_slice(alloc, tree.pairs.as_slice())?;
+    let asserts = Items::from_slice(alloc, tree.asserts.as_slice())?;
+    Ok(Design::new(name, elements, parts, pairs, asserts))
+}
+
 /// The design of a tree: its elements as flat bodies, in the order of their positions, over its primitives.
-#[tactic(auto, using(crate::proofs::Designed::designed, crate::proofs::Designed::is_alike), unfolding(bsv_design::specs::Sources::element_count))]
 pub fn flatten(alloc: Global, tree: &Tree) -> Result<Design, OutOfMemory>
     ensures alike { IfOk result (λ d.
         AreAlike (tree_scheme (hierarchy tree.now)) (design_scheme (blueprint d))) }
     ensures name { IfOk result (λ d. flattening.top_name (hierarchy tree.now) ≡ Some d.name) }
     ensures parts { IfOk result (λ d. d.parts ≡ sources.parts_among tree.now.instances) }
 {
-    let sources = Sources { alloc, tree };
-    let instances = tree.instances.as_slice();
-    let numbers = part_numbers(alloc, instances)?;
-    let parts = parts(alloc, instances)?;
-    let count = numbered(count_rules(instances, sources.top_methods().len())?)?;
-    let layout = Layout {
-        sources,
-        numbers: numbers.as_slice(),
-        parts: parts.as_slice(),
-    };
-    let elements = layout.elements(count)?;
+    let parts = parts(alloc, tree.instances.as_slice())?;
+    let elements = all_elements(alloc, tree, parts.as_slice())?;
     if !is_countable(&elements) || !is_countable(&parts) {
         return Err(OutOfMemory);
     }
-    let name = top_name(alloc, tree)?;
-    let pairs = Items::from_slice(alloc, tree.pairs.as_slice())?;
-    let asserts = Items::from_slice(alloc, tree.asserts.as_slice())?;
-    Ok(Design::new(name, elements, parts, pairs, asserts))
+    design_of(alloc, tree, elements, parts)
 }

@@ -1,4 +1,5 @@
 ghost use Rattle.std.specs.Prelude.{◌≡◌, OnOk, slice_get};
+ghost use Rattle.bsv_inline.specs.AtHand as at_hand;
 ghost use Rattle.bsv_inline.specs.Leaving.{Leaves};
 ghost use Rattle.bsv_inline.specs.Flat as spec;
 
@@ -44,6 +45,15 @@ pub(crate) fn operands(alloc: Global, atoms: &[Atom], state: &mut State) -> Laid
     Ok(found)
 }
 
+/// The nodes of two words that a step names.
+fn two_operands(a: Atom, b: Atom, state: &mut State) -> Laid<(u32, u32)>
+    ensures { Leaves result state.new (at_hand.two_operands a b state.old) }
+{
+    let a = operand(a, state)?;
+    let b = operand(b, state)?;
+    Ok((a, b))
+}
+
 /// What a step computes stands.
 #[tactic(auto, unfolding(crate::specs::Flat::compute))]
 pub(crate) fn compute(what: Compute, state: &mut State) -> Laid<()>
@@ -55,14 +65,12 @@ pub(crate) fn compute(what: Compute, state: &mut State) -> Laid<()>
             stand(Node::Not(a), state)
         }
         Compute::Two(operator, a, b) => {
-            let a = operand(a, state)?;
-            let b = operand(b, state)?;
+            let (a, b) = two_operands(a, b, state)?;
             stand(Node::Two(operator, a, b), state)
         }
         Compute::Pick(test, a, b) => {
             let test = operand(test, state)?;
-            let a = operand(a, state)?;
-            let b = operand(b, state)?;
+            let (a, b) = two_operands(a, b, state)?;
             stand(Node::Pick(test, a, b), state)
         }
         Compute::Slice(a, high, low) => {
@@ -70,8 +78,7 @@ pub(crate) fn compute(what: Compute, state: &mut State) -> Laid<()>
             stand(Node::Slice(a, high, low), state)
         }
         Compute::Join(a, b) => {
-            let a = operand(a, state)?;
-            let b = operand(b, state)?;
+            let (a, b) = two_operands(a, b, state)?;
             stand(Node::Join(a, b), state)
         }
         Compute::Extend(a, width) => {

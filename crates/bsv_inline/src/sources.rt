@@ -1,4 +1,4 @@
-ghost use Rattle.std.specs.Prelude.{◌≡◌, Some, None, slice_get, map, take, IfOk};
+ghost use Rattle.std.specs.Prelude.{◌≡◌, Some, None, slice_get, map, IfOk};
 ghost use Rattle.std.specs.Option.{option_copied};
 ghost use Rattle.bsv_types.specs.Kinds.{kind};
 ghost use Rattle.bsv_design.specs.Applied as applied;
@@ -11,7 +11,7 @@ use crate::rules::{Placed, rule_at};
 use bsv_bits::{Name, OutOfMemory};
 use bsv_carry::Site;
 use bsv_design::{Atom, Binding, Built, Count, Made, Port, Role, Source, Tree, Value, path_of};
-use bsv_steps::{Valued, atom_of, no_steps};
+use bsv_steps::{Valued, atom_of, no_steps, seen};
 use bsv_types::{Method, MethodResult, Module, Param, Rule, Ty, counted_width};
 use sqlite_items::Items;
 use std::alloc::Global;
@@ -21,17 +21,6 @@ use std::alloc::Global;
 pub(crate) struct Sources<'a> {
     pub alloc: Global,
     pub tree: &'a Tree,
-}
-
-/// The first so many.
-fn first(bindings: &[Binding], count: usize) -> &[Binding]
-    ensures { result.now ≡ take count bindings.now }
-{
-    if count < bindings.len() {
-        &bindings[..count]
-    } else {
-        bindings
-    }
 }
 
 /// What a method of the top is.
@@ -144,7 +133,7 @@ impl<'a> Sources<'a> {
         let Some(method) = self.top_methods().get(number as usize) else {
             return Err(OutOfMemory);
         };
-        let bindings = first(built.bindings.as_slice(), *levels as usize);
+        let bindings = seen(built.bindings.as_slice(), *levels as usize);
         let done = self.site(built.module, bindings).top_method(method, 0);
         self.method_done(method, done)
     }

@@ -24,6 +24,29 @@ fn close(alloc: Global, count: usize, found: Given, state: &mut State) -> Laid<A
     Ok(found.asked)
 }
 
+/// The nodes of a test: itself, whether its arm is taken, and whether what comes behind it is.
+fn test_nodes(test: Atom, left: u32, state: &mut State) -> Laid<(u32, u32, u32)>
+    ensures { Leaves result state.new (spec.test_nodes test left state.old) }
+{
+    let test = operand(test, state)?;
+    let taken = put(Node::Pick(test, left, NO), state)?;
+    let left = put(Node::Pick(test, NO, left), state)?;
+    Ok((test, taken, left))
+}
+
+/// An arm behind its condition, and whether what comes behind it is taken.
+fn head_of(tested: Tested, body: Given) -> (Head, u32)
+    ensures { result ≡ (flat.head_of tested body, tested.left) }
+{
+    let Tested {
+        test,
+        left,
+        asked,
+        ..
+    } = tested;
+    (Head { test, asked, body }, left)
+}
+
 impl<'a> Flattener<'a> {
     /// Steps, one after the other.
     #[cycle(flat)]
@@ -39,6 +62,23 @@ impl<'a> Flattener<'a> {
             rest = after;
         }
         Ok(asked)
+    }
+
+    /// A call behind the steps of its arguments, before what these ask.
+    fn call_behind(
+        self,
+        method: MethodPlace,
+        action: bool,
+        atoms: &[Atom],
+        asked: Asked,
+        state: &mut State,
+    ) -> Laid<Asked>
+        ensures { Leaves result state.new
+            (spec.call_behind self.entry method action atoms.now asked state.old) }
+    {
+        let arguments = operands(self.alloc, atoms, state)?;
+        let call = self.call(method, action, arguments)?;
+        Ok(with_call(self.alloc, call, asked)?)
     }
 
     /// A call of a method of a primitive, behind the steps of its arguments, and its place.
@@ -57,9 +97,7 @@ impl<'a> Flattener<'a> {
     {
         let place = one_call(state)?;
         let asked = self.steps(inner, state)?;
-        let arguments = operands(self.alloc, atoms, state)?;
-        let call = self.call(method, action, arguments)?;
-        let all = with_call(self.alloc, call, asked)?;
+        let all = self.call_behind(method, action, atoms, asked, state)?;
         Ok((place, all))
     }
 
@@ -142,9 +180,7 @@ impl<'a> Flattener<'a> {
         ensures { Leaves result state.new (spec.tested self.entry arm.now left state.old) }
     {
         let asked = self.steps(arm.condition.as_slice(), state)?;
-        let test = operand(arm.test, state)?;
-        let taken = put(Node::Pick(test, left, NO), state)?;
-        let left = put(Node::Pick(test, NO, left), state)?;
+        let (test, taken, left) = test_nodes(arm.test, left, state)?;
         Ok(Tested {
             test,
             taken,
@@ -153,9 +189,33 @@ impl<'a> Flattener<'a> {
         })
     }
 
-    /// An arm of a choice, and whether what comes behind it is taken.
+    /// The steps of an arm of a choice, which are taken where this node is 1, and the nodes of the
+    /// values that it gives.
     #[cycle(flat)]
     #[tactic(auto, using(crate::proofs::Sizes::falls, crate::proofs::Nodes::alternatives))]
+    fn body_in(
+        self,
+        choice: u32,
+        place: u32,
+        taken: u32,
+        arm: &Arm,
+        state: &mut State,
+    ) -> Laid<Given>
+        ensures { Leaves result state.new
+            (spec.body_in self.entry choice place taken arm.now state.old) }
+    {
+        let branches = self.branches_in(choice, place)?;
+        let here = Flattener {
+            alloc: self.alloc,
+            taken,
+            branches: branches.as_slice(),
+        };
+        here.giving(arm.body.as_slice(), arm.gives.as_slice(), state)
+    }
+
+    /// An arm of a choice, and whether what comes behind it is taken.
+    #[cycle(flat)]
+    #[tactic(auto, using(crate::proofs::Sizes::falls))]
     fn head(
         self,
         choice: u32,
@@ -168,22 +228,8 @@ impl<'a> Flattener<'a> {
             (spec.head self.entry choice place left arm.now state.old) }
     {
         let tested = self.tested(arm, left, state)?;
-        let branches = self.branches_in(choice, place)?;
-        let here = Flattener {
-            alloc: self.alloc,
-            taken: tested.taken,
-            branches: branches.as_slice(),
-        };
-        let body = here.giving(arm.body.as_slice(), arm.gives.as_slice(), state)?;
-        let left = tested.left;
-        Ok((
-            Head {
-                test: tested.test,
-                asked: tested.asked,
-                body,
-            },
-            left,
-        ))
+        let body = self.body_in(choice, place, tested.taken, arm, state)?;
+        Ok(head_of(tested, body))
     }
 
     /// The arms of a choice but the last one, and whether that is taken.
@@ -220,6 +266,25 @@ impl<'a> Flattener<'a> {
         here.giving(choice.last.as_slice(), choice.gives.as_slice(), state)
     }
 
+    /// The last arm of a choice, which has so many arms before it.
+    #[cycle(flat)]
+    #[tactic(auto, using(crate::proofs::Sizes::falls))]
+    fn last_behind(
+        self,
+        number: u32,
+        before: usize,
+        left: u32,
+        choice: &Choice,
+        state: &mut State,
+    ) -> Laid<Given>
+        ensures { Leaves result state.new
+            (spec.last_behind self.entry number before left choice.now state.old) }
+    {
+        let place = numbered(before)?;
+        let branches = self.branches_in(number, place)?;
+        self.last(branches.as_slice(), left, choice, state)
+    }
+
     /// One choice, whose conditions stand in none of its arms.
     #[cycle(flat)]
     #[tactic(auto, using(crate::proofs::Sizes::falls), unfolding(crate::specs::Flat::arms))]
@@ -228,47 +293,45 @@ impl<'a> Flattener<'a> {
     {
         let number = one_choice(state)?;
         let (heads, left) = self.heads(number, choice.arms.as_slice(), state)?;
-        let place = numbered(heads.len())?;
-        let branches = self.branches_in(number, place)?;
-        let last = self.last(branches.as_slice(), left, choice, state)?;
+        let last = self.last_behind(number, heads.len(), left, choice, state)?;
         join_all(self.alloc, heads, last, state)
+    }
+
+    /// The steps of the first arm of a choice of its own, and where what comes behind stands.
+    #[cycle(flat)]
+    #[tactic(auto, using(crate::proofs::Sizes::falls))]
+    fn nested_body(self, taken: u32, arm: &Arm, state: &mut State) -> Laid<(Given, Items<Branch>)>
+        ensures { Leaves result state.new
+            (spec.nested_body self.entry taken arm.now state.old) }
+    {
+        let number = one_choice(state)?;
+        let behind = self.branches_in(number, 1)?;
+        let body = self.body_in(number, 0, taken, arm, state)?;
+        Ok((body, behind))
     }
 
     /// An arm of a choice of its own, which holds what comes behind.
     #[cycle(flat)]
-    #[tactic(auto, using(crate::proofs::Sizes::falls, crate::proofs::Nodes::alternatives), unfolding(crate::specs::Flat::nest))]
+    #[tactic(auto, using(crate::proofs::Sizes::falls), unfolding(crate::specs::Flat::nest))]
     fn nest(self, arm: &Arm, state: &mut State) -> Laid<(Head, u32, Items<Branch>)>
         ensures { Leaves result state.new (spec.nest self.entry arm.now state.old) }
     {
         let tested = self.tested(arm, self.taken, state)?;
-        let number = one_choice(state)?;
-        let branches = self.branches_in(number, 0)?;
-        let here = Flattener {
-            alloc: self.alloc,
-            taken: tested.taken,
-            branches: branches.as_slice(),
-        };
-        let body = here.giving(arm.body.as_slice(), arm.gives.as_slice(), state)?;
-        let behind = self.branches_in(number, 1)?;
-        let left = tested.left;
-        let head = Head {
-            test: tested.test,
-            asked: tested.asked,
-            body,
-        };
+        let (body, behind) = self.nested_body(tested.taken, arm, state)?;
+        let (head, left) = head_of(tested, body);
         Ok((head, left, behind))
     }
 
-    /// Choices in one another.
+    /// The arms of choices in one another but the last one, whether that is taken, and where it stands.
     #[cycle(flat)]
-    #[tactic(auto, using(crate::proofs::Sizes::falls), unfolding(crate::specs::Flat::nested, crate::specs::Flat::nest_from))]
-    fn nested(self, choice: &Choice, state: &mut State) -> Laid<Given>
-        ensures { Leaves result state.new (spec.nested self.entry choice.now state.old) }
+    #[tactic(auto, using(crate::proofs::Sizes::falls), unfolding(crate::specs::Flat::nest_from))]
+    fn nests(self, arms: &[Arm], state: &mut State) -> Laid<(Items<Head>, u32, Items<Branch>)>
+        ensures { Leaves result state.new (spec.nests self.entry arms.now state.old) }
     {
         let mut heads = Items::new(self.alloc);
         let mut branches = Items::from_slice(self.alloc, self.branches)?;
         let mut taken = self.taken;
-        let mut rest = choice.arms.as_slice();
+        let mut rest = arms;
         while let Some((arm, after)) = rest.split_first() {
             let here = Flattener {
                 alloc: self.alloc,
@@ -281,6 +344,16 @@ impl<'a> Flattener<'a> {
             taken = left;
             rest = after;
         }
+        Ok((heads, taken, branches))
+    }
+
+    /// Choices in one another.
+    #[cycle(flat)]
+    #[tactic(auto, using(crate::proofs::Sizes::falls), unfolding(crate::specs::Flat::nested))]
+    fn nested(self, choice: &Choice, state: &mut State) -> Laid<Given>
+        ensures { Leaves result state.new (spec.nested self.entry choice.now state.old) }
+    {
+        let (heads, taken, branches) = self.nests(choice.arms.as_slice(), state)?;
         let last = self.last(branches.as_slice(), taken, choice, state)?;
         join_all(self.alloc, heads, last, state)
     }

@@ -31,6 +31,12 @@ decreases-giving l = 16 * steps_size l.steps.now + 2
 abbrev pub decreases-tested : goal.decreases-tested
 decreases-tested l = 16 * arm_size l.arm.now + 1
 
+abbrev pub decreases-body_in : goal.decreases-body_in
+decreases-body_in l = 16 * arm_size l.arm.now
+
+abbrev pub decreases-nested_body : goal.decreases-nested_body
+decreases-nested_body l = 16 * arm_size l.arm.now + 1
+
 abbrev pub decreases-head : goal.decreases-head
 decreases-head l = 16 * arm_size l.arm.now + 2
 
@@ -43,14 +49,20 @@ decreases-heads l = 16 * arms_size l.arms.now + 3
 abbrev pub decreases-last : goal.decreases-last
 decreases-last l = 16 * steps_size (out-Choice l.choice.now).last + 3
 
+abbrev pub decreases-last_behind : goal.decreases-last_behind
+decreases-last_behind l = 16 * steps_size (out-Choice l.choice.now).last + 4
+
+abbrev pub decreases-nests : goal.decreases-nests
+decreases-nests l = 16 * arms_size l.arms.now + 3
+
 abbrev pub decreases-arms : goal.decreases-arms
-decreases-arms l = 16 * choice_size l.choice.now + 4
+decreases-arms l = 16 * choice_size l.choice.now + 5
 
 abbrev pub decreases-nested : goal.decreases-nested
 decreases-nested l = 16 * choice_size l.choice.now + 4
 
 abbrev pub decreases-choose : goal.decreases-choose
-decreases-choose l = 16 * choice_size l.choice.now + 5
+decreases-choose l = 16 * choice_size l.choice.now + 6
 
 -- ---- loops
 
@@ -72,11 +84,11 @@ invariant-heads-loop-arm l = record {
   within : arms_size l.rest ≤ arms_size l.arms;
 }
 
-abbrev pub decreases-nested-loop-arm : goal.decreases-nested-loop-arm
-decreases-nested-loop-arm l = length l.rest
+abbrev pub decreases-nests-loop-arm : goal.decreases-nests-loop-arm
+decreases-nests-loop-arm l = length l.rest
 
-abbrev pub invariant-nested-loop-arm : goal.invariant-nested-loop-arm
-invariant-nested-loop-arm l = record {
-  same : flat.nest_from [] (map flat.alternative (out-Choice l.choice).arms) (spec.spot l.self) l.fn.state ≡ flat.nest_from l.heads (map flat.alternative l.rest) (record { taken = l.taken; branches = l.branches }) l.state;
-  within : arms_size l.rest ≤ arms_size (out-Choice l.choice).arms;
+abbrev pub invariant-nests-loop-arm : goal.invariant-nests-loop-arm
+invariant-nests-loop-arm l = record {
+  same : flat.nest_from [] (map flat.alternative l.arms) (spec.spot l.self) l.fn.state ≡ flat.nest_from l.heads (map flat.alternative l.rest) (record { taken = l.taken; branches = l.branches }) l.state;
+  within : arms_size l.rest ≤ arms_size l.arms;
 }
