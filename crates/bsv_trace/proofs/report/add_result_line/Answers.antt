@@ -1,7 +1,12 @@
+use Rattle.std.proofs.Common.{codes}
 use Rattle.bsv_bits.specs.Constants.{constant_text}
 use Rattle.bsv_trace.specs.Texts as texts
 use Rattle.bsv_io.proofs.Adding.{adds_more, fails_more, adds_then}
 use Rattle.bsv_trace.proofs.report.add_result_line.Goals as goal
+
+pub returns-in_err-add_name : goal.returns-in_err-add_name
+returns-in_err-add_name g c =
+    adds_more (texts.line_feed) c.from_residual.result c.from_residual.ensures.0 (fails_more (constant_text c.args.gave.1) (fails_more (codes " -> ") c.in_err-add_name.ensures))
 
 pub returns-in_err-add : goal.returns-in_err-add
 returns-in_err-add g c =
