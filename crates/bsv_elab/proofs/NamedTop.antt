@@ -12,9 +12,8 @@ use Rattle.bsv_design.specs.declared.values.Fault.TheVariants as fault
 use Rattle.bsv_design.specs.Trees.{Hierarchy, shapes, world, rule_count}
 use Rattle.bsv_elab.specs.declared.refused.Refused.TheVariants as refused
 use Rattle.bsv_elab.specs.declared.state.Done.{Done}
-use Rattle.bsv_elab.specs.declared.state.Grown.{Grown}
 use Rattle.bsv_elab.specs.Statics.{Here, put_at}
-use Rattle.bsv_elab.specs.Making.{instance, unbuilt, with_instance, inner}
+use Rattle.bsv_elab.specs.Making.{instance, unbuilt, inner}
 use Rattle.bsv_elab.specs.Elements.{most_elements, here_module, methods_of}
 use Rattle.bsv_elab.specs.Building.{body_at, most_modules, top_from, first_rule, first_rule_in, outside, begun, methods_from, tree, from_top, carried_out, building}
 use Rattle.bsv_elab.proofs.NamedLists.{ok_is, through, passed}

@@ -1,5 +1,5 @@
 -- What carrying out gives at each statement of a module, and at a module inside another one.
-use Rattle.std.proofs.Common.{◌≡◌, ℕ, zero, suc, ◌-◌, ◌<◌, List, map, Option, Some, None, option_map, Ok, ap, sym, ◌∙◌, arith}
+use Rattle.std.proofs.Common.{◌≡◌, ℕ, zero, suc, ◌-◌, ◌<◌, List, map, Option, Some, None, option_map, ap, sym, ◌∙◌, arith}
 use Rattle.bsv_fail.specs.Given.{◌>>=◌}
 use Rattle.bsv_types.specs.declared.modules.ModuleBranch.{ModuleBranch, fold_out-ModuleBranch}
 use Rattle.bsv_types.specs.declared.modules.ModuleStmt.{ModuleStmt, roll-ModuleStmt, map-ModuleStmt, fold-roll-ModuleStmt}

@@ -1,5 +1,5 @@
 -- How the first refusal is told: a module by its name.
-use Rattle.std.specs.Prelude.{ℕ, List, [], Option, Some, None, slice_get, ◌≡◌, Result, Ok, Err}
+use Rattle.std.specs.Prelude.{ℕ, List, [], Option, Some, None, slice_get, ◌≡◌, Result, Err}
 use Rattle.bsv_fail.specs.declared.fail.Fail.{Fail}
 use Rattle.bsv_fail.specs.declared.fail.Fail.TheVariants as fail
 use Rattle.bsv_fail.specs.Given.{over}
