@@ -12,6 +12,6 @@ returns-in_err-built c =
     let grown = c.in_ok-state.state.grown in
     let p = err_from_is_err_and r c.from_residual-in_err-built.ensures.1 in
     let failed : Fails fail (spec.inner_body own own.«module» [] [] grown) =
-        subst (λ bs. Fails fail (spec.inner_body own own.«module» [] bs grown)) c.new-none.ensures c.in_err-built.ensures in
+    subst (λ bs. Fails fail (spec.inner_body own own.«module» [] bs grown)) c.new-none.ensures c.in_err-built.ensures in
     subst (λ g. Gives r (spec.inner_body own own.«module» [] [] g)) c.in_ok-state.ensures
     (subst (λ x. Gives x (spec.inner_body own own.«module» [] [] grown)) (sym (p.1 ∙ ap Err p.2)) failed)
