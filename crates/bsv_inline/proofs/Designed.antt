@@ -20,8 +20,8 @@ use Rattle.bsv_design.specs.Seen.{blueprint, hierarchy}
 use Rattle.bsv_design.specs.Sources.{source_at, element_at, element_count, parts_among}
 use Rattle.bsv_design.specs.Traces.{body_trace}
 use Rattle.bsv_design.specs.Trees.{Hierarchy, IsTree}
-use Rattle.bsv_inline.specs.declared.body.Body.{Body}
-use Rattle.bsv_inline.specs.Bodies.{IsBody}
+use Rattle.bsv_body.specs.declared.body.Body.{Body}
+use Rattle.bsv_body.specs.Bodies.{IsBody}
 use Rattle.bsv_inline.specs.Flattening.{kinds, IsFlat, AreFlat, IsLaidOut, AreLaidOut, KeepsWidths, top_name}
 use Rattle.bsv_inline.specs.Placed.{element, call_fits}
 use Rattle.bsv_inline.proofs.Alike.{alike}

@@ -1,11 +1,3 @@
-pub mod Joins
-pub mod Sizes
-pub mod Nodes
-pub mod Openings
-pub mod Words
-pub mod StepsSame
-pub mod ArmsSame
-pub mod Whole
 pub mod PartNumbers
 pub mod SameTrace
 pub mod EachStep

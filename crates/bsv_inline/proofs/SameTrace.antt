@@ -23,13 +23,13 @@ use Rattle.bsv_design.specs.Bodies.{Answers, Target, at}
 use Rattle.bsv_design.specs.Kinds.{kind_table}
 use Rattle.bsv_design.specs.Running.{Results, SiteCall, Need, or_zero, is_one, word_of, happening}
 use Rattle.bsv_design.specs.Traces.{Site, Demand, Trace, acts, kind_at, site_at, demand_at, body_trace, target_of, place_name, site_of, demand_of, step_trace}
-use Rattle.bsv_inline.specs.declared.body.Body.{Body}
-use Rattle.bsv_inline.specs.declared.calls.Call.{Call}
-use Rattle.bsv_inline.specs.declared.calls.Condition.{Condition}
-use Rattle.bsv_inline.specs.Bodies.{IsSite, AreSites, IsNeed, AreNeeds, IsResult, IsBody, words}
-use Rattle.bsv_inline.specs.Nodes as nodes
+use Rattle.bsv_body.specs.declared.body.Body.{Body}
+use Rattle.bsv_body.specs.declared.calls.Call.{Call}
+use Rattle.bsv_body.specs.declared.calls.Condition.{Condition}
+use Rattle.bsv_body.specs.Bodies.{IsSite, AreSites, IsNeed, AreNeeds, IsResult, IsBody, words}
+use Rattle.bsv_body.specs.Nodes as nodes
 use Rattle.bsv_inline.specs.Placed.{placed_call, named_condition, element, kind_fits, call_fits, acts_rightly}
-use Rattle.bsv_inline.proofs.Words.{shows_words}
+use Rattle.bsv_body.proofs.Words.{shows_words}
 
 -- what parts give, as what methods of instances give
 abbrev pub results_of : List Instance → Answers → Results

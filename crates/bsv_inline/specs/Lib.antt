@@ -1,9 +1,3 @@
-pub mod Leaving
-pub mod Nodes
-pub mod Flat
-pub mod AtHand
-pub mod Opening
-pub mod Bodies
 pub mod Placed
 pub mod Flattening
 pub mod SourcesAtHand

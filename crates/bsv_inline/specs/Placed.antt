@@ -2,6 +2,7 @@
 -- they stand for (Bluespec reference guide, "Module and interface instantiation").
 use Rattle.std.specs.Prelude.{◌≡◌, ℕ, ◌+◌, ◌≤◌, nat_lt, Bool, false, ◌&&◌, List, map, length, slice_get, Option, Some, None, option_map}
 use Rattle.std.specs.Bool.{beq}
+use Rattle.bsv_types.specs.declared.modules.Method.{Method}
 use Rattle.bsv_types.specs.declared.modules.Module.{Module}
 use Rattle.bsv_design.specs.declared.element.Call.{Call as PartCall}
 use Rattle.bsv_design.specs.declared.element.Condition.{Condition as NamedCondition}
@@ -12,9 +13,9 @@ use Rattle.bsv_design.specs.declared.kind.Kind.{Kind}
 use Rattle.bsv_design.specs.declared.tree.Instance.{Instance}
 use Rattle.bsv_design.specs.Kinds.{kind_table}
 use Rattle.bsv_design.specs.Traces.{acts, kind_at, parts_before, target_of, place_name}
-use Rattle.bsv_inline.specs.declared.body.Body.{Body}
-use Rattle.bsv_inline.specs.declared.calls.Call.{Call}
-use Rattle.bsv_inline.specs.declared.calls.Condition.{Condition}
+use Rattle.bsv_body.specs.declared.body.Body.{Body}
+use Rattle.bsv_body.specs.declared.calls.Call.{Call}
+use Rattle.bsv_body.specs.declared.calls.Condition.{Condition}
 
 -- of each instance, how many primitives stand before it, and at the end how many there are
 pub record ArePartNumbers (is : List Instance) (numbers : List ℕ) : Type 0 where
@@ -56,3 +57,8 @@ call_fits ks is c = kind_fits (kind_at ks (target_of is c.method)) c
 -- the call acts where its method does
 abbrev pub acts_rightly : List Kind → List Instance → Call → Bool
 acts_rightly ks is c = beq (acts (kind_at ks (target_of is c.method)) c.method.method) c.action
+
+-- the method of a module of this number
+abbrev pub method_of : Option Module → ℕ → Option Method
+method_of None method = None
+method_of (Some m) method = slice_get m.methods method

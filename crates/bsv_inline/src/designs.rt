@@ -8,13 +8,12 @@ ghost use Rattle.bsv_inline.specs.Flattening as flattening;
 ghost use Rattle.bsv_inline.specs.Placed.{ArePartNumbers};
 ghost use Rattle.bsv_inline.specs.SourcesAtHand as at_hand;
 
-use crate::body::flat_body;
 use crate::parts::part_numbers;
 use crate::placer::Placer;
 use crate::primitives::parts;
 use crate::sources::Sources;
-use crate::state::{Laid, numbered};
 use bsv_bits::{Name, OutOfMemory};
+use bsv_body::{Laid, flat_body, numbered};
 use bsv_design::{Design, Element, Instance, Made, NamedPart, Source, Tree};
 use bsv_widths::{has_widths, is_countable, value_acts_not};
 use sqlite_items::Items;

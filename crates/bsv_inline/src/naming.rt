@@ -1,9 +1,9 @@
 ghost use Rattle.std.specs.Prelude.{◌≡◌, IfOk, slice_get};
 ghost use Rattle.bsv_design.specs.Traces.{method_text, place_name};
-ghost use Rattle.bsv_inline.specs.AtHand.{method_of};
+ghost use Rattle.bsv_inline.specs.Placed.{method_of};
 
-use crate::state::Laid;
 use bsv_bits::Name;
+use bsv_body::Laid;
 use bsv_design::{Instance, Made, MethodPlace, path_of};
 use bsv_types::Module;
 use std::alloc::Global;

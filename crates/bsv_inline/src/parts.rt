@@ -2,8 +2,8 @@ ghost use Rattle.std.specs.Prelude.{◌≡◌, ◌+◌, IfOk};
 ghost use Rattle.bsv_design.specs.Traces.{parts_before, is_part, one_if};
 ghost use Rattle.bsv_inline.specs.Placed.{ArePartNumbers};
 
-use crate::state::{Laid, next};
 use bsv_bits::OutOfMemory;
+use bsv_body::{Laid, next};
 use bsv_design::{Instance, Made};
 use sqlite_items::Items;
 use std::alloc::Global;

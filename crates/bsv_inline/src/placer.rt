@@ -3,12 +3,10 @@ ghost use Rattle.std.specs.List.{list_all};
 ghost use Rattle.bsv_inline.specs.Placed as placed;
 ghost use Rattle.bsv_inline.specs.Placed.{ArePartNumbers};
 
-use crate::body::Body;
-use crate::calls::{Call, Condition};
 use crate::naming::name_of;
 use crate::parts::part_of;
-use crate::state::Laid;
 use bsv_bits::{Name, OutOfMemory};
+use bsv_body::{Body, Call, Condition, Laid};
 use bsv_design as design;
 use bsv_design::{Element, Instance, NamedPart, Port, Role};
 use bsv_prim::Primitive;

@@ -1,9 +1,0 @@
-use Rattle.std.proofs.Common.{◌≡◌, length}
-use Rattle.bsv_inline.specs.Flat as spec
-use Rattle.bsv_inline.proofs.choices.join_all.Given as goal
-
-abbrev pub decreases-loop-head : goal.decreases-loop-head
-decreases-loop-head l = length l.heads
-
-abbrev pub invariant-loop-head : goal.invariant-loop-head
-invariant-loop-head l = spec.join_all l.fn.heads (l.fn.joined, l.fn.state) ≡ spec.join_all l.heads (l.joined, l.state)
