@@ -18,7 +18,7 @@ use sqlite_items::Items;
 use std::alloc::{AllocError, Global};
 
 /// A part, and the methods of two of its calls that break the rule of one element.
-#[derive(Clone, Copy, Debug, PartialEq, Eq)]
+#[derive(Clone, Copy)]
 pub struct Breach {
     pub part: u32,
     pub first: u32,

@@ -4,6 +4,7 @@ ghost use Rattle.bsv_design.specs.Schemes.{design_scheme, tree_scheme, AreAlike}
 ghost use Rattle.bsv_design.specs.Seen.{blueprint, hierarchy};
 ghost use Rattle.bsv_design.specs.Sources as sources;
 ghost use Rattle.bsv_design.specs.Trees as trees;
+ghost use Rattle.bsv_body.specs.Bodies.{IsBody};
 ghost use Rattle.bsv_inline.specs.Flattening as flattening;
 ghost use Rattle.bsv_inline.specs.Placed.{ArePartNumbers};
 ghost use Rattle.bsv_inline.specs.SourcesAtHand as at_hand;
@@ -13,7 +14,7 @@ use crate::placer::Placer;
 use crate::primitives::parts;
 use crate::sources::Sources;
 use bsv_bits::{Name, OutOfMemory};
-use bsv_body::{Laid, flat_body, numbered};
+use bsv_body::{Body, Laid, flat_body, numbered};
 use bsv_design::{Design, Element, Instance, Made, NamedPart, Source, Tree};
 use bsv_widths::{has_widths, is_countable, value_acts_not};
 use sqlite_items::Items;
@@ -65,8 +66,40 @@ impl<'a> Layout<'a> {
         }
     }
 
-    /// The element of a position as a flat body.
+    /// The flat body of a source.
+    fn body_of(self, source: &Source) -> Laid<Body>
+        ensures { IfOk result (λ b.
+            IsBody (length source.now.ports) source.now.steps source.now.gives b) }
+    {
+        let count = numbered(source.ports.len())?;
+        flat_body(
+            self.sources.alloc,
+            count,
+            source.steps.as_slice(),
+            source.gives,
+        )
+    }
+
+    /// The element of a position, whose source has this flat body.
     #[tactic(auto, using(crate::proofs::Designed::laid_flat))]
+    fn placed(self, position: u32, source: Source, body: Body) -> Laid<Element>
+        requires numbers { ArePartNumbers (at_hand.tree self.sources).instances self.numbers.now }
+        requires parts { self.parts.now
+            ≡ sources.parts_among (at_hand.tree self.sources).instances }
+        requires within { position < sources.element_count (at_hand.tree self.sources) }
+        requires at { sources.source_at (at_hand.tree self.sources) position ≡ Some source }
+        requires body { IsBody (length source.ports) source.steps source.gives body }
+        ensures { IfOk result (λ e.
+            flattening.IsFlat (at_hand.tree self.entry.sources) position e) }
+    {
+        let placer = self.placer();
+        if !placer.all_fit(self.parts, body.calls.as_slice()) {
+            return Err(OutOfMemory);
+        }
+        placer.element(source.name, source.role, source.ports, body)
+    }
+
+    /// The element of a position as a flat body.
     fn laid(self, position: u32) -> Laid<Element>
         requires numbers { ArePartNumbers (at_hand.tree self.sources).instances self.numbers.now }
         requires parts { self.parts.now
@@ -76,24 +109,8 @@ impl<'a> Layout<'a> {
             flattening.IsFlat (at_hand.tree self.entry.sources) position e) }
     {
         let source = self.sources.source(position)?;
-        let count = numbered(source.ports.len())?;
-        let body = flat_body(
-            self.sources.alloc,
-            count,
-            source.steps.as_slice(),
-            source.gives,
-        )?;
-        let placer = self.placer();
-        if !placer.all_fit(self.parts, body.calls.as_slice()) {
-            return Err(OutOfMemory);
-        }
-        let Source {
-            name,
-            role,
-            ports,
-            ..
-        } = source;
-        placer.element(name, role, ports, body)
+        let body = self.body_of(&source)?;
+        self.placed(position, source, body)
     }
 
     /// Whether the nodes have the words that they need, and there are not too many of them.
@@ -122,10 +139,10 @@ impl<'a> Layout<'a> {
             flattening.IsLaidOut (at_hand.tree self.entry.sources) position e) }
     {
         let element = self.laid(position)?;
-        if !self.keeps_widths(&element)? {
-            return Err(OutOfMemory);
+        match self.keeps_widths(&element) {
+            Ok(true) => Ok(element),
+            _ => Err(OutOfMemory),
         }
-        Ok(element)
     }
 
     /// All elements.

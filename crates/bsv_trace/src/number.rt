@@ -6,7 +6,7 @@ ghost use Rattle.bsv_trace.specs.Reading as spec;
 use bsv_bits::Word;
 
 /// How the digits of an argument are read.
-#[derive(Clone, Copy, Debug, PartialEq, Eq)]
+#[derive(Clone, Copy)]
 pub(crate) enum Base {
     Decimal,
     Hexadecimal,

@@ -1,6 +1,11 @@
+use Rattle.std.proofs.Common.{codes}
 use Rattle.bsv_trace.specs.Texts as texts
 use Rattle.bsv_io.proofs.Adding.{adds_more, fails_more, adds_then}
 use Rattle.bsv_trace.proofs.state.add_line.Goals as goal
+
+pub returns-in_err-add : goal.returns-in_err-add
+returns-in_err-add g c =
+    adds_more (texts.line_feed) c.from_residual.result c.from_residual.ensures.0 (fails_more (texts.part_text c.args.part.now) (fails_more (codes " = ") c.in_err-add.ensures))
 
 pub returns-in_err-add-2 : goal.returns-in_err-add-2
 returns-in_err-add-2 g c =
