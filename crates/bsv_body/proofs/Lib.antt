@@ -2,6 +2,7 @@ pub mod Joins
 pub mod Sizes
 pub mod Nodes
 pub mod Openings
+pub mod Steps
 pub mod Words
 pub mod StepsSame
 pub mod ArmsSame
