@@ -1,4 +1,4 @@
-ghost use Rattle.std.specs.Prelude.{◌≡◌, ◌+◌, length, OnOk, IfOk};
+ghost use Rattle.std.specs.Prelude.{◌≡◌, ◌+◌, ◌^◌, ◌≤◌, length, OnOk, OnErr, IfOk};
 ghost use Rattle.bsv_body.specs.Leaving.{Leaves};
 ghost use Rattle.bsv_body.specs.Flat as spec;
 
@@ -31,9 +31,10 @@ pub struct Asked {
     pub conditions: Items<Condition>,
 }
 
-/// A number of things, of which there are never too many where memory is not wanting.
+/// A number of things, where 32 bits hold it.
 pub fn numbered(count: usize) -> Laid<u32>
-    ensures { IfOk result (λ n. n ≡ count) }
+    ensures value { IfOk result (λ n. n ≡ count) }
+    ensures many { OnErr result (2 ^ 32 ≤ count) }
 {
     match u32::try_from(count) {
         Ok(number) => Ok(number),
@@ -41,9 +42,10 @@ pub fn numbered(count: usize) -> Laid<u32>
     }
 }
 
-/// The number behind this one.
+/// The number behind this one, where 32 bits hold it.
 pub fn next(number: u32) -> Laid<u32>
-    ensures { IfOk result (λ n. n ≡ number + 1) }
+    ensures value { IfOk result (λ n. n ≡ number + 1) }
+    ensures last { OnErr result (number + 1 ≡ 2 ^ 32) }
 {
     match number.checked_add(1) {
         Some(next) => Ok(next),

@@ -196,7 +196,6 @@ fn all_elements(alloc: Global, tree: &Tree, parts: &[NamedPart]) -> Laid<Items<E
 }
 
 /// The design of these elements and primitives of a tree, with its name and what its attributes ask.
-#[tactic(auto, using(crate::proofs::Designed::designed, crate::proofs::Designed::is_alike))]
 fn design_of(
     alloc: Global,
     tree: &Tree,
