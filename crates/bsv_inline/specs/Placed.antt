@@ -2,6 +2,7 @@
 -- they stand for (Bluespec reference guide, "Module and interface instantiation").
 use Rattle.std.specs.Prelude.{◌≡◌, ℕ, ◌+◌, ◌≤◌, nat_lt, Bool, false, ◌&&◌, List, map, length, slice_get, Option, Some, None, option_map}
 use Rattle.std.specs.Bool.{beq}
+use Rattle.std.specs.List.{list_all}
 use Rattle.bsv_types.specs.declared.modules.Method.{Method}
 use Rattle.bsv_types.specs.declared.modules.Module.{Module}
 use Rattle.bsv_design.specs.declared.element.Call.{Call as PartCall}
@@ -53,6 +54,10 @@ kind_fits (Some k) c = nat_lt c.method.method (kind_table k).methods && beq ((ki
 -- the same of a call, in a design of parts of these kinds
 abbrev pub call_fits : List Kind → List Instance → Call → Bool
 call_fits ks is c = kind_fits (kind_at ks (target_of is c.method)) c
+
+-- and so of each of these calls
+abbrev pub all_fit : List Kind → List Instance → List Call → Bool
+all_fit ks is cs = list_all (call_fits ks is) cs
 
 -- the call acts where its method does
 abbrev pub acts_rightly : List Kind → List Instance → Call → Bool

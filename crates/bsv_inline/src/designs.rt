@@ -1,4 +1,4 @@
-ghost use Rattle.std.specs.Prelude.{◌≡◌, ◌+◌, ◌<◌, true, Some, length, IfOk};
+ghost use Rattle.std.specs.Prelude.{◌≡◌, ◌+◌, ◌<◌, true, Some, length, map, IfOk, OnOk};
 ghost use Rattle.bsv_types.specs.Names.{countable};
 ghost use Rattle.bsv_design.specs.Schemes.{design_scheme, tree_scheme, AreAlike};
 ghost use Rattle.bsv_design.specs.Seen.{blueprint, hierarchy};
@@ -6,6 +6,7 @@ ghost use Rattle.bsv_design.specs.Sources as sources;
 ghost use Rattle.bsv_design.specs.Trees as trees;
 ghost use Rattle.bsv_body.specs.Bodies.{IsBody};
 ghost use Rattle.bsv_inline.specs.Flattening as flattening;
+ghost use Rattle.bsv_inline.specs.Placed as placed;
 ghost use Rattle.bsv_inline.specs.Placed.{ArePartNumbers};
 ghost use Rattle.bsv_inline.specs.SourcesAtHand as at_hand;
 
@@ -66,18 +67,22 @@ impl<'a> Layout<'a> {
         }
     }
 
-    /// The flat body of a source.
+    /// The flat body of a source, whose calls are of methods of their parts.
     fn body_of(self, source: &Source) -> Laid<Body>
-        ensures { IfOk result (λ b.
+        requires { ArePartNumbers (at_hand.tree self.sources).instances self.numbers.now }
+        ensures body { IfOk result (λ b.
             IsBody (length source.now.ports) source.now.steps source.now.gives b) }
+        ensures fit { IfOk result (λ b. placed.all_fit (map (λ p. p.kind) self.entry.parts.now)
+            (at_hand.tree self.entry.sources).instances b.calls ≡ true) }
     {
         let count = numbered(source.ports.len())?;
-        flat_body(
-            self.sources.alloc,
-            count,
-            source.steps.as_slice(),
-            source.gives,
-        )
+        let steps = source.steps.as_slice();
+        let body = flat_body(self.sources.alloc, count, steps, source.gives)?;
+        if self.placer().all_fit(self.parts, body.calls.as_slice()) {
+            Ok(body)
+        } else {
+            Err(OutOfMemory)
+        }
     }
 
     /// The element of a position, whose source has this flat body.
@@ -89,14 +94,13 @@ impl<'a> Layout<'a> {
         requires within { position < sources.element_count (at_hand.tree self.sources) }
         requires at { sources.source_at (at_hand.tree self.sources) position ≡ Some source }
         requires body { IsBody (length source.ports) source.steps source.gives body }
+        requires fit { placed.all_fit (map (λ p. p.kind) self.parts.now)
+            (at_hand.tree self.sources).instances body.calls ≡ true }
         ensures { IfOk result (λ e.
             flattening.IsFlat (at_hand.tree self.entry.sources) position e) }
     {
-        let placer = self.placer();
-        if !placer.all_fit(self.parts, body.calls.as_slice()) {
-            return Err(OutOfMemory);
-        }
-        placer.element(source.name, source.role, source.ports, body)
+        self.placer()
+            .element(source.name, source.role, source.ports, body)
     }
 
     /// The element of a position as a flat body.
@@ -113,23 +117,28 @@ impl<'a> Layout<'a> {
         self.placed(position, source, body)
     }
 
-    /// Whether the nodes have the words that they need, and there are not too many of them.
-    fn keeps_widths(self, element: &Element) -> Laid<bool>
+    /// That the nodes have the words that they need, and that there are not too many of them. What is typed has its
+    /// widths, so that none is turned away.
+    fn keeps_widths(self, element: &Element) -> Laid<()>
         requires { self.parts.now
             ≡ sources.parts_among (at_hand.tree self.sources).instances }
-        ensures { IfOk result (λ b. b ≡ true
-            → flattening.KeepsWidths (at_hand.tree self.entry.sources) element.now) }
+        ensures { OnOk result
+            (flattening.KeepsWidths (at_hand.tree self.entry.sources) element.now) }
     {
         if !is_countable(&element.nodes) || !is_countable(&element.calls) {
-            return Ok(false);
+            return Err(OutOfMemory);
         }
         if !value_acts_not(self.parts, element) {
-            return Ok(false);
+            return Err(OutOfMemory);
         }
-        has_widths(self.sources.alloc, self.parts, element)
+        if has_widths(self.sources.alloc, self.parts, element)? {
+            Ok(())
+        } else {
+            Err(OutOfMemory)
+        }
     }
 
-    /// The element of a position. What is typed has its widths, so that none is turned away.
+    /// The element of a position.
     fn element(self, position: u32) -> Laid<Element>
         requires numbers { ArePartNumbers (at_hand.tree self.sources).instances self.numbers.now }
         requires parts { self.parts.now
@@ -139,10 +148,8 @@ impl<'a> Layout<'a> {
             flattening.IsLaidOut (at_hand.tree self.entry.sources) position e) }
     {
         let element = self.laid(position)?;
-        match self.keeps_widths(&element) {
-            Ok(true) => Ok(element),
-            _ => Err(OutOfMemory),
-        }
+        self.keeps_widths(&element)?;
+        Ok(element)
     }
 
     /// All elements.

@@ -24,6 +24,13 @@ pub struct Placer<'a> {
     pub numbers: &'a [u32],
 }
 
+/// What a body asks, as an element of a design does.
+#[derive(Drop)]
+struct Asked {
+    calls: Items<design::Call>,
+    conditions: Items<design::Condition>,
+}
+
 impl Placer<'_> {
     /// The call, of a method of a part.
     fn call(self, call: &Call) -> Laid<design::Call>
@@ -104,8 +111,8 @@ impl Placer<'_> {
     /// Whether the method of each call is one of its part, and acts where the call does.
     pub fn all_fit(self, parts: &[NamedPart], calls: &[Call]) -> bool
         requires { ArePartNumbers self.instances.now self.numbers.now }
-        ensures { result ≡ list_all (placed.call_fits
-            (map (λ p. p.kind) parts.now) self.entry.instances.now) calls.now }
+        ensures { result ≡ placed.all_fit
+            (map (λ p. p.kind) parts.now) self.entry.instances.now calls.now }
     {
         let mut rest = calls;
         while let Some((call, after)) = rest.split_first() {
@@ -115,6 +122,19 @@ impl Placer<'_> {
             rest = after;
         }
         true
+    }
+
+    /// The calls and the conditions of a body as those of an element.
+    fn asked(self, body: &Body) -> Laid<Asked>
+        requires { ArePartNumbers self.instances.now self.numbers.now }
+        ensures calls { IfOk result (λ asked. asked.calls
+            ≡ map (placed.placed_call self.entry.instances.now) body.now.calls) }
+        ensures conditions { IfOk result (λ asked. asked.conditions ≡ map (placed.named_condition
+            self.entry.modules.now self.entry.instances.now) body.now.conditions) }
+    {
+        let calls = self.calls(body.calls.as_slice())?;
+        let conditions = self.conditions(body.conditions.as_slice())?;
+        Ok(Asked { calls, conditions })
     }
 
     /// The element of this body.
@@ -129,12 +149,13 @@ impl Placer<'_> {
         ensures { IfOk result (λ e. e ≡ placed.element
             self.entry.modules.now self.entry.instances.now name role arguments body) }
     {
+        let asked = self.asked(&body)?;
         Ok(Element {
             name,
             role,
             arguments,
-            conditions: self.conditions(body.conditions.as_slice())?,
-            calls: self.calls(body.calls.as_slice())?,
+            conditions: asked.conditions,
+            calls: asked.calls,
             nodes: body.nodes,
             result: body.result,
         })

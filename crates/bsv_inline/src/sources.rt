@@ -57,16 +57,26 @@ impl<'a> Sources<'a> {
         }
     }
 
+    /// The argument that a parameter is.
+    fn port(self, param: &Param) -> Result<Port, OutOfMemory>
+        ensures { IfOk result (λ port.
+            port ≡ spec.port_of (at_hand.shapes self.entry) param.now) }
+    {
+        let name = Name::new(self.alloc, param.name.bytes())?;
+        let width = self.width(&param.ty);
+        Ok(Port { name, width })
+    }
+
     /// The arguments of a method.
     fn ports(self, params: &[Param]) -> Result<Items<Port>, OutOfMemory>
         ensures { IfOk result (λ ports.
             ports ≡ map (spec.port_of (at_hand.shapes self.entry)) params.now) }
     {
         let mut ports = Items::new(self.alloc);
-        for param in params {
-            let name = Name::new(self.alloc, param.name.bytes())?;
-            let width = self.width(&param.ty);
-            ports.push(Port { name, width })?;
+        let mut rest = params;
+        while let Some((param, after)) = rest.split_first() {
+            ports.push(self.port(param)?)?;
+            rest = after;
         }
         Ok(ports)
     }
