@@ -1,5 +1,5 @@
 -- A step's nodes do what the step does.
-use Rattle.std.proofs.Common.{◌≡◌, ◌∙◌, ℕ, suc, ◌+◌, Bool, true, false, List, [], ◌∷◌, ◌++◌, length, Option, Some, refl, sym, ap, ap₂, subst, arith, append_assoc, append-nil, length-append}
+use Rattle.std.proofs.Common.{◌≡◌, ◌∙◌, ℕ, suc, ◌+◌, Bool, true, false, List, [], ◌∷◌, ◌++◌, length, Option, Some, refl, sym, ap, subst, arith, append_assoc, append-nil, length-append}
 use Rattle.std.specs.Prelude.{slice_get}
 use Rattle.bsv_bits.specs.Words.{Bits, bit}
 use Rattle.bsv_design.specs.declared.node.Node.TheVariants as node
@@ -15,6 +15,7 @@ use Rattle.bsv_body.specs.declared.state.State.{State}
 use Rattle.bsv_body.specs.Bodies.{Shows, AreSites, AreNeeds}
 use Rattle.bsv_body.specs.Flat.{Flat, Spot, no, nothing, both, operand, operands, compute, one_call, in_turn_from, in_turn, called, read, act, needed}
 use Rattle.bsv_body.specs.Nodes.{answer}
+use Rattle.bsv_body.proofs.Joins.{both_twice, both_none}
 use Rattle.bsv_body.proofs.Words.{Within, shows_within, shows_words, seen, word_at, keeps_shows, operand_worth, operands_worth, stand_more, compute_worth}
 
 -- ---- calls and conditions
@@ -92,12 +93,6 @@ module _ (r : Results) (arguments : List Bits) (full : List Call) where
 
   abbrev joined : Asked → Asked × State → Asked × State
   joined a m = (both a m.0, m.1)
-
-  both_twice : (a b c : Asked) → both (both a b) c ≡ both a (both b c)
-  both_twice a b c = ap₂ (λ (x : List Call) (y : List Condition). let z : Asked = record { calls = x; conditions = y } in z) (append_assoc a.calls b.calls c.calls) (append_assoc a.conditions b.conditions c.conditions)
-
-  both_none : (a : Asked) → both a nothing ≡ a
-  both_none a = ap₂ (λ (x : List Call) (y : List Condition). let z : Asked = record { calls = x; conditions = y } in z) (append-nil a.calls) (append-nil a.conditions)
 
   from_front : (xs : List Flat) (a : Asked) (p : Spot) (s : State) → in_turn_from a xs p s ≡ joined a (in_turn xs p s)
   unfolding in_turn in_turn_from

@@ -19,6 +19,7 @@ use Rattle.bsv_body.specs.declared.state.Asked.{Asked}
 use Rattle.bsv_body.specs.declared.state.State.{State}
 use Rattle.bsv_body.specs.declared.choices.Given.{Given}
 use Rattle.bsv_body.specs.declared.choices.Head.{Head}
+use Rattle.bsv_body.specs.declared.choices.Joining.{Joining}
 use Rattle.bsv_body.specs.declared.choices.Tested.{Tested}
 
 -- ---- nodes
@@ -182,6 +183,26 @@ join_one h d = let g = picks h.test h.body.given d.0.given d.1 in (joined_as g.0
 unfoldable pub join_all : List Head → Given × State → Given × State
 join_all [] d = d
 join_all (h ∷ hs) d = join_one h (join_all hs d)
+
+-- ---- the same from the last arm on, with what each of them asks for itself, the last one first
+
+abbrev pub begun : Given → Joining
+begun d = record { given = d.given; parts = d.asked ∷ [] }
+
+abbrev pub before : List ℕ → Head → Joining → Joining
+before given h j = record { given = given; parts = (j.parts ++ h.body.asked ∷ []) ++ h.asked ∷ [] }
+
+abbrev pub join_before : Head → Joining × State → Joining × State
+join_before h j = let g = picks h.test h.body.given j.0.given j.1 in (before g.0 h j.0, g.1)
+
+abbrev pub in_text_order : List Asked → Asked
+in_text_order [] = nothing
+in_text_order (a ∷ others) = both (in_text_order others) a
+
+abbrev pub joined : Joining → Given
+joined j = record { given = j.given; asked = in_text_order j.parts }
+
+-- ---- the arms of a choice
 
 abbrev pub head_of : Tested → Given → Head
 head_of t body = record { test = t.test; asked = t.asked; body = body }

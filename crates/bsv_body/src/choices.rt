@@ -2,7 +2,7 @@ ghost use Rattle.std.specs.Prelude.{◌≡◌, IfOk};
 ghost use Rattle.bsv_body.specs.Leaving.{Leaves};
 ghost use Rattle.bsv_body.specs.Flat as spec;
 
-use crate::state::{Asked, Laid, State, both, put};
+use crate::state::{Asked, Laid, State, add, nothing, put};
 use bsv_design::Node;
 use sqlite_items::Items;
 use std::alloc::{AllocError, Global};
@@ -60,48 +60,86 @@ fn picks(
     Ok(found)
 }
 
-/// What an arm asks, its condition first, and then the others.
-fn join_asked(head: Head, others: Given) -> Result<Asked, AllocError>
-    ensures { IfOk result (λ asked. asked
-        ≡ spec.both head.asked (spec.both head.body.asked others.asked)) }
-{
-    let Head { asked, body, .. } = head;
-    let Given { asked: own, .. } = body;
-    let Given { asked: more, .. } = others;
-    both(asked, both(own, more)?)
+/// Arms that are joined from the last one on: the nodes of their values, and what each of them asks, the last one first.
+/// So an arm is joined to others in time that does not grow with what these ask.
+#[derive(Drop)]
+pub struct Joining {
+    pub given: Items<u32>,
+    pub parts: Items<Asked>,
 }
 
-/// An arm before the others, where the values of both are these nodes.
-fn joined_as(given: Items<u32>, head: Head, others: Given) -> Result<Given, AllocError>
-    ensures { IfOk result (λ d. d ≡ spec.joined_as given head others) }
+/// The last arm, before any other is joined to it.
+fn begun(alloc: Global, last: Given) -> Result<Joining, AllocError>
+    ensures { IfOk result (λ arms. arms ≡ spec.begun last) }
 {
-    let asked = join_asked(head, others)?;
-    Ok(Given { given, asked })
+    let Given { given, asked } = last;
+    let mut parts = Items::new(alloc);
+    parts.push(asked)?;
+    Ok(Joining { given, parts })
+}
+
+/// The values of an arm where its test is 1, else those of the others.
+fn picked(alloc: Global, head: &Head, others: &Joining, state: &mut State) -> Laid<Items<u32>>
+    ensures { Leaves result state.new
+        (spec.picks head.now.test head.now.body.given others.now.given state.old) }
+{
+    let first = head.body.given.as_slice();
+    picks(alloc, head.test, first, others.given.as_slice(), state)
+}
+
+/// An arm before the others, where the values of all are these nodes: what its condition asks comes first.
+fn before(given: Items<u32>, head: Head, others: Joining) -> Result<Joining, AllocError>
+    ensures { IfOk result (λ arms. arms ≡ spec.before given head others) }
+{
+    let Head { asked, body, .. } = head;
+    let mut parts = others.parts;
+    parts.push(body.asked)?;
+    parts.push(asked)?;
+    Ok(Joining { given, parts })
 }
 
 /// An arm before the others.
-fn join_one(alloc: Global, head: Head, others: Given, state: &mut State) -> Laid<Given>
-    ensures { Leaves result state.new (spec.join_one head (others, state.old)) }
+fn join_one(alloc: Global, head: Head, others: Joining, state: &mut State) -> Laid<Joining>
+    ensures { Leaves result state.new (spec.join_before head (others, state.old)) }
 {
-    let first = head.body.given.as_slice();
-    let given = picks(alloc, head.test, first, others.given.as_slice(), state)?;
-    Ok(joined_as(given, head, others)?)
+    let given = picked(alloc, &head, &others, state)?;
+    Ok(before(given, head, others)?)
+}
+
+/// What arms ask, in the order of the text.
+fn in_text_order(alloc: Global, parts: Items<Asked>) -> Result<Asked, AllocError>
+    ensures { IfOk result (λ asked. asked ≡ spec.in_text_order parts) }
+{
+    let mut asked = nothing(alloc);
+    let mut parts = parts;
+    while let Some(part) = parts.pop() {
+        add(&mut asked, part)?;
+    }
+    Ok(asked)
+}
+
+/// Arms that are joined as one.
+fn joined(alloc: Global, arms: Joining) -> Result<Given, AllocError>
+    ensures { IfOk result (λ one. one ≡ spec.joined arms) }
+{
+    let Joining { given, parts } = arms;
+    let asked = in_text_order(alloc, parts)?;
+    Ok(Given { given, asked })
 }
 
 /// All arms, of which the last one is given.
-#[tactic(auto, using(crate::proofs::Joins::joins))]
 pub(crate) fn join_all(
     alloc: Global,
     heads: Items<Head>,
-    joined: Given,
+    last: Given,
     state: &mut State,
 ) -> Laid<Given>
-    ensures { Leaves result state.new (spec.join_all heads (joined, state.old)) }
+    ensures { Leaves result state.new (spec.join_all heads (last, state.old)) }
 {
     let mut heads = heads;
-    let mut joined = joined;
+    let mut arms = begun(alloc, last)?;
     while let Some(head) = heads.pop() {
-        joined = join_one(alloc, head, joined, state)?;
+        arms = join_one(alloc, head, arms, state)?;
     }
-    Ok(joined)
+    Ok(joined(alloc, arms)?)
 }

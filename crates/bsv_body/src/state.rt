@@ -124,15 +124,6 @@ pub(crate) fn add(asked: &mut Asked, others: Asked) -> Result<(), AllocError>
     Ok(())
 }
 
-/// The first ones, and then the others.
-pub(crate) fn both(first: Asked, others: Asked) -> Result<Asked, AllocError>
-    ensures { IfOk result (λ asked. asked ≡ spec.both first others) }
-{
-    let mut asked = first;
-    add(&mut asked, others)?;
-    Ok(asked)
-}
-
 /// The call stands before the others.
 pub(crate) fn with_call(alloc: Global, call: Call, others: Asked) -> Result<Asked, AllocError>
     ensures { IfOk result (λ a. a ≡ spec.with_call call others) }

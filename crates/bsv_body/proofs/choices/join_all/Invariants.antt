@@ -6,4 +6,4 @@ abbrev pub decreases-loop-head : goal.decreases-loop-head
 decreases-loop-head l = length l.heads
 
 abbrev pub invariant-loop-head : goal.invariant-loop-head
-invariant-loop-head l = spec.join_all l.fn.heads (l.fn.joined, l.fn.state) ≡ spec.join_all l.heads (l.joined, l.state)
+invariant-loop-head l = spec.join_all l.fn.heads (l.fn.last, l.fn.state) ≡ spec.join_all l.heads (spec.joined l.arms, l.state)
