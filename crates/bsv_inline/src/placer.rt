@@ -1,5 +1,4 @@
 ghost use Rattle.std.specs.Prelude.{◌≡◌, IfOk, map};
-ghost use Rattle.std.specs.List.{list_all};
 ghost use Rattle.bsv_inline.specs.Placed as placed;
 ghost use Rattle.bsv_inline.specs.Placed.{ArePartNumbers};
 
