@@ -1,0 +1,4 @@
+pub mod relating
+pub mod execution
+pub mod urgency
+pub mod stopping
