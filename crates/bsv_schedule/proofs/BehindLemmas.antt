@@ -1,4 +1,4 @@
--- What stands behind the first rule of an order.
+-- What comes after the first rule of an order.
 use Rattle.std.proofs.Common.{◌≡◌, ℕ, ◌+◌, ◌-◌, ◌<◌, inl, inr, List, [], ◌∷◌, ◌++◌, length, get_or, take, drop, refl, suc, sym, ◌∙◌, ap, subst, arith, add-one, take-append-drop, drop-cons}
 use Rattle.std.proofs.lemmas.List.{take_more, take_all, length-drop}
 use Rattle.std.specs.Prelude.{IsTrue, IsFalse, All}
@@ -40,7 +40,7 @@ pub read_split : (xs : List ℕ) (k d : ℕ) → k < length xs → xs ≡ take k
 read_split xs k d h = rw add-one (sym (take-append-drop k xs) ∙ ap (λ z. take k xs ++ z) (drop-cons xs k d h))
 
 module _ (r : Relating) where
-  -- what stands behind a rule stands behind the first
+  -- what comes after a rule comes after the first
   behind_in : (before behind : List ℕ) (q p m : ℕ) → ((k : ℕ) → In before k → IsFalse (r.rule k)) → IsTrue (r.rule p)
       → StandsBefore (before ++ (q ∷ behind)) p m → In behind m
   behind_in [] behind q p m f h (inl s) = s.1

@@ -1,3 +1,4 @@
+-- What every design keeps: how many elements there are, and that pairs name elements.
 use Rattle.std.proofs.Common.{◌≡◌, ◌∙◌, ℕ, ◌<◌, ◌^◌, true, ◌&&◌, List, [], ◌∷◌, map, length, Some, None, refl, ap, suc, ltb-true, nat_lt}
 use Rattle.std.specs.Prelude.{slice_get, IsTrue}
 use Rattle.std.specs.List.{list_all}

@@ -1,4 +1,4 @@
--- The answers exclude each other.
+-- There is one answer of the urgency order.
 use Rattle.std.proofs.Common.{◌≡◌, ℕ, inl, inr, List, [], ◌∷◌, ◌++◌, refl, sym, ◌∙◌, ap, subst, Some}
 use Rattle.std.specs.Prelude.{IsTrue, IsFalse, Result, Ok, Err, IfOk, IfErr, slice_get}
 use Rattle.std.proofs.lemmas.Bool.{cases_order}

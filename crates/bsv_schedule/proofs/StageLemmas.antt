@@ -1,3 +1,4 @@
+-- What the graph of the hard edges is, stage by stage.
 use Rattle.std.proofs.Common.{◌≡◌, ℕ, ◌+◌, ◌<◌, inl, inr, Bool, true, false, List, [], ◌∷◌, ◌++◌, add-one, length, get_or, refl, zero, suc, subst, arith}
 use Rattle.std.proofs.lemmas.Bool.{cases_lt}
 use Rattle.std.specs.Prelude.{IsTrue, if◌then◌else◌, slice_get, Some}

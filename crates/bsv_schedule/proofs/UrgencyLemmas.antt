@@ -6,7 +6,8 @@ use Rattle.bsv_graph.specs.declared.edge.Edge.{Edge}
 use Rattle.bsv_design.specs.declared.design.Design.{Design}
 use Rattle.bsv_design.specs.Schemes.{design_scheme}
 use Rattle.bsv_schedule.specs.relating.Elements.{relating, is_urging, edge_of, edges_of}
-use Rattle.bsv_schedule.specs.urgency.Answers.{design_relating, urging_pairs}
+use Rattle.bsv_schedule.specs.urgency.Answers.{urging_pairs}
+use Rattle.bsv_schedule.specs.relating.Elements.{design_relating}
 
 -- there are as many edges as pairs
 pub as_many : (ps : List Pair) (es : List Edge) → es ≡ edges_of is_urging ps → length es ≡ length (urging_pairs ps)

@@ -13,6 +13,7 @@ pub record IsOrderingPair (r : Relating) (k : ℕ) (p : Pair) : Type 0 where
   pub attribute : p.attribute ≡ attribute.ExecutionOrder
   pub edge : slice_get r.ordering k ≡ Some (edge_of p)
 
+-- why elements that relate in this way have no execution order
 abbrev pub RefusesExecution : Relating → OrderFault → Type 0
 RefusesExecution r (fault.WireCycle a) = WireCycle r a
 RefusesExecution r (fault.ValueClash v) = ValueClash r v
@@ -24,5 +25,6 @@ abbrev pub IsExecutionAnswer : Relating → Result (List ℕ) OrderFault → Typ
 IsExecutionAnswer r (Ok xs) = Executes r xs
 IsExecutionAnswer r (Err f) = RefusesExecution r f × (f ≢ fault.OutOfMemory)
 
+-- what is given is the answer, or memory ran out
 abbrev pub IsExecutionUnlessMemory : Result (List ℕ) OrderFault → Result (List ℕ) OrderFault → Type 0
 IsExecutionUnlessMemory given answer = (given ≡ answer) ⊎ (given ≡ Err fault.OutOfMemory)

@@ -1,13 +1,15 @@
 -- How the elements of a design relate: what the two orders are made from.
 use Rattle.std.specs.Prelude.{ℕ, ◌==◌, Bool, true, false, ◌&&◌, List, map, filter, length, slice_get, Option, Some, None}
 use Rattle.std.specs.List.{list_any}
+use Rattle.bsv_design.specs.declared.design.Design.{Design}
 use Rattle.bsv_design.specs.declared.element.Role.{Role}
 use Rattle.bsv_design.specs.declared.tree.Attribute.{Attribute}
 use Rattle.bsv_design.specs.declared.tree.Attribute.TheVariants as attribute
 use Rattle.bsv_design.specs.declared.tree.Pair.{Pair}
 use Rattle.bsv_design.specs.Relations.{goes, feeds}
 use Rattle.bsv_design.specs.Roles.{is_rule, is_value}
-use Rattle.bsv_design.specs.Schemes.{Scheme}
+use Rattle.bsv_design.specs.Schemes.{Scheme, design_scheme}
+use Rattle.bsv_design.specs.Seen.{blueprint}
 use Rattle.bsv_graph.specs.declared.edge.Edge.{Edge}
 use Rattle.bsv_schedule.specs.relating.Relating.{Relating}
 
@@ -53,3 +55,7 @@ relating S = record {
   urging = edges_of is_urging S.pairs;
   preempts = λ a b. list_any (preempts a b) S.pairs;
 }
+
+-- the same of a design
+abbrev pub design_relating : Design → Relating
+design_relating d = relating (design_scheme (blueprint d))

@@ -1,18 +1,11 @@
--- What each answer tells of how the elements of a design relate.
+-- What each answer tells of how elements relate.
 use Rattle.std.specs.Prelude.{◌≡◌, ◌≢◌, ◌⊎◌, ℕ, List, filter, Some, slice_get, Result, Ok, Err}
-use Rattle.bsv_design.specs.declared.design.Design.{Design}
 use Rattle.bsv_design.specs.declared.tree.Pair.{Pair}
-use Rattle.bsv_design.specs.Schemes.{design_scheme}
-use Rattle.bsv_design.specs.Seen.{blueprint}
-use Rattle.bsv_schedule.specs.relating.Elements.{relating, is_urging}
+use Rattle.bsv_schedule.specs.relating.Elements.{is_urging}
 use Rattle.bsv_schedule.specs.relating.Relating.{Relating}
 use Rattle.bsv_schedule.specs.urgency.Orders.{UrgencyCycle, MethodBehindRule, Urges}
 use Rattle.bsv_schedule.specs.declared.urgency.fault.UrgencyFault.{UrgencyFault}
 use Rattle.bsv_schedule.specs.declared.urgency.fault.UrgencyFault.TheVariants as fault
-
--- how the elements of a design relate
-abbrev pub design_relating : Design → Relating
-design_relating d = relating (design_scheme (blueprint d))
 
 -- the pairs of `descending_urgency` and `preempts`, in the order of the text
 abbrev pub urging_pairs : List Pair → List Pair
@@ -29,5 +22,6 @@ abbrev pub IsUrgencyAnswer : Relating → List Pair → Result (List ℕ) Urgenc
 IsUrgencyAnswer r ps (Ok xs) = Urges r xs
 IsUrgencyAnswer r ps (Err f) = RefusesUrgency r ps f × (f ≢ fault.OutOfMemory)
 
+-- what is given is the answer, or memory ran out
 abbrev pub IsUrgencyUnlessMemory : Result (List ℕ) UrgencyFault → Result (List ℕ) UrgencyFault → Type 0
 IsUrgencyUnlessMemory given answer = (given ≡ answer) ⊎ (given ≡ Err fault.OutOfMemory)

@@ -13,7 +13,7 @@ urgency_edges r = r.urging ++ feed_edges r
 abbrev pub UrgencyOrder : Relating → List ℕ → Type 0
 UrgencyOrder r xs = IsLeastOrder r.count (urgency_edges r) xs
 
--- m is an Action or ActionValue method that stands behind a rule
+-- m is an Action or ActionValue method that comes after a rule
 pub record IsBehindRule (r : Relating) (xs : List ℕ) (m : ℕ) : Type 0 where
   pub no_value : IsFalse (r.value m)
   pub no_rule : IsFalse (r.rule m)
@@ -40,7 +40,7 @@ pub record IsFirstRule (r : Relating) (xs : List ℕ) (q : ℕ) : Type 0 where
 abbrev pub UrgencyCycle : Relating → ℕ → Type 0
 UrgencyCycle r k = ClosesFirst (feed_edges r) r.urging k
 
--- A method stands behind a rule: the least such method, and the first rule.
+-- A method comes after a rule: the least such method, and the first rule.
 pub record MethodBehindRule (r : Relating) (m q : ℕ) : Type 0 where
   pub pairs : NoneCloses (feed_edges r) r.urging
   pub order : List ℕ

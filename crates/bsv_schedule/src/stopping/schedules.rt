@@ -1,7 +1,7 @@
 ghost use Rattle.std.specs.Prelude.{◌≡◌, IfOk};
 ghost use Rattle.bsv_graph.specs.Orders.{IsOrderOf};
 ghost use Rattle.bsv_schedule.specs.stopping.Stops.{AreStops};
-ghost use Rattle.bsv_schedule.specs.urgency.Answers.{design_relating};
+ghost use Rattle.bsv_schedule.specs.relating.Elements.{design_relating};
 
 use crate::relating::Relations;
 use crate::stopping::stops::stops_of;

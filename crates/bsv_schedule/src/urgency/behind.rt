@@ -41,7 +41,7 @@ fn least_action_in(relations: &Relations, list: &[u32]) -> Option<u32>
     None
 }
 
-/// The least Action or ActionValue method that stands behind a rule, and the first rule.
+/// The least Action or ActionValue method that comes after a rule, and the first rule.
 pub(crate) fn method_behind_rule(relations: &Relations, order: &[u32]) -> Option<(u32, u32)>
     requires { All (λ a. a < count_of relations.now) order.now }
     ensures method { IfSome result

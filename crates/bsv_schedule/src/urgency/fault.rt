@@ -11,7 +11,7 @@ pub enum UrgencyFault {
     /// This pair is the first of `descending_urgency` and `preempts` that closes a cycle.
     #[error("a pair of `descending_urgency` or `preempts` closes a cycle")]
     UrgencyCycle(Pair),
-    /// This method that acts is the least one behind a rule, and this is the first rule.
+    /// This method that acts is the least one after a rule, and this is the first rule.
     #[error("a method that acts stands behind a rule")]
     MethodBehindRule(u32, u32),
     #[error("out of memory")]

@@ -9,7 +9,8 @@ ghost use Rattle.bsv_graph.specs.Walks.{IsAcyclic};
 ghost use Rattle.bsv_schedule.specs.declared.urgency.fault.UrgencyFault.{UrgencyFault};
 ghost use Rattle.bsv_schedule.specs.declared.urgency.fault.UrgencyFault.TheVariants as told;
 ghost use Rattle.bsv_schedule.specs.urgency.Answers.{RefusesUrgency, IsUrgencyAnswer, IsUrgencyUnlessMemory};
-ghost use Rattle.bsv_schedule.specs.urgency.Answers.{design_relating, urging_pairs};
+ghost use Rattle.bsv_schedule.specs.urgency.Answers.{urging_pairs};
+ghost use Rattle.bsv_schedule.specs.relating.Elements.{design_relating};
 ghost use Rattle.bsv_schedule.specs.urgency.Stages.{HasUrging};
 
 use crate::relating::Relations;
