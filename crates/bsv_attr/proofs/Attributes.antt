@@ -22,11 +22,11 @@ use Rattle.bsv_design.specs.Kinds.{kind_laws}
 use Rattle.bsv_design.specs.Schemes.{Scheme, Look, Asking, design_scheme, kinds_of, trace_of, answers, given, seen, ready, guard_of, is_open, required, all_hold, all_open}
 use Rattle.bsv_design.specs.Traces.{Trace, kind_at, site_at, demand_at, body_trace}
 use Rattle.bsv_prim.specs.declared.part.Part.{Part}
-use Rattle.bsv_schedule.specs.execution.Orders.{ExecutionOrder}
+use Rattle.bsv_schedule.specs.executing.Orders.{ExecutionOrder}
 use Rattle.bsv_graph.specs.Orders.{In, StandsBefore}
 use Rattle.bsv_schedule.specs.relating.Relating.{Relating, Agrees}
 use Rattle.bsv_schedule.specs.stopping.Stops.{Stops, Picks, AreStops}
-use Rattle.bsv_schedule.specs.urgency.Orders.{UrgencyOrder}
+use Rattle.bsv_schedule.specs.urging.Orders.{UrgencyOrder}
 use Rattle.bsv_graph.specs.Walks.{HasEdge}
 use Rattle.bsv_attr.specs.Asserting.{IsAccepted}
 use Rattle.bsv_attr.specs.Calling.{condition_named, call_guarded, implicit_places}

@@ -7,11 +7,11 @@ ghost use Rattle.bsv_attr.specs.Stopping.{ListStops};
 ghost use Rattle.bsv_design.specs.declared.schedule.Schedule.{Schedule};
 ghost use Rattle.bsv_design.specs.Designs.{Blueprint};
 ghost use Rattle.bsv_design.specs.Schemes.{Scheme, AreAlike, design_scheme};
-ghost use Rattle.bsv_schedule.specs.execution.Orders.{ExecutionOrder};
+ghost use Rattle.bsv_schedule.specs.executing.Orders.{ExecutionOrder};
 ghost use Rattle.bsv_graph.specs.Orders.{In};
 ghost use Rattle.bsv_schedule.specs.relating.Relating.{Relating, Agrees};
 ghost use Rattle.bsv_schedule.specs.stopping.Stops.{Stops, AreStops};
-ghost use Rattle.bsv_schedule.specs.urgency.Orders.{UrgencyOrder};
+ghost use Rattle.bsv_schedule.specs.urging.Orders.{UrgencyOrder};
 
 use bsv_schedule::obeyed as pairs_obeyed;
 

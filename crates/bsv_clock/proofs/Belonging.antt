@@ -16,10 +16,10 @@ use Rattle.bsv_design.specs.Schemes.{Scheme, Outline, Asking, AreAlike, design_s
 use Rattle.bsv_design.specs.Seen.{blueprint}
 use Rattle.bsv_design.specs.States.{FitsKinds, AreWordsOf}
 use Rattle.bsv_schedule.specs.relating.Elements.{relating, has_role, edges_of, is_ordering, is_urging, preempts, is_preempting}
-use Rattle.bsv_schedule.specs.execution.Orders.{Executes}
+use Rattle.bsv_schedule.specs.executing.Orders.{Executes}
 use Rattle.bsv_schedule.specs.relating.Relating.{Relating, Agrees}
 use Rattle.bsv_schedule.specs.stopping.Stops.{AreStops}
-use Rattle.bsv_schedule.specs.urgency.Orders.{Urges}
+use Rattle.bsv_schedule.specs.urging.Orders.{Urges}
 use Rattle.bsv_schedule.specs.relating.Uses.{Among}
 use Rattle.bsv_schedule.proofs.RelationsLemmas.{agrees_design}
 use Rattle.bsv_schedule.proofs.UsesLemmas.{same_number, any_of}

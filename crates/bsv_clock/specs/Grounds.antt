@@ -6,10 +6,10 @@ use Rattle.bsv_design.specs.Relations.{KeepsTheRule}
 use Rattle.bsv_design.specs.Schemes.{Scheme, Asking}
 use Rattle.bsv_design.specs.States.{FitsKinds}
 use Rattle.bsv_schedule.specs.relating.Elements.{relating}
-use Rattle.bsv_schedule.specs.execution.Orders.{Executes}
+use Rattle.bsv_schedule.specs.executing.Orders.{Executes}
 use Rattle.bsv_schedule.specs.relating.Relating.{Relating, Agrees}
 use Rattle.bsv_schedule.specs.stopping.Stops.{AreStops}
-use Rattle.bsv_schedule.specs.urgency.Orders.{Urges}
+use Rattle.bsv_schedule.specs.urging.Orders.{Urges}
 use Rattle.bsv_guard.specs.Fitting.{RequestFits, IsFitting}
 use Rattle.bsv_guard.specs.Sound.{IsSound}
 

@@ -12,19 +12,19 @@ use Rattle.bsv_design.specs.Sources.{parts_among}
 use Rattle.bsv_design.specs.Traces.{Site}
 use Rattle.bsv_design.specs.Trees.{Hierarchy}
 use Rattle.bsv_schedule.specs.relating.Elements.{relating, edge_of, edges_of, is_urging}
-use Rattle.bsv_schedule.specs.execution.Orders.{Executes, ExecutionCycle}
+use Rattle.bsv_schedule.specs.executing.Orders.{Executes, ExecutionCycle}
 use Rattle.bsv_schedule.specs.relating.Relating.{feed_edges}
 use Rattle.bsv_schedule.specs.stopping.Stops.{AreStops}
-use Rattle.bsv_schedule.specs.urgency.Orders.{Urges, UrgencyCycle}
+use Rattle.bsv_schedule.specs.urging.Orders.{Urges, UrgencyCycle}
 use Rattle.bsv_graph.specs.Walks.{IsAcyclic}
 use Rattle.bsv_schedule.proofs.Answering.{executes_or_refused, urges_or_declined, stops_exist, stops_one}
-use Rattle.bsv_schedule.specs.declared.execution.fault.OrderFault.{OrderFault}
-use Rattle.bsv_schedule.specs.declared.execution.fault.OrderFault.TheVariants as order
-use Rattle.bsv_schedule.specs.execution.Answers as executing
+use Rattle.bsv_schedule.specs.declared.executing.fault.OrderFault.{OrderFault}
+use Rattle.bsv_schedule.specs.declared.executing.fault.OrderFault.TheVariants as order
+use Rattle.bsv_schedule.specs.executing.Answers as executing
 use Rattle.bsv_schedule.proofs.OneExecution as execution
-use Rattle.bsv_schedule.specs.declared.urgency.fault.UrgencyFault.{UrgencyFault}
-use Rattle.bsv_schedule.specs.declared.urgency.fault.UrgencyFault.TheVariants as urgency
-use Rattle.bsv_schedule.specs.urgency.Answers as urging
+use Rattle.bsv_schedule.specs.declared.urging.fault.UrgencyFault.{UrgencyFault}
+use Rattle.bsv_schedule.specs.declared.urging.fault.UrgencyFault.TheVariants as urgency
+use Rattle.bsv_schedule.specs.urging.Answers as urging
 use Rattle.bsv_schedule.proofs.OneUrgency as urged
 use Rattle.bsv_attr.specs.declared.fault.AttrFault.{AttrFault}
 use Rattle.bsv_attr.specs.declared.fault.AttrFault.TheVariants.{NoImplicit, FireWhenEnabled}

@@ -16,16 +16,16 @@ use Rattle.bsv_design.specs.Sources.{parts_among}
 use Rattle.bsv_design.specs.Traces.{Site, Demand, with_dot}
 use Rattle.bsv_design.specs.Trees.{Hierarchy}
 use Rattle.bsv_schedule.specs.relating.Elements.{relating}
-use Rattle.bsv_schedule.specs.execution.Orders.{Executes}
+use Rattle.bsv_schedule.specs.executing.Orders.{Executes}
 use Rattle.bsv_schedule.specs.relating.Relating.{Relating}
 use Rattle.bsv_schedule.specs.stopping.Stops.{AreStops}
-use Rattle.bsv_schedule.specs.urgency.Orders.{Urges}
-use Rattle.bsv_schedule.specs.declared.execution.fault.OrderFault.{OrderFault}
-use Rattle.bsv_schedule.specs.declared.execution.fault.OrderFault.TheVariants as order
-use Rattle.bsv_schedule.specs.execution.Answers.{RefusesExecution}
-use Rattle.bsv_schedule.specs.declared.urgency.fault.UrgencyFault.{UrgencyFault}
-use Rattle.bsv_schedule.specs.declared.urgency.fault.UrgencyFault.TheVariants as urgency
-use Rattle.bsv_schedule.specs.urgency.Answers.{RefusesUrgency}
+use Rattle.bsv_schedule.specs.urging.Orders.{Urges}
+use Rattle.bsv_schedule.specs.declared.executing.fault.OrderFault.{OrderFault}
+use Rattle.bsv_schedule.specs.declared.executing.fault.OrderFault.TheVariants as order
+use Rattle.bsv_schedule.specs.executing.Answers.{RefusesExecution}
+use Rattle.bsv_schedule.specs.declared.urging.fault.UrgencyFault.{UrgencyFault}
+use Rattle.bsv_schedule.specs.declared.urging.fault.UrgencyFault.TheVariants as urgency
+use Rattle.bsv_schedule.specs.urging.Answers.{RefusesUrgency}
 use Rattle.bsv_attr.specs.Asserting.{IsAccepted, NamesImplicit, NamesStopper}
 use Rattle.bsv_attr.specs.Implicit.{demands_of}
 use Rattle.bsv_guard.specs.Lifted.{AreLifted}

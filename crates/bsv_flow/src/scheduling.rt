@@ -7,9 +7,9 @@ ghost use Rattle.bsv_design.specs.Schemes.{design_scheme, kinds_of, tree_scheme}
 ghost use Rattle.bsv_design.specs.Seen.{blueprint, hierarchy};
 ghost use Rattle.bsv_design.specs.Trees.{Hierarchy};
 ghost use Rattle.bsv_design.specs.declared.schedule.Schedule.{Schedule as TheSchedule};
-ghost use Rattle.bsv_schedule.specs.execution.Orders.{Executes};
+ghost use Rattle.bsv_schedule.specs.executing.Orders.{Executes};
 ghost use Rattle.bsv_schedule.specs.relating.Relating.{feed_edges};
-ghost use Rattle.bsv_schedule.specs.urgency.Orders.{Urges};
+ghost use Rattle.bsv_schedule.specs.urging.Orders.{Urges};
 ghost use Rattle.bsv_graph.specs.Walks.{IsAcyclic};
 ghost use Rattle.bsv_mux.specs.Hardware.{NetCarries};
 ghost use Rattle.bsv_mux.specs.Results.{KeepsResults};

@@ -7,12 +7,12 @@ use Rattle.std.specs.List.{range_with_len}
 use Rattle.std.specs.Prelude.{IsTrue, IsFalse, slice_get, Some}
 use Rattle.bsv_graph.specs.declared.edge.Edge.{Edge}
 use Rattle.bsv_graph.specs.Edges.{edges_where}
-use Rattle.bsv_schedule.specs.execution.Orders.{HasNeither, IsValueClash, NoValueClash, WireCycle, ValueClash, ExecutionCycle, Executes}
+use Rattle.bsv_schedule.specs.executing.Orders.{HasNeither, IsValueClash, NoValueClash, WireCycle, ValueClash, ExecutionCycle, Executes}
 use Rattle.bsv_graph.specs.Orders.{In, StandsBefore}
 use Rattle.bsv_graph.specs.Reaching.{AreWithin}
 use Rattle.bsv_schedule.specs.relating.Relating.{Relating, feed_edges, is_value_edge, value_edges, early_edges, hard_edges, soft_edges}
 use Rattle.bsv_schedule.specs.stopping.Stops.{Stops, Picks, AreStops}
-use Rattle.bsv_schedule.specs.urgency.Orders.{urgency_edges, UrgencyOrder, IsBehindRule, IsFirstRule, UrgencyCycle, MethodBehindRule, Urges}
+use Rattle.bsv_schedule.specs.urging.Orders.{urgency_edges, UrgencyOrder, IsBehindRule, IsFirstRule, UrgencyCycle, MethodBehindRule, Urges}
 use Rattle.bsv_graph.specs.Walks.{HasCycle, IsAcyclic, NoneCloses}
 use Rattle.bsv_graph.proofs.EdgeLemmas.{where_of}
 use Rattle.bsv_graph.proofs.LeastLemmas.{bool_cases}

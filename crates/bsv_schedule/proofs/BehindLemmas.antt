@@ -4,11 +4,11 @@ use Rattle.std.proofs.lemmas.List.{take_more, take_all, length-drop}
 use Rattle.std.specs.Prelude.{IsTrue, IsFalse, All}
 use Rattle.bsv_graph.specs.Orders.{In, StandsBefore}
 use Rattle.bsv_schedule.specs.relating.Relating.{Relating}
-use Rattle.bsv_schedule.specs.urgency.Orders.{IsBehindRule, NoneBehindRule, IsLeastBehindRule, IsFirstRule}
+use Rattle.bsv_schedule.specs.urging.Orders.{IsBehindRule, NoneBehindRule, IsLeastBehindRule, IsFirstRule}
 use Rattle.bsv_graph.proofs.LeastLemmas.{in_parts}
 use Rattle.bsv_graph.proofs.OrderedLemmas.{before_in}
 use Rattle.bsv_graph.proofs.WalkLemmas.{false_not}
-use Rattle.bsv_schedule.specs.urgency.Acting.{IsActionIn, IsLeastActionIn, NoActionIn}
+use Rattle.bsv_schedule.specs.urging.Acting.{IsActionIn, IsLeastActionIn, NoActionIn}
 
 -- one more that is not the number
 pub not_in_more : (xs : List ℕ) (k d m : ℕ) → k < length xs → ¬ In (take k xs) m → (get_or xs k d ≡ m → ⊥) → ¬ In (take (k + 1) xs) m

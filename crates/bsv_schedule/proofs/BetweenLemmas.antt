@@ -9,7 +9,7 @@ use Rattle.bsv_graph.proofs.EdgeLemmas.{where_has, where_of}
 use Rattle.bsv_schedule.proofs.ValueLemmas.{lt_true, true_lt}
 use Rattle.bsv_schedule.proofs.Truths.{and_both, both_and}
 use Rattle.bsv_graph.proofs.WalkLemmas.{edge_parts, edge_left, edge_right}
-use Rattle.bsv_schedule.specs.execution.Between.{edge_between, edges_between}
+use Rattle.bsv_schedule.specs.executing.Between.{edge_between, edges_between}
 
 -- the edges of a value method, as its tests say
 pub record TouchesAt (r : Relating) (v a b : ℕ) : Type 0 where

@@ -6,12 +6,12 @@ use Rattle.std.proofs.lemmas.Option.{same_Some}
 use Rattle.bsv_design.specs.declared.tree.Pair.{Pair}
 use Rattle.bsv_graph.specs.Orders.{In}
 use Rattle.bsv_schedule.specs.relating.Relating.{Relating, feed_edges}
-use Rattle.bsv_schedule.specs.urgency.Orders.{IsLeastBehindRule, IsFirstRule, UrgencyOrder, MethodBehindRule, Urges}
+use Rattle.bsv_schedule.specs.urging.Orders.{IsLeastBehindRule, IsFirstRule, UrgencyOrder, MethodBehindRule, Urges}
 use Rattle.bsv_graph.proofs.GraphLemmas.{closes_one}
 use Rattle.bsv_graph.proofs.OrderedLemmas.{least_one}
-use Rattle.bsv_schedule.specs.declared.urgency.fault.UrgencyFault.{UrgencyFault}
-use Rattle.bsv_schedule.specs.declared.urgency.fault.UrgencyFault.TheVariants as fault
-use Rattle.bsv_schedule.specs.urgency.Answers.{RefusesUrgency, IsUrgencyAnswer, IsUrgencyUnlessMemory, urging_pairs}
+use Rattle.bsv_schedule.specs.declared.urging.fault.UrgencyFault.{UrgencyFault}
+use Rattle.bsv_schedule.specs.declared.urging.fault.UrgencyFault.TheVariants as fault
+use Rattle.bsv_schedule.specs.urging.Answers.{RefusesUrgency, IsUrgencyAnswer, IsUrgencyUnlessMemory, urging_pairs}
 
 pair_one : (ps : List Pair) (k l : ℕ) (p q : Pair) → k ≡ l → slice_get ps k ≡ Some p → slice_get ps l ≡ Some q → p ≡ q
 pair_one ps k l p q e x y = same_Some p q (sym x ∙ (ap (slice_get ps) e ∙ y))

@@ -8,8 +8,8 @@ use Rattle.bsv_graph.proofs.LeastLemmas.{in_right, once_apart, bool_cases}
 use Rattle.bsv_graph.proofs.OrderedLemmas.{least_one, keeps_one, keeps_has, respects_split, respects_before, either_before, split_before, before_in, place_before}
 use Rattle.bsv_graph.proofs.WalkLemmas.{edge_left, edge_right}
 use Rattle.bsv_schedule.specs.relating.Relating.{Relating, Agrees, feed_edges, value_edges, early_edges, hard_edges}
-use Rattle.bsv_schedule.specs.execution.Orders.{ExecutionOrder}
-use Rattle.bsv_schedule.specs.urgency.Orders.{urgency_edges, UrgencyOrder}
+use Rattle.bsv_schedule.specs.executing.Orders.{ExecutionOrder}
+use Rattle.bsv_schedule.specs.urging.Orders.{urgency_edges, UrgencyOrder}
 use Rattle.bsv_schedule.specs.stopping.Stops.{Stops, Ordered}
 
 pub execution_one : (r : Relating) (xs ys : List ℕ) → ExecutionOrder r xs → ExecutionOrder r ys → xs ≡ ys

@@ -1,4 +1,4 @@
 pub mod relating
-pub mod execution
-pub mod urgency
+pub mod executing
+pub mod urging
 pub mod stopping

@@ -1,7 +1,7 @@
 ghost use Rattle.std.specs.Prelude.{◌≡◌, ℕ, ◌<◌, ◌⊎◌, List, length, Result};
 ghost use Rattle.bsv_design.specs.declared.tree.Pair.{Pair};
 ghost use Rattle.bsv_graph.specs.declared.edge.Edge.{Edge};
-ghost use Rattle.bsv_schedule.specs.execution.Orders.{
+ghost use Rattle.bsv_schedule.specs.executing.Orders.{
   ExecutionOrder,
   WireCycle,
   ValueClash,
@@ -11,17 +11,17 @@ ghost use Rattle.bsv_schedule.specs.execution.Orders.{
 ghost use Rattle.bsv_graph.specs.Orders.{IsLeastOrder, StandsBefore};
 ghost use Rattle.bsv_schedule.specs.relating.Relating.{Relating, Agrees, feed_edges};
 ghost use Rattle.bsv_schedule.specs.stopping.Stops.{AreStops, Ordered};
-ghost use Rattle.bsv_schedule.specs.urgency.Orders.{
+ghost use Rattle.bsv_schedule.specs.urging.Orders.{
   UrgencyOrder,
   UrgencyCycle,
   MethodBehindRule,
   Urges,
 };
 ghost use Rattle.bsv_graph.specs.Walks.{HasEdge, IsAcyclic};
-ghost use Rattle.bsv_schedule.specs.declared.execution.fault.OrderFault.{OrderFault};
-ghost use Rattle.bsv_schedule.specs.declared.urgency.fault.UrgencyFault.{UrgencyFault};
-ghost use Rattle.bsv_schedule.specs.execution.Answers.{IsExecutionAnswer};
-ghost use Rattle.bsv_schedule.specs.urgency.Answers.{IsUrgencyAnswer};
+ghost use Rattle.bsv_schedule.specs.declared.executing.fault.OrderFault.{OrderFault};
+ghost use Rattle.bsv_schedule.specs.declared.urging.fault.UrgencyFault.{UrgencyFault};
+ghost use Rattle.bsv_schedule.specs.executing.Answers.{IsExecutionAnswer};
+ghost use Rattle.bsv_schedule.specs.urging.Answers.{IsUrgencyAnswer};
 
 /// There is at most one least order, and so one execution order and one urgency order; and where these are given, each
 /// element stops the same others.
