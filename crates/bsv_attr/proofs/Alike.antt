@@ -8,13 +8,14 @@ use Rattle.bsv_design.specs.declared.tree.Attribute.{Attribute}
 use Rattle.bsv_design.specs.Relations.{goes, for_all, may_precede, no_answers}
 use Rattle.bsv_design.specs.Schemes.{Scheme, Asking, Look, AreAlike, answers, filled, given, ports_of, ready, seen, all_hold, all_open}
 use Rattle.bsv_design.specs.Traces.{Trace}
-use Rattle.bsv_graph.specs.Relating.{Relating}
-use Rattle.bsv_graph.specs.Stops.{Stops}
+use Rattle.bsv_schedule.specs.relating.Relating.{Relating}
+use Rattle.bsv_schedule.specs.stopping.Stops.{Stops}
 use Rattle.bsv_attr.specs.Asserting.{IsExplicit, IsUnstopped, IsAccepted, NamesImplicit, NamesStopper}
 use Rattle.bsv_attr.specs.Implicit.{are_implicit, has_name, has_guard, IsFirstTrue, NoneTrue}
 use Rattle.bsv_attr.specs.Marks.{IsMarked, IsPaired}
-use Rattle.bsv_attr.specs.Obeying.{StopsIn, own, Obeys}
-use Rattle.bsv_graph.specs.Elements.{relating}
+use Rattle.bsv_attr.specs.Obeying.{own, Obeys}
+use Rattle.bsv_schedule.specs.stopping.Firing.{StopsIn}
+use Rattle.bsv_schedule.specs.relating.Elements.{relating}
 
 -- ---- stops
 

@@ -22,18 +22,19 @@ use Rattle.bsv_design.specs.Kinds.{kind_laws}
 use Rattle.bsv_design.specs.Schemes.{Scheme, Look, Asking, design_scheme, kinds_of, trace_of, answers, given, seen, ready, guard_of, is_open, required, all_hold, all_open}
 use Rattle.bsv_design.specs.Traces.{Trace, kind_at, site_at, demand_at, body_trace}
 use Rattle.bsv_prim.specs.declared.part.Part.{Part}
-use Rattle.bsv_graph.specs.ExecutionOrders.{ExecutionOrder}
+use Rattle.bsv_schedule.specs.executing.Orders.{ExecutionOrder}
 use Rattle.bsv_graph.specs.Orders.{In, StandsBefore}
-use Rattle.bsv_graph.specs.Relating.{Relating, Agrees}
-use Rattle.bsv_graph.specs.Stops.{Stops, Picks, AreStops}
-use Rattle.bsv_graph.specs.UrgencyOrders.{UrgencyOrder}
+use Rattle.bsv_schedule.specs.relating.Relating.{Relating, Agrees}
+use Rattle.bsv_schedule.specs.stopping.Stops.{Stops, Picks, AreStops}
+use Rattle.bsv_schedule.specs.urging.Orders.{UrgencyOrder}
 use Rattle.bsv_graph.specs.Walks.{HasEdge}
 use Rattle.bsv_attr.specs.Asserting.{IsAccepted}
 use Rattle.bsv_attr.specs.Calling.{condition_named, call_guarded, implicit_places}
 use Rattle.bsv_attr.specs.Implicit.{NoneTrue, are_implicit}
 use Rattle.bsv_attr.specs.Marks.{IsPaired}
-use Rattle.bsv_attr.specs.Obeying.{StopsIn, OthersAreStopped, own, Obeys}
-use Rattle.bsv_graph.specs.Elements.{relating, edge_of, edges_of, is_ordering, is_urging, is_preempting, preempts}
+use Rattle.bsv_attr.specs.Obeying.{own, Obeys}
+use Rattle.bsv_schedule.specs.stopping.Firing.{StopsIn, OthersAreStopped}
+use Rattle.bsv_schedule.specs.relating.Elements.{relating, edge_of, edges_of, is_ordering, is_urging, is_preempting, preempts}
 use Rattle.bsv_attr.specs.Stopping.{ListStops}
 use Rattle.bsv_attr.proofs.Elements.{implicit_is}
 use Rattle.bsv_attr.proofs.Stoppers.{in_cases}

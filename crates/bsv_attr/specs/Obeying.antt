@@ -6,23 +6,9 @@ use Rattle.bsv_design.specs.declared.tree.Attribute.TheVariants as attribute
 use Rattle.bsv_design.specs.Schemes.{Scheme, Asking, Look, ready, seen, all_hold}
 use Rattle.bsv_design.specs.Traces.{Demand}
 use Rattle.bsv_graph.specs.Orders.{In, StandsBefore}
-use Rattle.bsv_graph.specs.Stops.{Stops}
+use Rattle.bsv_schedule.specs.stopping.Firing.{NoMemberStops, OthersAreStopped}
 use Rattle.bsv_attr.specs.Implicit.{has_name}
 use Rattle.bsv_attr.specs.Marks.{IsMarked, IsPaired}
-use Rattle.bsv_graph.specs.Elements.{relating}
-
--- a stops b in the schedule
-abbrev pub StopsIn : Scheme → Schedule → ℕ → ℕ → Type 0
-StopsIn S s a b = Stops (relating S) s.execution s.urgency a b
-
--- no member of the list stops another one
-abbrev pub NoMemberStops : Scheme → Schedule → List ℕ → Type 0
-NoMemberStops S s fired = (a b : ℕ) → In fired a → In fired b → ¬ StopsIn S s a b
-
--- what is ready and no member is stopped by a member
-abbrev pub OthersAreStopped : Scheme → Schedule → (ℕ → Bool) → List ℕ → Type 0
-OthersAreStopped S s is_ready fired =
-    (n : ℕ) → ¬ In fired n → is_ready n ≡ true → (f : ℕ) × In fired f × StopsIn S s f n
 
 -- the conditions that are the element's own, and of no method of a module
 abbrev pub own : List Demand → List Demand

@@ -2,18 +2,18 @@ ghost use Rattle.std.specs.Prelude.{◌≡◌, ◌↔◌, ℕ, Result};
 ghost use Rattle.bsv_attr.specs.declared.fault.AttrFault.{AttrFault};
 ghost use Rattle.bsv_attr.specs.Asserting.{IsAccepted, IsAnswer, NamesImplicit, NamesStopper};
 ghost use Rattle.bsv_attr.specs.Obeying.{Obeys};
-ghost use Rattle.bsv_graph.specs.Elements.{relating};
+ghost use Rattle.bsv_schedule.specs.relating.Elements.{relating};
 ghost use Rattle.bsv_attr.specs.Stopping.{ListStops};
 ghost use Rattle.bsv_design.specs.declared.schedule.Schedule.{Schedule};
 ghost use Rattle.bsv_design.specs.Designs.{Blueprint};
 ghost use Rattle.bsv_design.specs.Schemes.{Scheme, AreAlike, design_scheme};
-ghost use Rattle.bsv_graph.specs.ExecutionOrders.{ExecutionOrder};
+ghost use Rattle.bsv_schedule.specs.executing.Orders.{ExecutionOrder};
 ghost use Rattle.bsv_graph.specs.Orders.{In};
-ghost use Rattle.bsv_graph.specs.Relating.{Relating, Agrees};
-ghost use Rattle.bsv_graph.specs.Stops.{Stops, AreStops};
-ghost use Rattle.bsv_graph.specs.UrgencyOrders.{UrgencyOrder};
+ghost use Rattle.bsv_schedule.specs.relating.Relating.{Relating, Agrees};
+ghost use Rattle.bsv_schedule.specs.stopping.Stops.{Stops, AreStops};
+ghost use Rattle.bsv_schedule.specs.urging.Orders.{UrgencyOrder};
 
-use bsv_graph::obeyed as pairs_obeyed;
+use bsv_schedule::obeyed as pairs_obeyed;
 
 /// Whatever a schedule is, the marks of a scheme have one answer.
 pub fn answered()

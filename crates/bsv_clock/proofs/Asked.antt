@@ -8,7 +8,7 @@ use Rattle.bsv_design.specs.Schemes.{Scheme, Asking, Called, Look, answers, seen
 use Rattle.bsv_design.specs.Serial.{by_rank}
 use Rattle.bsv_design.specs.States.{emptied}
 use Rattle.bsv_design.specs.Traces.{Trace}
-use Rattle.bsv_graph.specs.Elements.{relating}
+use Rattle.bsv_schedule.specs.relating.Elements.{relating}
 use Rattle.bsv_guard.specs.Sound.{IsSound}
 use Rattle.bsv_guard.proofs.Keeps.{sound_keeps}
 use Rattle.bsv_clock.specs.Clocks.{may_fire}

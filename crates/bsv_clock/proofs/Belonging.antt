@@ -15,14 +15,15 @@ use Rattle.bsv_design.specs.Roles.{is_rule, is_value}
 use Rattle.bsv_design.specs.Schemes.{Scheme, Outline, Asking, AreAlike, design_scheme, outline, ports_of, given}
 use Rattle.bsv_design.specs.Seen.{blueprint}
 use Rattle.bsv_design.specs.States.{FitsKinds, AreWordsOf}
-use Rattle.bsv_graph.specs.Elements.{relating, has_role, edges_of, is_ordering, is_urging, preempts, is_preempting}
-use Rattle.bsv_graph.specs.ExecutionOrders.{Executes}
-use Rattle.bsv_graph.specs.Relating.{Relating, Agrees}
-use Rattle.bsv_graph.specs.Stops.{AreStops}
-use Rattle.bsv_graph.specs.UrgencyOrders.{Urges}
-use Rattle.bsv_graph.specs.Uses.{Among}
-use Rattle.bsv_graph.proofs.RelationsLemmas.{agrees_design}
-use Rattle.bsv_graph.proofs.UsesLemmas.{and_both, same_number, any_of}
+use Rattle.bsv_schedule.specs.relating.Elements.{relating, has_role, edges_of, is_ordering, is_urging, preempts, is_preempting}
+use Rattle.bsv_schedule.specs.executing.Orders.{Executes}
+use Rattle.bsv_schedule.specs.relating.Relating.{Relating, Agrees}
+use Rattle.bsv_schedule.specs.stopping.Stops.{AreStops}
+use Rattle.bsv_schedule.specs.urging.Orders.{Urges}
+use Rattle.bsv_schedule.specs.relating.Uses.{Among}
+use Rattle.bsv_schedule.proofs.RelationsLemmas.{agrees_design}
+use Rattle.bsv_schedule.proofs.UsesLemmas.{same_number, any_of}
+use Rattle.bsv_schedule.proofs.Truths.{and_both}
 use Rattle.bsv_guard.specs.ElementLaws.{DoTheSame}
 use Rattle.bsv_guard.proofs.Alike.{alike}
 use Rattle.bsv_guard.proofs.DesignFits.{design_is_fitting}

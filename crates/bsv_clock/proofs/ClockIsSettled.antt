@@ -9,7 +9,7 @@ use Rattle.bsv_design.specs.Bodies.{Target}
 use Rattle.bsv_design.specs.Schemes.{Scheme, Asking, Called, Look, ready, calls}
 use Rattle.bsv_design.specs.Serial.{by_rank}
 use Rattle.bsv_design.specs.States.{emptied, after_calls}
-use Rattle.bsv_graph.specs.Elements.{relating}
+use Rattle.bsv_schedule.specs.relating.Elements.{relating}
 use Rattle.bsv_guard.specs.ElementLaws.{IsUse}
 use Rattle.bsv_guard.proofs.Keeps.{sound_keeps}
 use Rattle.bsv_clock.specs.Clocks.{IsClock, is_in, may_fire, is_candidate}

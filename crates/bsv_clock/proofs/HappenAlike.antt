@@ -11,11 +11,11 @@ use Rattle.bsv_design.specs.Schemes.{Scheme, Outline, Asking, Called, AreAlike, 
 use Rattle.bsv_design.specs.Serial.{Serial, by_rank, made, run_whole}
 use Rattle.bsv_design.specs.States.{emptied, plain}
 use Rattle.bsv_graph.specs.Edges.{numbers_below}
-use Rattle.bsv_graph.specs.Relating.{Relating}
-use Rattle.bsv_graph.specs.Stops.{Stops}
+use Rattle.bsv_schedule.specs.relating.Relating.{Relating}
+use Rattle.bsv_schedule.specs.stopping.Stops.{Stops}
 use Rattle.bsv_guard.specs.ElementLaws.{DoTheSame}
 use Rattle.bsv_guard.proofs.Alike.{alike, alike_back}
-use Rattle.bsv_attr.specs.Obeying.{StopsIn}
+use Rattle.bsv_schedule.specs.stopping.Firing.{StopsIn}
 use Rattle.bsv_clock.specs.Clocks.{IsClock, is_in, is_asked, may_fire, may_fire_as, is_candidate}
 use Rattle.bsv_clock.specs.Events.{IsFirstStopper, Happens, stopped_in, blocked_in, gives, results_in_turn}
 use Rattle.bsv_clock.specs.Looks.{look_after, calls_in_turn, clock_look}

@@ -11,7 +11,7 @@ use Rattle.bsv_design.specs.States.{FitsKinds, opening, emptied}
 use Rattle.bsv_graph.specs.Orders.{IsOnce, StandsBefore}
 use Rattle.bsv_graph.proofs.OrderedLemmas.{place_before}
 use Rattle.bsv_guard.specs.Fitting.{RequestFits}
-use Rattle.bsv_attr.specs.Obeying.{StopsIn}
+use Rattle.bsv_schedule.specs.stopping.Firing.{StopsIn}
 use Rattle.bsv_clock.specs.Events.{IsFirstStopper, Happens, TellAlike, stopped_in, blocked_in, results_in_turn}
 use Rattle.bsv_clock.specs.Feeding.{IsFed}
 use Rattle.bsv_clock.specs.Grounds.{BelongTogether, IsLawful, IsScheduleOf}

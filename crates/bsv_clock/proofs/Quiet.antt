@@ -14,17 +14,17 @@ use Rattle.bsv_design.specs.Relations.{goes, for_all, may_precede, may_precede_o
 use Rattle.bsv_design.specs.Roles.{is_rule, is_value}
 use Rattle.bsv_design.specs.Schemes.{Scheme, Outline, filled, ports_of}
 use Rattle.bsv_design.specs.Traces.{Site, acts, kind_at}
-use Rattle.bsv_graph.specs.Elements.{relating, has_role}
+use Rattle.bsv_schedule.specs.relating.Elements.{relating, has_role}
 use Rattle.bsv_graph.specs.Orders.{In, IsOrderOf, StandsBefore}
-use Rattle.bsv_graph.specs.Relating.{Relating, value_edges, early_edges, feed_edges, is_value_edge, is_one_value, goes_only, value_of}
-use Rattle.bsv_graph.specs.Stops.{Clash}
+use Rattle.bsv_schedule.specs.relating.Relating.{Relating, value_edges, early_edges, feed_edges, is_value_edge, is_one_value, goes_only, value_of}
+use Rattle.bsv_schedule.specs.stopping.Stops.{Clash}
 use Rattle.bsv_graph.proofs.EdgeLemmas.{where_has}
 use Rattle.bsv_graph.proofs.OrderedLemmas.{before_in, place_before, keeps_has, respects_before}
 use Rattle.bsv_graph.proofs.WalkLemmas.{edge_left, edge_right}
 use Rattle.bsv_guard.specs.Sound.{IsSound}
 use Rattle.bsv_guard.proofs.Given.{length-filled}
 use Rattle.bsv_guard.proofs.Lists.{item_of}
-use Rattle.bsv_attr.specs.Obeying.{StopsIn}
+use Rattle.bsv_schedule.specs.stopping.Firing.{StopsIn}
 use Rattle.bsv_clock.specs.Grounds.{IsScheduleOf}
 use Rattle.bsv_clock.specs.Settling.{stops_in}
 use Rattle.bsv_clock.specs.Values.{IsValueMethod, AreQuiet}

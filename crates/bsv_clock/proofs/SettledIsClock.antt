@@ -8,11 +8,11 @@ use Rattle.bsv_design.specs.Bodies.{Target}
 use Rattle.bsv_design.specs.Schemes.{Scheme, Asking, Called, ready, calls}
 use Rattle.bsv_design.specs.Serial.{Serial, by_rank}
 use Rattle.bsv_design.specs.States.{emptied, after_calls}
-use Rattle.bsv_graph.specs.Elements.{relating}
+use Rattle.bsv_schedule.specs.relating.Elements.{relating}
 use Rattle.bsv_graph.specs.Orders.{In}
 use Rattle.bsv_guard.specs.ElementLaws.{IsUse}
 use Rattle.bsv_guard.proofs.Keeps.{sound_keeps}
-use Rattle.bsv_attr.specs.Obeying.{StopsIn}
+use Rattle.bsv_schedule.specs.stopping.Firing.{StopsIn}
 use Rattle.bsv_clock.specs.Clocks.{IsClock, is_in, may_fire, is_candidate}
 use Rattle.bsv_clock.specs.Events.{results_in_turn, results_under}
 use Rattle.bsv_clock.specs.Grounds.{IsLawful, IsScheduleOf, Fit}

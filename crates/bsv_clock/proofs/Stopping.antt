@@ -6,12 +6,13 @@ use Rattle.std.proofs.lemmas.Option.{slice_get_past}
 use Rattle.bsv_design.specs.declared.schedule.Schedule.{Schedule}
 use Rattle.bsv_design.specs.Relations.{feeds}
 use Rattle.bsv_design.specs.Schemes.{Scheme}
-use Rattle.bsv_graph.specs.Elements.{relating}
+use Rattle.bsv_schedule.specs.relating.Elements.{relating}
 use Rattle.bsv_graph.specs.Orders.{In, IsOrderOf, place_of}
-use Rattle.bsv_graph.specs.Stops.{Picks, Ordered}
+use Rattle.bsv_schedule.specs.stopping.Stops.{Picks, Ordered}
 use Rattle.bsv_graph.proofs.EdgeLemmas.{within_all}
-use Rattle.bsv_graph.proofs.OrderedLemmas.{ordered_holds, before_in}
-use Rattle.bsv_attr.specs.Obeying.{StopsIn}
+use Rattle.bsv_graph.proofs.OrderedLemmas.{before_in}
+use Rattle.bsv_schedule.proofs.OrderLaws.{ordered_holds}
+use Rattle.bsv_schedule.specs.stopping.Firing.{StopsIn}
 use Rattle.bsv_clock.specs.Clocks.{is_in}
 use Rattle.bsv_clock.specs.Grounds.{IsScheduleOf}
 use Rattle.bsv_clock.specs.Settling.{Doing, fires, or_no_numbers, stops_in, is_stopped}

@@ -12,12 +12,12 @@ use Rattle.bsv_design.specs.Schemes.{Scheme, Asking, Called, Look, ready, calls,
 use Rattle.bsv_design.specs.Serial.{Serial, done, by_rank, run_whole}
 use Rattle.bsv_design.specs.Serial as serial
 use Rattle.bsv_design.specs.States.{emptied, plain, after_calls}
-use Rattle.bsv_graph.specs.Elements.{relating}
+use Rattle.bsv_schedule.specs.relating.Elements.{relating}
 use Rattle.bsv_graph.specs.Orders.{In}
 use Rattle.bsv_graph.proofs.LeastLemmas.{in_left, in_right, once_apart}
 use Rattle.bsv_guard.specs.ElementLaws.{IsUse, ActsAlike}
 use Rattle.bsv_guard.proofs.Keeps.{sound_keeps}
-use Rattle.bsv_attr.specs.Obeying.{StopsIn}
+use Rattle.bsv_schedule.specs.stopping.Firing.{StopsIn}
 use Rattle.bsv_clock.specs.Events.{gives, results_in_turn, results_under}
 use Rattle.bsv_clock.specs.Grounds.{IsLawful, IsScheduleOf, Fit}
 use Rattle.bsv_clock.specs.Looks.{look_after, calls_in_turn, clock_look}

@@ -9,7 +9,7 @@ use Rattle.bsv_design.specs.Schemes.{Scheme, Outline, Asking, ready}
 use Rattle.bsv_design.specs.Serial.{Serial}
 use Rattle.bsv_design.specs.States.{emptied}
 use Rattle.bsv_graph.specs.Orders.{In}
-use Rattle.bsv_attr.specs.Obeying.{NoMemberStops, OthersAreStopped}
+use Rattle.bsv_schedule.specs.stopping.Firing.{NoMemberStops, OthersAreStopped}
 use Rattle.bsv_clock.specs.Looks.{clock_look}
 
 -- the number is in the list

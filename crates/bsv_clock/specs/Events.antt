@@ -11,7 +11,7 @@ use Rattle.bsv_design.specs.Serial.{run_whole}
 use Rattle.bsv_design.specs.States.{emptied, plain}
 use Rattle.bsv_graph.specs.Edges.{numbers_below}
 use Rattle.bsv_graph.specs.Orders.{In, StandsBefore}
-use Rattle.bsv_attr.specs.Obeying.{StopsIn}
+use Rattle.bsv_schedule.specs.stopping.Firing.{StopsIn}
 use Rattle.bsv_clock.specs.Clocks.{IsClock, is_in, is_asked, is_candidate}
 use Rattle.bsv_clock.specs.Looks.{clock_look}
 

@@ -5,11 +5,11 @@ use Rattle.bsv_design.specs.declared.schedule.Schedule.{Schedule}
 use Rattle.bsv_design.specs.Relations.{KeepsTheRule}
 use Rattle.bsv_design.specs.Schemes.{Scheme, Asking}
 use Rattle.bsv_design.specs.States.{FitsKinds}
-use Rattle.bsv_graph.specs.Elements.{relating}
-use Rattle.bsv_graph.specs.ExecutionOrders.{Executes}
-use Rattle.bsv_graph.specs.Relating.{Relating, Agrees}
-use Rattle.bsv_graph.specs.Stops.{AreStops}
-use Rattle.bsv_graph.specs.UrgencyOrders.{Urges}
+use Rattle.bsv_schedule.specs.relating.Elements.{relating}
+use Rattle.bsv_schedule.specs.executing.Orders.{Executes}
+use Rattle.bsv_schedule.specs.relating.Relating.{Relating, Agrees}
+use Rattle.bsv_schedule.specs.stopping.Stops.{AreStops}
+use Rattle.bsv_schedule.specs.urging.Orders.{Urges}
 use Rattle.bsv_guard.specs.Fitting.{RequestFits, IsFitting}
 use Rattle.bsv_guard.specs.Sound.{IsSound}
 

@@ -7,8 +7,8 @@ ghost use Rattle.bsv_design.specs.Schemes.{Scheme, Asking, AreAlike, design_sche
 ghost use Rattle.bsv_design.specs.States.{emptied};
 ghost use Rattle.bsv_design.specs.declared.fired.Fired.{Fired};
 ghost use Rattle.bsv_design.specs.declared.schedule.Schedule.{Schedule};
-ghost use Rattle.bsv_graph.specs.Elements.{relating};
-ghost use Rattle.bsv_graph.specs.Relating.{Agrees};
+ghost use Rattle.bsv_schedule.specs.relating.Elements.{relating};
+ghost use Rattle.bsv_schedule.specs.relating.Relating.{Agrees};
 ghost use Rattle.bsv_prim.specs.declared.part.Part.{Part};
 ghost use Rattle.bsv_clock.specs.Attributes.{ObeysInClock};
 ghost use Rattle.bsv_clock.specs.Carrying.{Carries, Cell, Given};

@@ -11,21 +11,21 @@ use Rattle.bsv_design.specs.Schemes.{tree_scheme}
 use Rattle.bsv_design.specs.Sources.{parts_among}
 use Rattle.bsv_design.specs.Traces.{Site}
 use Rattle.bsv_design.specs.Trees.{Hierarchy}
-use Rattle.bsv_graph.specs.Elements.{relating, edge_of, edges_of, is_urging}
-use Rattle.bsv_graph.specs.ExecutionOrders.{Executes, ExecutionCycle}
-use Rattle.bsv_graph.specs.Relating.{feed_edges}
-use Rattle.bsv_graph.specs.Stops.{AreStops}
-use Rattle.bsv_graph.specs.UrgencyOrders.{Urges, UrgencyCycle}
+use Rattle.bsv_schedule.specs.relating.Elements.{relating, edge_of, edges_of, is_urging}
+use Rattle.bsv_schedule.specs.executing.Orders.{Executes, ExecutionCycle}
+use Rattle.bsv_schedule.specs.relating.Relating.{feed_edges}
+use Rattle.bsv_schedule.specs.stopping.Stops.{AreStops}
+use Rattle.bsv_schedule.specs.urging.Orders.{Urges, UrgencyCycle}
 use Rattle.bsv_graph.specs.Walks.{IsAcyclic}
-use Rattle.bsv_graph.proofs.Answering.{executes_or_refused, urges_or_declined, stops_exist, stops_one}
-use Rattle.bsv_order.specs.declared.fault.OrderFault.{OrderFault}
-use Rattle.bsv_order.specs.declared.fault.OrderFault.TheVariants as order
-use Rattle.bsv_order.specs.Answers as executing
-use Rattle.bsv_order.proofs.AnswerLemmas as execution
-use Rattle.bsv_urgency.specs.declared.fault.UrgencyFault.{UrgencyFault}
-use Rattle.bsv_urgency.specs.declared.fault.UrgencyFault.TheVariants as urgency
-use Rattle.bsv_urgency.specs.Answers as urging
-use Rattle.bsv_urgency.proofs.AnswerLemmas as urged
+use Rattle.bsv_schedule.proofs.Answering.{executes_or_refused, urges_or_declined, stops_exist, stops_one}
+use Rattle.bsv_schedule.specs.declared.executing.fault.OrderFault.{OrderFault}
+use Rattle.bsv_schedule.specs.declared.executing.fault.OrderFault.TheVariants as order
+use Rattle.bsv_schedule.specs.executing.Answers as executing
+use Rattle.bsv_schedule.proofs.OneExecution as execution
+use Rattle.bsv_schedule.specs.declared.urging.fault.UrgencyFault.{UrgencyFault}
+use Rattle.bsv_schedule.specs.declared.urging.fault.UrgencyFault.TheVariants as urgency
+use Rattle.bsv_schedule.specs.urging.Answers as urging
+use Rattle.bsv_schedule.proofs.OneUrgency as urged
 use Rattle.bsv_attr.specs.declared.fault.AttrFault.{AttrFault}
 use Rattle.bsv_attr.specs.declared.fault.AttrFault.TheVariants.{NoImplicit, FireWhenEnabled}
 use Rattle.bsv_attr.specs.Asserting.{IsAccepted, IsAnswer}
@@ -85,7 +85,7 @@ no_refusal r e = cc
 module _ (s : Subject) where
   -- ---- the execution order
 
-  order_answer : (r : Refusal) (u : IsUnexecuted s r) → executing.IsAnswer (related s) (Err u.fault)
+  order_answer : (r : Refusal) (u : IsUnexecuted s r) → executing.IsExecutionAnswer (related s) (Err u.fault)
   order_answer r u = (u.refuses, λ (e : u.fault ≡ order.OutOfMemory). no_refusal r (sym (ap (order_told s) e) ∙ u.told))
 
   pub one_unexecuted : (r t : Refusal) → IsUnexecuted s r → IsUnexecuted s t → r ≡ t
@@ -101,7 +101,7 @@ module _ (s : Subject) where
 
   -- ---- the urgency order
 
-  urgency_answer : (r : Refusal) (u : IsUnurged s r) → urging.IsAnswer (related s) s.scheme.pairs (Err u.fault)
+  urgency_answer : (r : Refusal) (u : IsUnurged s r) → urging.IsUrgencyAnswer (related s) s.scheme.pairs (Err u.fault)
   urgency_answer r u = (u.declines, λ (e : u.fault ≡ urgency.OutOfMemory). no_refusal r (sym (ap (urgency_told s) e) ∙ u.told))
 
   pub one_unurged : (r t : Refusal) → IsUnurged s r → IsUnurged s t → r ≡ t
@@ -152,7 +152,7 @@ module _ (s : Subject) where
 
   -- ---- there is an answer
 
-  unexecuted_by : (fault : OrderFault) (r : Refusal) → executing.Refuses (related s) fault → order_told s fault ≡ Some r → (t : Refusal) × IsUnexecuted s t
+  unexecuted_by : (fault : OrderFault) (r : Refusal) → executing.RefusesExecution (related s) fault → order_told s fault ≡ Some r → (t : Refusal) × IsUnexecuted s t
   unexecuted_by fault r refuses told = (r, record { fault = fault; refuses = refuses; told = told })
 
   execution_cycle : (k : ℕ) → ExecutionCycle (related s) k → k < length (related s).ordering → (r : Refusal) × IsUnexecuted s r
@@ -170,7 +170,7 @@ module _ (s : Subject) where
     | inr (inr (inr x)) ↦ inr (execution_cycle x.0 x.1 x.2)
   ]
 
-  unurged_by : (fault : UrgencyFault) (r : Refusal) → urging.Refuses (related s) s.scheme.pairs fault → urgency_told s fault ≡ Some r → (t : Refusal) × IsUnurged s t
+  unurged_by : (fault : UrgencyFault) (r : Refusal) → urging.RefusesUrgency (related s) s.scheme.pairs fault → urgency_told s fault ≡ Some r → (t : Refusal) × IsUnurged s t
   unurged_by fault r declines told = (r, record { fault = fault; declines = declines; told = told })
 
   -- the urging edge of a place is that of a pair

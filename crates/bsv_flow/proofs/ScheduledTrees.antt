@@ -22,29 +22,29 @@ use Rattle.bsv_design.specs.Sources.{parts_among}
 use Rattle.bsv_design.specs.Traces.{Trace, body_trace, site_at, demand_at}
 use Rattle.bsv_design.specs.Trees.{Hierarchy}
 use Rattle.bsv_design.specs.Roles.{is_rule, is_value}
-use Rattle.bsv_graph.specs.Elements.{relating, has_role, edges_of, is_ordering, is_urging, preempts}
-use Rattle.bsv_graph.specs.ExecutionOrders.{Executes}
+use Rattle.bsv_schedule.specs.relating.Elements.{relating, has_role, edges_of, is_ordering, is_urging, preempts}
+use Rattle.bsv_schedule.specs.executing.Orders.{Executes}
 use Rattle.bsv_graph.specs.Orders.{IsOrderOf}
-use Rattle.bsv_graph.specs.Relating.{Relating}
-use Rattle.bsv_graph.specs.Stops.{AreStops}
-use Rattle.bsv_graph.specs.UrgencyOrders.{Urges}
+use Rattle.bsv_schedule.specs.relating.Relating.{Relating}
+use Rattle.bsv_schedule.specs.stopping.Stops.{AreStops}
+use Rattle.bsv_schedule.specs.urging.Orders.{Urges}
 use Rattle.bsv_guard.specs.Lifted.{AreLifted}
 use Rattle.bsv_guard.proofs.Alike as same
 use Rattle.bsv_guard.proofs.Given.{length-filled}
 use Rattle.bsv_inline.specs.Flattening.{top_name}
-use Rattle.bsv_order.specs.Answers.{Refuses}
-use Rattle.bsv_order.specs.declared.fault.OrderFault.{OrderFault}
-use Rattle.bsv_order.specs.declared.fault.OrderFault.TheVariants as order
-use Rattle.bsv_urgency.specs.Answers.{Refuses as Declines}
-use Rattle.bsv_urgency.specs.declared.fault.UrgencyFault.{UrgencyFault}
-use Rattle.bsv_urgency.specs.declared.fault.UrgencyFault.TheVariants as urgency
+use Rattle.bsv_schedule.specs.executing.Answers.{RefusesExecution}
+use Rattle.bsv_schedule.specs.declared.executing.fault.OrderFault.{OrderFault}
+use Rattle.bsv_schedule.specs.declared.executing.fault.OrderFault.TheVariants as order
+use Rattle.bsv_schedule.specs.urging.Answers.{RefusesUrgency}
+use Rattle.bsv_schedule.specs.declared.urging.fault.UrgencyFault.{UrgencyFault}
+use Rattle.bsv_schedule.specs.declared.urging.fault.UrgencyFault.TheVariants as urgency
 use Rattle.bsv_attr.specs.Asserting.{IsAccepted, NamesImplicit, NamesStopper}
 use Rattle.bsv_attr.specs.Implicit.{demands_of}
 use Rattle.bsv_attr.specs.Obeying.{Obeys}
 use Rattle.bsv_attr.proofs.Alike as marks
 use Rattle.bsv_attr.proofs.Attributes.{obeys}
-use Rattle.bsv_graph.proofs.OrderedLemmas.{ordering_before, urging_stands}
-use Rattle.bsv_graph.proofs.RelationsLemmas.{agrees_design}
+use Rattle.bsv_schedule.proofs.OrderLaws.{ordering_before, urging_stands}
+use Rattle.bsv_schedule.proofs.RelationsLemmas.{agrees_design}
 use Rattle.bsv_clock.specs.Carrying.{cell}
 use Rattle.bsv_clock.specs.Grounds.{IsScheduleOf, KeepsRules}
 use Rattle.bsv_clock.proofs.Belonging as belonging
@@ -148,11 +148,11 @@ own_pairs : (d : Design) → d.pairs ≡ (design_scheme (blueprint d)).pairs
 unfolding design_scheme
 own_pairs d = refl
 
-pub declined : (d : Design) (f : UrgencyFault) (r : Refusal) → Declines (related (design_subject d)) d.pairs f
+pub declined : (d : Design) (f : UrgencyFault) (r : Refusal) → RefusesUrgency (related (design_subject d)) d.pairs f
     → urgency_told (design_subject d) f ≡ Some r → IsUnurged (design_subject d) r
 declined d f r declines told = record {
   fault = f;
-  declines = subst (λ (ps : List Pair). Declines (related (design_subject d)) ps f) (own_pairs d) declines;
+  declines = subst (λ (ps : List Pair). RefusesUrgency (related (design_subject d)) ps f) (own_pairs d) declines;
   told = told;
 }
 
@@ -254,14 +254,14 @@ module _ (h : Hierarchy) (d : Design) (alike : AreAlike (tree_scheme h) (design_
   unexecuted_at : (r : Refusal) → IsUnexecuted (design_subject d) r → IsUnexecuted (subject h) r
   unexecuted_at r u = record {
     fault = u.fault;
-    refuses = subst (λ (x : Relating). Refuses x u.fault) relates_same u.refuses;
+    refuses = subst (λ (x : Relating). RefusesExecution x u.fault) relates_same u.refuses;
     told = sym (order_same u.fault) ∙ u.told;
   }
 
   unurged_at : (r : Refusal) → IsUnurged (design_subject d) r → IsUnurged (subject h) r
   unurged_at r u = record {
     fault = u.fault;
-    declines = subst (λ (x : Relating). Declines x S.pairs u.fault) relates_same (subst (λ (ps : List Pair). Declines (related (design_subject d)) ps u.fault) pairs_same u.declines);
+    declines = subst (λ (x : Relating). RefusesUrgency x S.pairs u.fault) relates_same (subst (λ (ps : List Pair). RefusesUrgency (related (design_subject d)) ps u.fault) pairs_same u.declines);
     told = sym (urgency_same u.fault) ∙ u.told;
   }
 

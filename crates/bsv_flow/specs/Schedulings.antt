@@ -15,17 +15,17 @@ use Rattle.bsv_design.specs.Seen.{blueprint}
 use Rattle.bsv_design.specs.Sources.{parts_among}
 use Rattle.bsv_design.specs.Traces.{Site, Demand, with_dot}
 use Rattle.bsv_design.specs.Trees.{Hierarchy}
-use Rattle.bsv_graph.specs.Elements.{relating}
-use Rattle.bsv_graph.specs.ExecutionOrders.{Executes}
-use Rattle.bsv_graph.specs.Relating.{Relating}
-use Rattle.bsv_graph.specs.Stops.{AreStops}
-use Rattle.bsv_graph.specs.UrgencyOrders.{Urges}
-use Rattle.bsv_order.specs.declared.fault.OrderFault.{OrderFault}
-use Rattle.bsv_order.specs.declared.fault.OrderFault.TheVariants as order
-use Rattle.bsv_order.specs.Answers.{Refuses}
-use Rattle.bsv_urgency.specs.declared.fault.UrgencyFault.{UrgencyFault}
-use Rattle.bsv_urgency.specs.declared.fault.UrgencyFault.TheVariants as urgency
-use Rattle.bsv_urgency.specs.Answers.{Refuses as Declines}
+use Rattle.bsv_schedule.specs.relating.Elements.{relating}
+use Rattle.bsv_schedule.specs.executing.Orders.{Executes}
+use Rattle.bsv_schedule.specs.relating.Relating.{Relating}
+use Rattle.bsv_schedule.specs.stopping.Stops.{AreStops}
+use Rattle.bsv_schedule.specs.urging.Orders.{Urges}
+use Rattle.bsv_schedule.specs.declared.executing.fault.OrderFault.{OrderFault}
+use Rattle.bsv_schedule.specs.declared.executing.fault.OrderFault.TheVariants as order
+use Rattle.bsv_schedule.specs.executing.Answers.{RefusesExecution}
+use Rattle.bsv_schedule.specs.declared.urging.fault.UrgencyFault.{UrgencyFault}
+use Rattle.bsv_schedule.specs.declared.urging.fault.UrgencyFault.TheVariants as urgency
+use Rattle.bsv_schedule.specs.urging.Answers.{RefusesUrgency}
 use Rattle.bsv_attr.specs.Asserting.{IsAccepted, NamesImplicit, NamesStopper}
 use Rattle.bsv_attr.specs.Implicit.{demands_of}
 use Rattle.bsv_guard.specs.Lifted.{AreLifted}
@@ -140,13 +140,13 @@ texts_in ps e = map (λ c. or_no_name c.implicit) e.conditions ++ map (call_text
 -- why there is no execution order
 pub record IsUnexecuted (s : Subject) (r : Refusal) : Type 0 where
   pub fault : OrderFault
-  pub refuses : Refuses (related s) fault
+  pub refuses : RefusesExecution (related s) fault
   pub told : order_told s fault ≡ Some r
 
 -- why there is no urgency order
 pub record IsUnurged (s : Subject) (r : Refusal) : Type 0 where
   pub fault : UrgencyFault
-  pub declines : Declines (related s) s.scheme.pairs fault
+  pub declines : RefusesUrgency (related s) s.scheme.pairs fault
   pub told : urgency_told s fault ≡ Some r
 
 -- why a mark is refused

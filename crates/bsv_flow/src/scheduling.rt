@@ -7,9 +7,9 @@ ghost use Rattle.bsv_design.specs.Schemes.{design_scheme, kinds_of, tree_scheme}
 ghost use Rattle.bsv_design.specs.Seen.{blueprint, hierarchy};
 ghost use Rattle.bsv_design.specs.Trees.{Hierarchy};
 ghost use Rattle.bsv_design.specs.declared.schedule.Schedule.{Schedule as TheSchedule};
-ghost use Rattle.bsv_graph.specs.ExecutionOrders.{Executes};
-ghost use Rattle.bsv_graph.specs.Relating.{feed_edges};
-ghost use Rattle.bsv_graph.specs.UrgencyOrders.{Urges};
+ghost use Rattle.bsv_schedule.specs.executing.Orders.{Executes};
+ghost use Rattle.bsv_schedule.specs.relating.Relating.{feed_edges};
+ghost use Rattle.bsv_schedule.specs.urging.Orders.{Urges};
 ghost use Rattle.bsv_graph.specs.Walks.{IsAcyclic};
 ghost use Rattle.bsv_mux.specs.Hardware.{NetCarries};
 ghost use Rattle.bsv_mux.specs.Results.{KeepsResults};
@@ -39,8 +39,7 @@ use bsv_design::{Design, Element, Guards, NamedPart, Pair, Schedule, Tree, path_
 use bsv_fire::add_fire;
 use bsv_mux::add_next;
 use bsv_net::Net;
-use bsv_order::{OrderFault, execution};
-use bsv_urgency::{UrgencyFault, schedule, urgency};
+use bsv_schedule::{OrderFault, UrgencyFault, execution, schedule, urgency};
 use bsv_vgen::generate;
 use bsv_vtext::VModule;
 use sqlite_items::Items;

@@ -6,8 +6,3 @@ pub mod LeastLemmas
 pub mod OrderedLemmas
 pub mod Deciding
 pub mod Existing
-pub mod ValueLemmas
-pub mod Answering
-pub mod UsesLemmas
-pub mod DesignLemmas
-pub mod RelationsLemmas

@@ -1,7 +1,7 @@
 use bsv_clock::{
     attributes, carried, fed, lawful, one_clock, one_run, settled, steady, value_methods,
 };
-use bsv_graph::{answered, obeyed, one_order, ordered};
+use bsv_schedule::{answered, obeyed, one_order, ordered};
 
 #[test]
 fn the_laws_can_be_called() {

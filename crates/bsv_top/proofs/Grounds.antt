@@ -16,10 +16,10 @@ use Rattle.bsv_design.specs.Seen.{blueprint}
 use Rattle.bsv_design.specs.States.{AreWordsOf, AskingFits, nothing_asked, opening}
 use Rattle.bsv_design.specs.Trees.{Hierarchy}
 use Rattle.bsv_design.proofs.Asked.{nothing_fits}
-use Rattle.bsv_graph.specs.ExecutionOrders.{Executes}
-use Rattle.bsv_graph.specs.Relating.{Relating}
-use Rattle.bsv_graph.specs.Stops.{AreStops}
-use Rattle.bsv_graph.specs.UrgencyOrders.{Urges}
+use Rattle.bsv_schedule.specs.executing.Orders.{Executes}
+use Rattle.bsv_schedule.specs.relating.Relating.{Relating}
+use Rattle.bsv_schedule.specs.stopping.Stops.{AreStops}
+use Rattle.bsv_schedule.specs.urging.Orders.{Urges}
 use Rattle.bsv_guard.specs.Fitting.{RequestFits}
 use Rattle.bsv_guard.proofs.Alike.{alike, alike_back}
 use Rattle.bsv_guard.proofs.DesignFits.{request_fits}

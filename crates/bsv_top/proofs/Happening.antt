@@ -14,7 +14,7 @@ use Rattle.bsv_design.specs.Serial.{run_whole}
 use Rattle.bsv_design.specs.States.{FitsKinds, emptied, plain}
 use Rattle.bsv_graph.specs.Edges.{numbers_below}
 use Rattle.bsv_graph.specs.Orders.{In, StandsBefore}
-use Rattle.bsv_attr.specs.Obeying.{StopsIn}
+use Rattle.bsv_schedule.specs.stopping.Firing.{StopsIn}
 use Rattle.bsv_clock.specs.Clocks.{IsClock, is_asked, is_in, is_candidate}
 use Rattle.bsv_clock.specs.Events.{Happens, IsFirstStopper, blocked_in, gives, results_in_turn, stopped_in}
 use Rattle.bsv_clock.specs.Grounds.{BelongTogether, IsLawful, IsScheduleOf}

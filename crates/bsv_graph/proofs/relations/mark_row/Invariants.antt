@@ -1,9 +1,0 @@
-use Rattle.std.proofs.Common.{◌≡◌, ◌<◌, map}
-use Rattle.std.specs.Prelude.{IsTrue}
-use Rattle.bsv_graph.specs.Table.{Adds}
-use Rattle.bsv_graph.specs.Uses.{meet_at}
-use Rattle.bsv_graph.proofs.relations.mark_row.Given as goal
-
-abbrev pub invariant-loop-b : goal.invariant-loop-b
-invariant-loop-b l =
-    Adds l.initial.table l.table (λ x y. (x ≡ l.a) × (y < l.b) × IsTrue (meet_at l.relation (map (λ p. p.kind) l.parts) l.usages l.a y))

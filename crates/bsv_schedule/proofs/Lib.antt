@@ -1,0 +1,14 @@
+pub mod Truths
+pub mod OrderLaws
+pub mod ValueLemmas
+pub mod Answering
+pub mod UsesLemmas
+pub mod DesignLemmas
+pub mod RelationsLemmas
+pub mod BetweenLemmas
+pub mod StageLemmas
+pub mod OneExecution
+pub mod BehindLemmas
+pub mod PlaceLemmas
+pub mod UrgencyLemmas
+pub mod OneUrgency

@@ -1,0 +1,289 @@
+-- The tables and lists that the code makes of a design are how its elements relate.
+use Rattle.std.proofs.Common.{◌≡◌, ◌∙◌, ℕ, ◌<◌, ◌⊎◌, inl, inr, Bool, true, false, not, ◌&&◌, List, [], ◌∷◌, ◌++◌, length, map, refl, zero, suc, sym, ap, subst, arith, Some, None, ltb-true}
+use Rattle.std.proofs.lemmas.Bool.{lt-ltb}
+use Rattle.std.proofs.lemmas.List.{length-map}
+use Rattle.std.proofs.lemmas.Option.{slice_get_within}
+use Rattle.bsv_bits.specs.declared.memory.OutOfMemory.{OutOfMemory}
+use Rattle.std.specs.Prelude.{IsTrue, IfOk, Result, Ok, Err, if◌then◌else◌, filter, nat_lt, ◌==◌, ◌↔◌, slice_get, Option}
+use Rattle.std.specs.List.{list_all, list_any, flat_map}
+use Rattle.bsv_design.specs.declared.design.Design.{Design}
+use Rattle.bsv_design.specs.declared.element.Element.{Element}
+use Rattle.bsv_design.specs.declared.kind.Kind.{Kind}
+use Rattle.bsv_design.specs.declared.tree.Attribute.{Attribute}
+use Rattle.bsv_design.specs.declared.tree.Attribute.TheVariants as attribute
+use Rattle.bsv_design.specs.declared.tree.Pair.{Pair}
+use Rattle.bsv_design.specs.Bodies.{Target, target}
+use Rattle.bsv_design.specs.Relations.{goes, feeds}
+use Rattle.bsv_design.specs.Roles.{is_value, is_rule}
+use Rattle.bsv_design.specs.Schemes.{Scheme, design_scheme, outline, kinds_of}
+use Rattle.bsv_design.specs.Seen.{blueprint}
+use Rattle.bsv_graph.specs.declared.edge.Edge.{Edge}
+use Rattle.bsv_schedule.specs.declared.relating.related.Relation.{Relation}
+use Rattle.bsv_schedule.specs.declared.relating.related.Relation.TheVariants as relation
+use Rattle.bsv_schedule.specs.declared.relating.relations.Relations.{Relations}
+use Rattle.bsv_graph.specs.declared.table.Table.{Table}
+use Rattle.bsv_schedule.specs.declared.relating.usage.Usage.{Usage}
+use Rattle.bsv_graph.specs.Edges.{AllBelow, edges_where, edges_from, numbers_below}
+use Rattle.bsv_schedule.specs.relating.Elements.{relating, edges_of, edge_of, is_urging, is_ordering, is_preempting, preempts, has_role}
+use Rattle.bsv_graph.specs.Orders.{In}
+use Rattle.bsv_schedule.specs.relating.Relating.{Agrees, feed_edges}
+use Rattle.bsv_schedule.specs.relating.Relations.{relating_of, marked}
+use Rattle.bsv_graph.specs.Table.{side_of, at}
+use Rattle.bsv_schedule.specs.relating.Uses.{Among, AreUsages, Meets, meet, meet_of, meet_at, used, pair_below}
+use Rattle.bsv_graph.specs.Walks.{HasEdge}
+use Rattle.bsv_schedule.proofs.DesignLemmas.{uses_some, uses_none, kinds_are, pairs_below}
+use Rattle.bsv_graph.proofs.EdgeLemmas.{all_within, in_below}
+use Rattle.bsv_schedule.proofs.Truths.{same_truths}
+use Rattle.bsv_schedule.proofs.UsesLemmas.{same_number, any_of, all_has, meet_meets, meets_meet, meets_same, goes_is, feeds_is}
+use Rattle.bsv_schedule.proofs.Truths.{and_both, both_and}
+
+-- ---- tables of elements that meet
+
+get_some : {X : Type 0} (xs : List X) (k : ℕ) → k < length xs → (x : X) × (slice_get xs k ≡ Some x)
+get_some [] k l = absurd (omega arith)
+get_some (x ∷ xs) zero l = (x, refl)
+get_some (x ∷ xs) (suc k) l = get_some xs k (omega arith)
+
+-- the scheme has these kinds, and these elements use what it says
+pub record IsSchemeOf (S : Scheme) (ks : List Kind) (es : List Element) : Type 0 where
+  pub kinds : S.kinds ≡ ks
+  pub some : (n : ℕ) (e : Element) → slice_get es n ≡ Some e → S.uses n ≡ map target e.calls
+  pub none : (n : ℕ) → slice_get es n ≡ None → S.uses n ≡ []
+
+module _ (S : Scheme) (ks : List Kind) (es : List Element) (us : List Usage) (scheme : IsSchemeOf S ks es) (are : AreUsages ks es us)
+    (w : Relation) (t : Table) (side : side_of t ≡ length us)
+    (marks : (a b : ℕ) → a < length us → b < length us → IsTrue (at t a b) ↔ IsTrue (meet_at w ks us a b)) where
+  uses_element : (n : ℕ) (x : Target) → Among (S.uses n) x → (e : Element) × (slice_get es n ≡ Some e)
+  uses_element n x h = of (slice_get es n) refl where
+    of : (o : Option Element) → slice_get es n ≡ o → (e : Element) × (slice_get es n ≡ Some e)
+    of None e = let k : Among [] x = subst (λ ts. Among ts x) (scheme.none n e) h in absurd k
+    of (Some e) is = (e, is)
+
+  -- where both elements stand, with what they use
+  at_both : (a b : ℕ) (u v : Usage) → slice_get us a ≡ Some u → slice_get us b ≡ Some v → meet_at w ks us a b ≡ meet w ks u v
+  at_both a b u v h k = ap (λ o. meet_of w ks o (slice_get us b)) h ∙ ap (λ o. meet_of w ks (Some u) o) k
+
+  pub marked_meets : (a b : ℕ) → IsTrue (marked t a b) → Meets w S.kinds (S.uses a) (S.uses b)
+  marked_meets a b h =
+      let p = and_both (nat_lt a (side_of t) && nat_lt b (side_of t)) (at t a b) h in
+      let q = and_both (nat_lt a (side_of t)) (nat_lt b (side_of t)) p.0 in
+      let la : a < length us = subst (λ n. a < n) side (ltb-true a (side_of t) q.0) in
+      let lb : b < length us = subst (λ n. b < n) side (ltb-true b (side_of t) q.1) in
+      let u = get_some us a la in
+      let v = get_some us b lb in
+      let d = get_some es a (subst (λ n. a < n) are.count la) in
+      let e = get_some es b (subst (λ n. b < n) are.count lb) in
+      let m : IsTrue (meet w ks u.0 v.0) = subst IsTrue (at_both a b u.0 v.0 u.1 v.1) ((marks a b la lb).0 p.1) in
+      subst (λ k. Meets w k (S.uses a) (S.uses b)) (sym scheme.kinds)
+      (subst (λ xs. Meets w ks xs (S.uses b)) (sym (scheme.some a d.0 d.1))
+      (subst (λ ys. Meets w ks (map target d.0.calls) ys) (sym (scheme.some b e.0 e.1))
+      (meets_same w ks (used u.0) (used v.0) (map target d.0.calls) (map target e.0.calls) (are.same a d.0 u.0 d.1 u.1) (are.same b e.0 v.0 e.1 v.1)
+      (meet_meets w ks u.0 v.0 m))))
+
+  pub meets_marked : (a b : ℕ) → Meets w S.kinds (S.uses a) (S.uses b) → IsTrue (marked t a b)
+  meets_marked a b h =
+      let d = uses_element a h.first h.in_first in
+      let e = uses_element b h.second h.in_second in
+      let la : a < length us = subst (λ n. a < n) (sym are.count) (slice_get_within es a d.0 d.1) in
+      let lb : b < length us = subst (λ n. b < n) (sym are.count) (slice_get_within es b e.0 e.1) in
+      let u = get_some us a la in
+      let v = get_some us b lb in
+      let same_d = are.same a d.0 u.0 d.1 u.1 in
+      let same_e = are.same b e.0 v.0 e.1 v.1 in
+      let m : Meets w ks (map target d.0.calls) (map target e.0.calls) =
+      subst (λ ys. Meets w ks (map target d.0.calls) ys) (scheme.some b e.0 e.1)
+      (subst (λ xs. Meets w ks xs (S.uses b)) (scheme.some a d.0 d.1)
+      (subst (λ k. Meets w k (S.uses a) (S.uses b)) scheme.kinds h)) in
+      let n : IsTrue (meet w ks u.0 v.0) =
+      meets_meet w ks u.0 v.0 (meets_same w ks (map target d.0.calls) (map target e.0.calls) (used u.0) (used v.0)
+      (λ x. ((same_d x).1, (same_d x).0)) (λ x. ((same_e x).1, (same_e x).0)) m) in
+      both_and (nat_lt a (side_of t) && nat_lt b (side_of t)) (at t a b)
+      (both_and (nat_lt a (side_of t)) (nat_lt b (side_of t)) (lt-ltb a (side_of t) (subst (λ n. a < n) (sym side) la))
+      (lt-ltb b (side_of t) (subst (λ n. b < n) (sym side) lb)))
+      ((marks a b la lb).1 (subst IsTrue (sym (at_both a b u.0 v.0 u.1 v.1)) n))
+
+-- ---- pairs as edges
+
+edges_step : (test : Attribute → Bool) (t : Bool) (p : Pair) (ps : List Pair)
+    → map edge_of (if t then p ∷ filter (λ q. test q.attribute) ps else filter (λ q. test q.attribute) ps) ≡ (if t then edge_of p ∷ edges_of test ps else edges_of test ps)
+edges_step test true p ps = refl
+edges_step test false p ps = refl
+
+in_step : (t : Bool) (e : Edge) (es : List Edge) (a b : ℕ) → HasEdge (if t then e ∷ es else es) a b → ((a ≡ e.from) × (b ≡ e.to)) ⊎ HasEdge es a b
+in_step true e es a b h = h
+in_step false e es a b h = inr h
+
+pub edges_from_pairs : (test : Attribute → Bool) (ps : List Pair) (a b : ℕ) → HasEdge (edges_of test ps) a b → (p : Pair) × Among ps p × (a ≡ p.before) × (b ≡ p.after)
+edges_from_pairs test [] a b h = absurd h
+edges_from_pairs test (p ∷ ps) a b h =
+    elim (in_step (test p.attribute) (edge_of p) (edges_of test ps) a b (subst (λ es. HasEdge es a b) (edges_step test (test p.attribute) p ps) h)) [
+      | inl k ↦ (p, inl refl, k.0, k.1)
+      | inr k ↦ let q = edges_from_pairs test ps a b k in (q.0, inr q.1, q.2, q.3)
+    ]
+
+here_step : (t : Bool) (e : Edge) (es : List Edge) → IsTrue t → HasEdge (if t then e ∷ es else es) e.from e.to
+here_step true e es h = inl (refl, refl)
+here_step false e es h = cc
+
+there_step : (t : Bool) (e : Edge) (es : List Edge) (a b : ℕ) → HasEdge es a b → HasEdge (if t then e ∷ es else es) a b
+there_step true e es a b h = inr h
+there_step false e es a b h = h
+
+pub pairs_edges : (test : Attribute → Bool) (ps : List Pair) (p : Pair) → Among ps p → IsTrue (test p.attribute) → HasEdge (edges_of test ps) p.before p.after
+pairs_edges test [] p h k = absurd h
+pairs_edges test (q ∷ ps) p (inl e) k = subst (λ r. HasEdge (edges_of test (q ∷ ps)) r.before r.after) (sym e)
+    (subst (λ es. HasEdge es q.before q.after) (sym (edges_step test (test q.attribute) q ps))
+    (here_step (test q.attribute) (edge_of q) (edges_of test ps) (subst (λ r. IsTrue (test r.attribute)) e k)))
+pairs_edges test (q ∷ ps) p (inr h) k =
+    subst (λ es. HasEdge es p.before p.after) (sym (edges_step test (test q.attribute) q ps))
+    (there_step (test q.attribute) (edge_of q) (edges_of test ps) p.before p.after (pairs_edges test ps p h k))
+
+below_of : (n : ℕ) (p : Pair) → IsTrue (pair_below n p) → (p.before < n) × (p.after < n)
+below_of n p h = let b = and_both (nat_lt p.before n) (nat_lt p.after n) h in (ltb-true p.before n b.0, ltb-true p.after n b.1)
+
+pub edges_below : (test : Attribute → Bool) (n : ℕ) (ps : List Pair) → IsTrue (list_all (pair_below n) ps) → AllBelow n (edges_of test ps)
+edges_below test n ps h = all_within n (edges_of test ps) (λ a b k.
+    let q = edges_from_pairs test ps a b k in
+    let l = below_of n q.0 (all_has (pair_below n) ps q.0 h q.1) in
+    (subst (λ x. x < n) (sym q.2) l.0, subst (λ x. x < n) (sym q.3) l.1))
+
+-- what a pair of `preempts` says
+says : (a b : ℕ) (p : Pair) → IsTrue (preempts a b p) → IsTrue (is_preempting p.attribute) × (p.before ≡ a) × (p.after ≡ b)
+says a b p h =
+    let x = and_both (is_preempting p.attribute && (p.before == a)) (p.after == b) h in
+    let y = and_both (is_preempting p.attribute) (p.before == a) x.0 in
+    (y.0, same_number p.before a y.1, same_number p.after b x.1)
+
+urges : (x : Attribute) → IsTrue (is_preempting x) → IsTrue (is_urging x)
+urges attribute.ExecutionOrder h = cc
+urges attribute.DescendingUrgency h = cc
+urges attribute.Preempts h = refl
+
+preempts_edge : (ps : List Pair) (a b : ℕ) → IsTrue (list_any (preempts a b) ps) → HasEdge (edges_of is_urging ps) a b
+preempts_edge ps a b h =
+    let p = any_of (preempts a b) ps h in
+    let s = says a b p.0 p.2 in
+    subst (λ y. HasEdge (edges_of is_urging ps) a y) s.2 (subst (λ x. HasEdge (edges_of is_urging ps) x p.0.after) s.1
+    (pairs_edges is_urging ps p.0 p.1 (urges p.0.attribute s.0)))
+
+pub marked_preempts : (t : Table) (n : ℕ) (ps : List Pair) → side_of t ≡ n → IsTrue (list_all (pair_below n) ps)
+    → ((a b : ℕ) → a < n → b < n → IsTrue (at t a b) ↔ IsTrue (list_any (preempts a b) ps)) → (a b : ℕ) → marked t a b ≡ list_any (preempts a b) ps
+marked_preempts t n ps side below marks a b = same_truths (marked t a b) (list_any (preempts a b) ps)
+    (λ h.
+    let p = and_both (nat_lt a (side_of t) && nat_lt b (side_of t)) (at t a b) h in
+    let q = and_both (nat_lt a (side_of t)) (nat_lt b (side_of t)) p.0 in
+    (marks a b (subst (λ n. a < n) side (ltb-true a (side_of t) q.0)) (subst (λ n. b < n) side (ltb-true b (side_of t) q.1))).0 p.1)
+    (λ h.
+    let p = any_of (preempts a b) ps h in
+    let s = says a b p.0 p.2 in
+    let l = below_of n p.0 (all_has (pair_below n) ps p.0 below p.1) in
+    let la : a < n = subst (λ x. x < n) s.1 l.0 in
+    let lb : b < n = subst (λ x. x < n) s.2 l.1 in
+    both_and (nat_lt a (side_of t) && nat_lt b (side_of t)) (at t a b)
+    (both_and (nat_lt a (side_of t)) (nat_lt b (side_of t)) (lt-ltb a (side_of t) (subst (λ n. a < n) (sym side) la))
+    (lt-ltb b (side_of t) (subst (λ n. b < n) (sym side) lb)))
+    ((marks a b la lb).1 h))
+
+-- ---- the whole
+
+roles_in : (es : List Element) → map (λ (e : Element). e.role) es ≡ map (λ o. o.role) (map outline es)
+roles_in [] = refl
+roles_in (e ∷ es) = ap (λ z. e.role ∷ z) (roles_in es)
+
+pub roles_are : (d : Design) → map (λ (e : Element). e.role) d.elements ≡ map (λ o. o.role) (design_scheme (blueprint d)).elements
+unfolding design_scheme
+roles_are d = roles_in d.elements
+
+pub pairs_are : (d : Design) → d.pairs ≡ (design_scheme (blueprint d)).pairs
+unfolding design_scheme
+pairs_are d = refl
+
+pub scheme_of : (d : Design) → IsSchemeOf (design_scheme (blueprint d)) (kinds_of (blueprint d)) d.elements
+scheme_of d = record { kinds = kinds_are d; some = uses_some d; none = uses_none d }
+
+pub agrees_design : (d : Design) → Agrees (relating (design_scheme (blueprint d)))
+unfolding relating design_scheme
+agrees_design d =
+    let long : length d.elements ≡ length (map outline d.elements) = sym (length-map d.elements outline) in
+    let below : IsTrue (list_all (pair_below (length (map outline d.elements))) d.pairs) = subst (λ n. IsTrue (list_all (pair_below n) d.pairs)) long (pairs_below d) in
+    record {
+      ordering = edges_below is_ordering (length (map outline d.elements)) d.pairs below;
+      urging = edges_below is_urging (length (map outline d.elements)) d.pairs below;
+      preempts = preempts_edge d.pairs;
+    }
+
+pub relating_same : (S : Scheme) (r : Relations) → r.roles ≡ map (λ o. o.role) S.elements
+    → ((a b : ℕ) → not (marked r.clashes a b) ≡ goes S a b) → ((a b : ℕ) → marked r.feeds a b ≡ feeds S a b)
+    → ((a b : ℕ) → marked r.preempts a b ≡ list_any (preempts a b) S.pairs)
+    → r.ordering ≡ edges_of is_ordering S.pairs → r.urging ≡ edges_of is_urging S.pairs → relating_of r ≡ relating S
+unfolding relating_of relating
+relating_same S r roles go feed preempt order urge =
+    let long : length r.roles ≡ length S.elements = ap length roles ∙ length-map S.elements (λ o. o.role) in
+    λ i. record {
+      count = long i;
+      goes = λ a b. go a b i;
+      feeds = λ a b. feed a b i;
+      value = λ a. has_role is_value (slice_get (roles i) a);
+      rule = λ a. has_role is_rule (slice_get (roles i) a);
+      ordering = order i;
+      urging = urge i;
+      preempts = λ a b. preempt a b i;
+    }
+
+-- what the parts of the relations of a design are
+module _ (d : Design) (ks : List Kind) (es : List Element) (us vs : List Usage) (kinds : ks ≡ kinds_of (blueprint d)) (elements : es ≡ d.elements)
+    (slice : vs ≡ us) (are : AreUsages ks es us) where
+  scheme : IsSchemeOf (design_scheme (blueprint d)) ks es
+  scheme = subst (λ k. IsSchemeOf (design_scheme (blueprint d)) k es) (sym kinds) (subst (IsSchemeOf (design_scheme (blueprint d)) (kinds_of (blueprint d))) (sym elements) (scheme_of d))
+
+  usages : AreUsages ks es vs
+  usages = subst (AreUsages ks es) (sym slice) are
+
+  pub many : length vs ≡ length d.elements
+  many = usages.count ∙ ap length elements
+
+  module _ (t : Table) (side : side_of t ≡ length vs) where
+    pub clashes_are : ((a b : ℕ) → a < length vs → b < length vs → IsTrue (at t a b) ↔ IsTrue (meet_at relation.Clashes ks vs a b))
+        → (a b : ℕ) → not (marked t a b) ≡ goes (design_scheme (blueprint d)) a b
+    clashes_are marks a b = goes_is (design_scheme (blueprint d)) a b (marked t a b)
+        (marked_meets (design_scheme (blueprint d)) ks es vs scheme usages relation.Clashes t side marks a b)
+        (meets_marked (design_scheme (blueprint d)) ks es vs scheme usages relation.Clashes t side marks a b)
+
+    pub feeds_are : ((a b : ℕ) → a < length vs → b < length vs → IsTrue (at t a b) ↔ IsTrue (meet_at relation.Feeds ks vs a b))
+        → (a b : ℕ) → marked t a b ≡ feeds (design_scheme (blueprint d)) a b
+    feeds_are marks a b = feeds_is (design_scheme (blueprint d)) a b (marked t a b)
+        (marked_meets (design_scheme (blueprint d)) ks es vs scheme usages relation.Feeds t side marks a b)
+        (meets_marked (design_scheme (blueprint d)) ks es vs scheme usages relation.Feeds t side marks a b)
+
+-- ---- edges look below the count alone
+
+filter_same : (f g : ℕ → Bool) (xs : List ℕ) → ((x : ℕ) → In xs x → f x ≡ g x) → filter f xs ≡ filter g xs
+filter_same f g [] h = refl
+filter_same f g (x ∷ xs) h = ap (λ t. if t then x ∷ filter f xs else filter f xs) (h x (inl refl))
+    ∙ ap (λ ys. if g x then x ∷ ys else ys) (filter_same f g xs (λ y k. h y (inr k)))
+
+rows_same : (n : ℕ) (f g : ℕ → ℕ → Bool) (xs : List ℕ) → ((a b : ℕ) → In xs a → b < n → f a b ≡ g a b) → flat_map (edges_from f n) xs ≡ flat_map (edges_from g n) xs
+rows_same n f g [] h = refl
+rows_same n f g (x ∷ xs) h =
+    ap (λ ys. ys ++ flat_map (edges_from f n) xs) (ap (map (λ b. record { from = x; to = b })) (filter_same (f x) (g x) (numbers_below n) (λ b k. h x b (inl refl) (in_below n b k))))
+    ∙ ap (λ ys. edges_from g n x ++ ys) (rows_same n f g xs (λ a b k l. h a b (inr k) l))
+
+pub where_same : (n : ℕ) (f g : ℕ → ℕ → Bool) → ((a b : ℕ) → a < n → b < n → f a b ≡ g a b) → edges_where n f ≡ edges_where n g
+where_same n f g h = rows_same n f g (numbers_below n) (λ a b k l. h a b (in_below n a k) l)
+
+pub at_marked : (t : Table) (a b : ℕ) → a < side_of t → b < side_of t → at t a b ≡ marked t a b
+at_marked t a b h k = ap (λ x. x && at t a b) (sym (both_and (nat_lt a (side_of t)) (nat_lt b (side_of t)) (lt-ltb a (side_of t) h) (lt-ltb b (side_of t) k)))
+
+pub feeds_edges : (r : Relations) (found : Result (List Edge) OutOfMemory) → IfOk found (λ es. es ≡ edges_where (side_of r.feeds) (at r.feeds))
+    → IfOk found (λ es. es ≡ feed_edges (relating_of r))
+unfolding relating_of
+feeds_edges r (Err e) h = h
+feeds_edges r (Ok es) h =
+    h ∙ (ap (λ n. edges_where n (at r.feeds)) r.feeds_side
+    ∙ where_same (length r.roles) (at r.feeds) (marked r.feeds) (λ a b k l. at_marked r.feeds a b (subst (λ n. a < n) (sym r.feeds_side) k) (subst (λ n. b < n) (sym r.feeds_side) l)))
+
+pub feeds_below : (r : Relations) (found : Result (List Edge) OutOfMemory) → IfOk found (λ es. AllBelow (side_of r.feeds) es)
+    → IfOk found (λ es. AllBelow (relating_of r).count es)
+unfolding relating_of
+feeds_below r (Err e) h = h
+feeds_below r (Ok es) h = subst (λ n. AllBelow n es) r.feeds_side h

@@ -1,0 +1,34 @@
+use Rattle.std.proofs.Common.{◌≡◌, ◌∙◌, ◌+◌, ◌++◌, ◌∷◌, [], take, map, length, sym, ap, subst, arith}
+use Rattle.std.proofs.lemmas.List.{take_all, take_more, length-map}
+use Rattle.bsv_design.specs.Bodies.{target}
+use Rattle.bsv_design.specs.Widths.{call_named}
+use Rattle.bsv_schedule.specs.relating.Uses.{UseSame, target_of}
+use Rattle.bsv_schedule.proofs.UsesLemmas.{noted_same, same_named, named_part, all_has, among_at}
+use Rattle.bsv_schedule.proofs.relating.uses.usage_of.Goals as goal
+
+pub note-requires-clause-part : goal.note-requires-clause-part
+note-requires-clause-part c =
+    let ks = map (λ p. p.kind) c.args.parts.now in
+    let h = all_has (call_named ks) c.args.calls.now c.call-item.result c.requires
+    (among_at c.args.calls.now c.loop-call.call-index c.call-item.result c.loop-call-test.true c.call-item.is) in
+    let l = named_part ks c.call-item.result.part c.call-item.result.method h in
+    let e : length ks ≡ length c.args.parts.now = length-map _ _ in
+    omega (arith, l, e, c.loop-call.invariant.count)
+
+pub loop-call-preserved : goal.loop-call-preserved
+loop-call-preserved c =
+    let i = c.loop-call.call-index in
+    let t : take (i + 1) c.args.calls.now ≡ take i c.args.calls.now ++ c.call-item.result ∷ [] =
+    take_more c.args.calls.now i c.call-item.result c.loop-call-test.true ∙ ap (λ x. take i c.args.calls.now ++ x ∷ []) (sym c.call-item.is) in
+    record {
+      count = c.in_ok-note.ensures.count ∙ c.loop-call.invariant.count;
+      grouped = c.in_ok-note.ensures.grouped;
+      same = subst (λ cs. UseSame (map target_of c.note.new.uses) (map target cs)) (sym t)
+          (noted_same c.loop-call.uses c.note.new.uses (take i c.args.calls.now) c.call-item.result c.loop-call.invariant.same c.in_ok-note.ensures.noted);
+    }
+
+pub returns-clause-named : goal.returns-clause-named
+returns-clause-named c =
+    let t = take_all c.loop-call.call-index c.args.calls.now c.loop-call-test.false in
+    same_named (map (λ p. p.kind) c.args.parts.now) c.loop-call.uses c.args.calls.now
+    (subst (λ cs. UseSame (map target_of c.loop-call.uses) (map target cs)) t c.loop-call.invariant.same) c.requires

@@ -1,0 +1,4 @@
+pub mod relating
+pub mod executing
+pub mod urging
+pub mod stopping

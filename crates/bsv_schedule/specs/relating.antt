@@ -1,0 +1,7 @@
+-- How the elements of a design relate.
+pub mod Relating
+pub mod Elements
+pub mod Relations
+pub mod Related
+pub mod Grouping
+pub mod Uses

@@ -1,0 +1,13 @@
+//! How the elements of a design relate.
+//!
+//! Modules in reading order: `related` (how two calls on one part may stand to each other), `usage` and `uses` (the
+//! methods that an element uses, each once), `meeting` (elements whose uses stand so), `relations` (all of a design).
+
+mod meeting;
+mod related;
+mod relations;
+mod usage;
+mod uses;
+
+pub use meeting::{feeds, goes};
+pub use relations::Relations;

@@ -1,4 +1,0 @@
-pub mod BehindLemmas
-pub mod PlaceLemmas
-pub mod UrgencyLemmas
-pub mod AnswerLemmas
