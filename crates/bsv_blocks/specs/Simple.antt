@@ -22,8 +22,8 @@ use Rattle.bsv_expr.specs.declared.lexeme.Lexeme.{Lexeme}
 use Rattle.bsv_expr.specs.Grammar.{Grammar}
 use Rattle.bsv_expr.specs.Trees.{to}
 use Rattle.bsv_expr.specs.Expressions.{pair, text, the, behind, lower}
-use Rattle.bsv_parse.specs.Holes.{Hole, Of}
-use Rattle.bsv_parse.specs.StatementTrees.{place_of, Called, call_of, write_of, call_statement, assign_of, bind_of, declare_of, condition_of}
+use Rattle.bsv_blocks.specs.Holes.{Hole, Of}
+use Rattle.bsv_blocks.specs.StatementTrees.{place_of, Called, call_of, write_of, call_statement, assign_of, bind_of, declare_of, condition_of}
 
 abbrev pub expression : Of Expr
 expression = Grammar.hole Hole.expression

@@ -15,8 +15,8 @@ use Rattle.bsv_expr.proofs.Complete.{Good, Names, good}
 use Rattle.bsv_expr.proofs.Agrees.{Agree, agrees}
 use Rattle.bsv_expr.proofs.Closing.{Balanced, balanced, bonus, lower_limit}
 use Rattle.bsv_expr.proofs.Deeper.{deep}
-use Rattle.bsv_parse.specs.Types as grammar
-use Rattle.bsv_parse.specs.Types.{IsType, written, outer, type_first}
+use Rattle.bsv_blocks.specs.Types as grammar
+use Rattle.bsv_blocks.specs.Types.{IsType, written, outer, type_first}
 
 -- the words that go on behind a type
 unfoldable pub type_more : List Terminal

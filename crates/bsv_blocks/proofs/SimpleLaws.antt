@@ -22,12 +22,12 @@ use Rattle.bsv_expr.proofs.Complete.{Good, Within, Names, good}
 use Rattle.bsv_expr.proofs.Agrees.{Agree, agrees}
 use Rattle.bsv_expr.proofs.Closing.{Balanced, balanced, bonus, lower_limit}
 use Rattle.bsv_expr.proofs.Deeper.{deep}
-use Rattle.bsv_parse.specs.Types.{type_first}
-use Rattle.bsv_parse.specs.Holes.{Hole, Filled, Of, Inner, inner, Says, part}
-use Rattle.bsv_parse.specs.Simple as grammar
-use Rattle.bsv_parse.specs.Simple.{simple, condition, head}
-use Rattle.bsv_parse.proofs.TypeKnot.{type_more}
-use Rattle.bsv_parse.proofs.HoleLaws.{hole_begins, hole_goes_on, inner_sound, inner_completes, inner_begins, inner_shorter, inner_balanced, inner_deep, inner_agrees}
+use Rattle.bsv_blocks.specs.Types.{type_first}
+use Rattle.bsv_blocks.specs.Holes.{Hole, Filled, Of, Inner, inner, Says, part}
+use Rattle.bsv_blocks.specs.Simple as grammar
+use Rattle.bsv_blocks.specs.Simple.{simple, condition, head}
+use Rattle.bsv_blocks.proofs.TypeKnot.{type_more}
+use Rattle.bsv_blocks.proofs.HoleLaws.{hole_begins, hole_goes_on, inner_sound, inner_completes, inner_begins, inner_shorter, inner_balanced, inner_deep, inner_agrees}
 
 -- each place counts as if it stood in a bracket
 abbrev pub anywhere : Hole → Bool

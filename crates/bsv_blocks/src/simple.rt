@@ -1,8 +1,8 @@
 ghost use Rattle.std.specs.Prelude.{◌≡◌, [], ◌∷◌};
 ghost use Rattle.bsv_expr.specs.Reading.{Gives, take_leaf};
-ghost use Rattle.bsv_parse.specs.Holes.{part};
-ghost use Rattle.bsv_parse.specs.Simple as grammar;
-ghost use Rattle.bsv_parse.specs.StatementTrees as trees;
+ghost use Rattle.bsv_blocks.specs.Holes.{part};
+ghost use Rattle.bsv_blocks.specs.Simple as grammar;
+ghost use Rattle.bsv_blocks.specs.StatementTrees as trees;
 
 use crate::types::written;
 use bsv_ast::{

@@ -23,9 +23,9 @@ use Rattle.bsv_expr.proofs.Closing.{Balanced, balanced, bonus, lower_limit}
 use Rattle.bsv_expr.proofs.Deeper.{deep}
 use Rattle.bsv_expr.proofs.Knot.{begins_by, goes_on_by, laws_at, expr_sound, exprs_named, arguments_named}
 use Rattle.bsv_expr.proofs.Depths.{inside, exprs_tame, arguments_tame, expr_balanced, expr_deep, expr_agrees}
-use Rattle.bsv_parse.specs.Types.{type_first}
-use Rattle.bsv_parse.specs.Holes.{Hole, Filled, Inner, inner}
-use Rattle.bsv_parse.proofs.TypeKnot.{type_more, written_sound, type_laws_at, written_balanced, written_deep, written_agrees}
+use Rattle.bsv_blocks.specs.Types.{type_first}
+use Rattle.bsv_blocks.specs.Holes.{Hole, Filled, Inner, inner}
+use Rattle.bsv_blocks.proofs.TypeKnot.{type_more, written_sound, type_laws_at, written_balanced, written_deep, written_agrees}
 
 -- the words with which what stands at a place begins
 abbrev pub hole_begins : Hole → List Terminal

@@ -15,13 +15,13 @@ use Rattle.bsv_expr.specs.Grammar.{Grammar, Phrase, Means}
 use Rattle.bsv_expr.specs.Reading.{Read, read}
 use Rattle.bsv_expr.specs.Trees.{to}
 use Rattle.bsv_expr.specs.Expressions.{pair, the, behind, many, expression_first}
-use Rattle.bsv_parse.specs.declared.statements.Branches.{Branches}
-use Rattle.bsv_parse.specs.declared.statements.Cases.{Cases}
-use Rattle.bsv_parse.specs.declared.statements.ElsePart.{ElsePart}
-use Rattle.bsv_parse.specs.declared.statements.ElsePart.TheVariants as otherwise
-use Rattle.bsv_parse.specs.Holes.{Hole, Says, part}
-use Rattle.bsv_parse.specs.Simple as simple_grammar
-use Rattle.bsv_parse.specs.StatementTrees.{branch_of, is_open, one_branch, with_else, if_of, case_arm_of, cases_of, case_of, for_of}
+use Rattle.bsv_blocks.specs.declared.statements.Branches.{Branches}
+use Rattle.bsv_blocks.specs.declared.statements.Cases.{Cases}
+use Rattle.bsv_blocks.specs.declared.statements.ElsePart.{ElsePart}
+use Rattle.bsv_blocks.specs.declared.statements.ElsePart.TheVariants as otherwise
+use Rattle.bsv_blocks.specs.Holes.{Hole, Says, part}
+use Rattle.bsv_blocks.specs.Simple as simple_grammar
+use Rattle.bsv_blocks.specs.StatementTrees.{branch_of, is_open, one_branch, with_else, if_of, case_arm_of, cases_of, case_of, for_of}
 
 -- the places at which a statement goes on with what holds no statement, or with a statement in a block
 pub data Nested : Type 0 where

@@ -18,12 +18,12 @@ use Rattle.bsv_expr.proofs.Complete.{Good, Names, good}
 use Rattle.bsv_expr.proofs.Agrees.{Agree, agrees}
 use Rattle.bsv_expr.proofs.Closing.{Balanced, balanced, bonus, lower_limit}
 use Rattle.bsv_expr.proofs.Deeper.{deep}
-use Rattle.bsv_parse.specs.Types.{type_first}
-use Rattle.bsv_parse.specs.Holes.{Hole}
-use Rattle.bsv_parse.specs.Simple as simple_grammar
-use Rattle.bsv_parse.specs.Statements as grammar
-use Rattle.bsv_parse.specs.Statements.{Nested, Filled, Of, Inner, inner, IsStmt, stmt, within, stmt_first, stmts, stmt_body}
-use Rattle.bsv_parse.proofs.SimpleLaws.{says_sound, says_balanced, says_deep, says_agrees, simple_first, simple_more, condition_more, simple_laws, condition_laws, head_laws, labels_laws, subject_laws, simple_tame, simple_guarded, condition_tame, condition_guarded, head_tame, head_guarded, place_tame, place_guarded}
+use Rattle.bsv_blocks.specs.Types.{type_first}
+use Rattle.bsv_blocks.specs.Holes.{Hole}
+use Rattle.bsv_blocks.specs.Simple as simple_grammar
+use Rattle.bsv_blocks.specs.Statements as grammar
+use Rattle.bsv_blocks.specs.Statements.{Nested, Filled, Of, Inner, inner, IsStmt, stmt, within, stmt_first, stmts, stmt_body}
+use Rattle.bsv_blocks.proofs.SimpleLaws.{says_sound, says_balanced, says_deep, says_agrees, simple_first, simple_more, condition_more, simple_laws, condition_laws, head_laws, labels_laws, subject_laws, simple_tame, simple_guarded, condition_tame, condition_guarded, head_tame, head_guarded, place_tame, place_guarded}
 
 -- the words that go on behind a statement
 unfoldable pub stmt_more : List Terminal

@@ -1,6 +1,6 @@
 -- Within one depth each function calls those of a lower rank.
 use Rattle.std.proofs.Common.{◌+◌, ◌*◌}
-use Rattle.bsv_parse.proofs.types.+written.Given as goal
+use Rattle.bsv_blocks.proofs.types.+written.Given as goal
 
 abbrev pub decreases-written : goal.decreases-written
 decreases-written l = 10 * l.depth + 0

@@ -17,10 +17,10 @@ use Rattle.bsv_ast.specs.declared.statements.CaseArm.{CaseArm, roll-CaseArm}
 use Rattle.bsv_ast.specs.Spans.{expr_span, place_span, declared_span, stmt_span}
 use Rattle.bsv_expr.specs.Reading.{on_some}
 use Rattle.bsv_expr.specs.Trees.{to, last}
-use Rattle.bsv_parse.specs.declared.statements.Branches.{Branches}
-use Rattle.bsv_parse.specs.declared.statements.Cases.{Cases}
-use Rattle.bsv_parse.specs.declared.statements.ElsePart.{ElsePart}
-use Rattle.bsv_parse.specs.declared.statements.ElsePart.TheVariants as otherwise
+use Rattle.bsv_blocks.specs.declared.statements.Branches.{Branches}
+use Rattle.bsv_blocks.specs.declared.statements.Cases.{Cases}
+use Rattle.bsv_blocks.specs.declared.statements.ElsePart.{ElsePart}
+use Rattle.bsv_blocks.specs.declared.statements.ElsePart.TheVariants as otherwise
 
 abbrev pub place_of : Ident → Option (Expr × Span) → Place
 place_of name None = places.Name name.span name

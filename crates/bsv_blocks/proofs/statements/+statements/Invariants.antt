@@ -4,10 +4,10 @@ use Rattle.bsv_lex.specs.declared.terminal.Terminal.TheVariants as word
 use Rattle.bsv_expr.specs.Reading.{turns}
 use Rattle.bsv_expr.specs.Expressions.{always, snoc, expression_first}
 use Rattle.bsv_expr.specs.Grammar.{Grammar}
-use Rattle.bsv_parse.specs.Statements as grammar
-use Rattle.bsv_parse.specs.Statements.{Nested, within, stmt_first}
-use Rattle.bsv_parse.specs.StatementTrees.{is_open, with_else}
-use Rattle.bsv_parse.proofs.statements.+statements.Given as goal
+use Rattle.bsv_blocks.specs.Statements as grammar
+use Rattle.bsv_blocks.specs.Statements.{Nested, within, stmt_first}
+use Rattle.bsv_blocks.specs.StatementTrees.{is_open, with_else}
+use Rattle.bsv_blocks.proofs.statements.+statements.Given as goal
 
 abbrev pub decreases-stmt : goal.decreases-stmt
 decreases-stmt l = 100 * l.depth + 0

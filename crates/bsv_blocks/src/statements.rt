@@ -1,8 +1,8 @@
 ghost use Rattle.std.specs.Prelude.{◌≡◌, IfOk, Some};
 ghost use Rattle.bsv_expr.specs.Reading.{Gives};
-ghost use Rattle.bsv_parse.specs.Statements as grammar;
-ghost use Rattle.bsv_parse.specs.Statements.{within};
-ghost use Rattle.bsv_parse.specs.StatementTrees as trees;
+ghost use Rattle.bsv_blocks.specs.Statements as grammar;
+ghost use Rattle.bsv_blocks.specs.Statements.{within};
+ghost use Rattle.bsv_blocks.specs.StatementTrees as trees;
 
 use crate::simple::{condition, head, simple};
 use bsv_ast::{Boxed, Branch, CaseArm, Expr, Head, Items, Span, Stmt};

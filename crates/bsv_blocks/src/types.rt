@@ -2,8 +2,8 @@ ghost use Rattle.std.specs.Prelude.{◌≡◌, [], ◌∷◌, IfOk};
 ghost use Rattle.bsv_lex.specs.declared.terminal.Terminal.TheVariants as word;
 ghost use Rattle.bsv_expr.specs.Reading as reading;
 ghost use Rattle.bsv_expr.specs.Reading.{Gives};
-ghost use Rattle.bsv_parse.specs.Types as grammar;
-ghost use Rattle.bsv_parse.specs.Types.{part};
+ghost use Rattle.bsv_blocks.specs.Types as grammar;
+ghost use Rattle.bsv_blocks.specs.Types.{part};
 
 use bsv_ast::{Base, Boxed, Ident, Literal, Span, TypeArgument, WrittenType};
 use bsv_expr::{Lexeme, ReadFault, expect, name, number, refusal, same_terminal, starts, text, to};
