@@ -1,12 +1,14 @@
 //! What an expression may name, and what the typing knows of types.
 //!
-//! Modules in reading order: `fail` (why there is no typed expression), `made` (typed expressions), `names`
-//! (which texts are names), `context` (what an expression may name), `classes` (classes of types, and which
-//! literals fit), `methods` (the methods of interfaces), `written` (types as they are written).
+//! Modules in reading order: `fail` (why there is no typed expression), `made` (typed expressions),
+//! `names` (which texts are names), `context` (what an expression may name), `classes` (classes of
+//! types, and which literals fit), `methods` (the methods of interfaces), `written` (types as they
+//! are written).
 //!
-//! The definitions are `specs/Env.antt` (what an expression may name, and how typed expressions are made),
-//! `specs/Suffixes.antt` (expressions with suffixes), `specs/Methods.antt` (methods by name) and
-//! `specs/Written.antt` (what a written type stands for). `specs/Seen.antt` says what they see of the code.
+//! The definitions are `specs/Env.antt` (what an expression may name, and how typed expressions are
+//! made), `specs/Suffixes.antt` (expressions with suffixes), `specs/Methods.antt` (methods by name)
+//! and `specs/Written.antt` (what a written type stands for). `specs/Seen.antt` says what they see
+//! of the code.
 #![tactic(auto)]
 
 mod classes;
