@@ -21,9 +21,9 @@ use Rattle.bsv_types.specs.Names.{distinct}
 use Rattle.bsv_types.specs.Modules as rules
 use Rattle.bsv_types.specs.Programs.{call_of}
 use Rattle.bsv_names.specs.PackageEvents.{items_of}
-use Rattle.bsv_typing.specs.Bodies.{Or, ◌>=>◌, at}
+use Rattle.bsv_statements.specs.Bodies.{Or, ◌>=>◌, at}
 use Rattle.bsv_typing.proofs.Bound.{some_is}
-use Rattle.bsv_typing.proofs.RightCalls.{ok_is, went, there_is}
+use Rattle.bsv_statements.proofs.RightCalls.{ok_is, went, there_is}
 use Rattle.bsv_modules.specs.Modules.{Header}
 use Rattle.bsv_modules.specs.Programs.{Program, added, value_params, function_header, function_entry, with_function, has_number, is_function, function_case, module_params, module_header, header_of, module_entry, with_module, is_module, module_case}
 use Rattle.bsv_check.specs.Headers.{over_items, over_all, or_kept, header_step}

@@ -28,12 +28,12 @@ use Rattle.bsv_types.specs.Modules as rules
 use Rattle.bsv_types.specs.Programs.{each_at, enum_right, struct_right, interface_right, method_header_right, shapes_right, names_right, begins_empty, all_countable, call_of, function_right, is_right}
 use Rattle.bsv_types.proofs.Same.{both}
 use Rattle.bsv_names.specs.PackageEvents.{items_of}
-use Rattle.bsv_typing.specs.Env.{in_reach, is_typed_value}
+use Rattle.bsv_context.specs.Env.{in_reach, is_typed_value}
 use Rattle.bsv_typing.specs.Laws.{slot_right, FitsWorld}
-use Rattle.bsv_typing.specs.Bodies.{Or, ◌>=>◌}
+use Rattle.bsv_statements.specs.Bodies.{Or, ◌>=>◌}
 use Rattle.bsv_typing.proofs.Bound.{some_is, tested_step, both_true}
 use Rattle.bsv_typing.proofs.RightOperands.{strict_value}
-use Rattle.bsv_typing.proofs.RightCalls.{ok_is, went}
+use Rattle.bsv_statements.proofs.RightCalls.{ok_is, went}
 use Rattle.bsv_modules.specs.Modules.{Header, params_at, are_named}
 use Rattle.bsv_modules.specs.Programs.{Types, shapes_of, limits_of, type_names, no_types, types_behind, Program, env_of, value_kind, value_params, written_at, function_header, function_case, module_case}
 use Rattle.bsv_check.specs.Headers.{over_items, over_all, or_kept, type_step, all_types, no_headers, all_headers, AtPlace, ◌>==◌}

@@ -6,8 +6,8 @@ use Rattle.bsv_ast.specs.declared.package.Item.{Item}
 use Rattle.bsv_ast.specs.declared.package.Item.TheVariants as item
 use Rattle.bsv_ast.specs.declared.package.Package.{Package}
 use Rattle.bsv_names.specs.PackageEvents.{items_of}
-use Rattle.bsv_typing.specs.Bodies.{Or}
-use Rattle.bsv_typing.proofs.RightCalls.{ok_is, went, there_is}
+use Rattle.bsv_statements.specs.Bodies.{Or}
+use Rattle.bsv_statements.proofs.RightCalls.{ok_is, went, there_is}
 use Rattle.bsv_modules.specs.Programs.{Program, added, function_entry, with_function, module_entry, with_module}
 use Rattle.bsv_check.specs.Headers.{over_items, over_all, or_kept, header_step, AtPlace, placed, ◌>==◌}
 

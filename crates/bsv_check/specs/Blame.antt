@@ -16,7 +16,7 @@ use Rattle.bsv_types.specs.Kinds.{Kind}
 use Rattle.bsv_types.specs.Methods.{value}
 use Rattle.bsv_types.specs.declared.asked.Owner.TheVariants as owner
 use Rattle.bsv_types.specs.declared.definitions.Param.{Param}
-use Rattle.bsv_typing.specs.Bodies.{Or, ◌>=>◌, sure}
+use Rattle.bsv_statements.specs.Bodies.{Or, ◌>=>◌, sure}
 use Rattle.bsv_modules.specs.Modules.{Site, asked, defines_all}
 use Rattle.bsv_modules.specs.Programs.{Types, no_types, types_behind, type_names, Program, env_of, function_header, param_scopes, module_header, site_of, opening_state}
 use Rattle.bsv_check.specs.Headers.{AtPlace, placed, ◌>==◌, over_items, headers_behind, type_step, header_step, all_types, no_headers}

@@ -14,7 +14,7 @@ use Rattle.bsv_names.specs.PackageEvents.{items_of}
 use Rattle.bsv_names.specs.Faults.{first_twice, first_unknown}
 use Rattle.bsv_names.specs.Attributes.{first_bad_attribute}
 use Rattle.bsv_names.specs.declared.place.Place.{Place}
-use Rattle.bsv_typing.specs.Bodies.{Or, ◌>=>◌}
+use Rattle.bsv_statements.specs.Bodies.{Or, ◌>=>◌}
 use Rattle.bsv_modules.specs.Programs.{Types, Program, function_case, module_case}
 use Rattle.bsv_check.specs.Headers.{AtPlace, placed, ◌>==◌, all_headers}
 use Rattle.bsv_check.specs.Blame.{Blame, headers_blame, packages_judged, told}

@@ -6,7 +6,7 @@ use Rattle.bsv_ast.specs.declared.package.Package.{Package}
 use Rattle.bsv_names.specs.PackageEvents.{items_of}
 use Rattle.bsv_names.specs.Faults.{in_package}
 use Rattle.bsv_names.specs.declared.place.Place.{Place}
-use Rattle.bsv_typing.specs.Bodies.{Or}
+use Rattle.bsv_statements.specs.Bodies.{Or}
 use Rattle.bsv_modules.specs.Programs.{Types, no_types, types_behind, Program, with_function, with_module}
 
 -- with the number of the package in which a fault stands

@@ -16,7 +16,7 @@ use Rattle.bsv_names.specs.StatementEvents as names
 use Rattle.bsv_names.specs.StatementEvents.{condition_events, head_events}
 use Rattle.bsv_names.specs.Untyped.{Untyped, Variables, leans, with_declared}
 use Rattle.bsv_types.specs.Kinds.{Kind}
-use Rattle.bsv_typing.specs.Bodies.{Or, ◌>=>◌, at, Scopes, Task, check, of_kind, opening, in_arm, in_head, write_case, act_case, bind_case, declare_case, assign_case, return_case}
+use Rattle.bsv_statements.specs.Bodies.{Or, ◌>=>◌, at, Scopes, Task, check, of_kind, opening, in_arm, in_head, write_case, act_case, bind_case, declare_case, assign_case, return_case}
 
 -- no fault of its own, or the first
 abbrev pub Judged : Type 0

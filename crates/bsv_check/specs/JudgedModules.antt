@@ -22,10 +22,10 @@ use Rattle.bsv_types.specs.declared.definitions.MethodResult.TheVariants as resu
 use Rattle.bsv_types.specs.declared.definitions.Param.{Param}
 use Rattle.bsv_types.specs.declared.modules.Method.{Method as TypedMethod}
 use Rattle.bsv_types.specs.Methods.{Signature, Effect, value, action, action_value}
-use Rattle.bsv_typing.specs.Bodies.{Or, ◌>=>◌, at, sure, Scopes}
-use Rattle.bsv_typing.specs.Env.{Env}
-use Rattle.bsv_typing.specs.Returns.{returns}
-use Rattle.bsv_typing.specs.Written.{TypeNames}
+use Rattle.bsv_statements.specs.Bodies.{Or, ◌>=>◌, at, sure, Scopes}
+use Rattle.bsv_context.specs.Env.{Env}
+use Rattle.bsv_statements.specs.Returns.{returns}
+use Rattle.bsv_context.specs.Written.{TypeNames}
 use Rattle.bsv_modules.specs.Modules as modules
 use Rattle.bsv_modules.specs.Modules.{Site, State, task, task_of, scoped, asked, method_header, wanted_method, with_method, instance_case, array_case, place_case, declare_case, assign_case}
 use Rattle.bsv_check.specs.Judged.{Judged, Judges, leaf, all_judged, Judge, Judging, expr_judged, stmts_judged, head_opened}

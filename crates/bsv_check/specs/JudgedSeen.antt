@@ -1,6 +1,6 @@
 -- What the definitions of judging see of the values of the code.
 use Rattle.bsv_names.specs.UntypedSeen.{reached}
-use Rattle.bsv_typing.specs.SeenBodies.{task_of}
+use Rattle.bsv_statements.specs.SeenBodies.{task_of}
 use Rattle.bsv_check.specs.declared.judged_statements.Judge as code_judge
 use Rattle.bsv_check.specs.declared.judged_modules.ModuleJudge as code_module_judge
 use Rattle.bsv_check.specs.Judged.{Judging}

@@ -1,5 +1,5 @@
 ghost use Rattle.std.specs.Prelude.{◌≡◌, Ok, Err, IfOk};
-ghost use Rattle.bsv_typing.specs.SeenBodies.{GivesAt};
+ghost use Rattle.bsv_statements.specs.SeenBodies.{GivesAt};
 ghost use Rattle.bsv_check.specs.Blame as blames;
 ghost use Rattle.bsv_check.specs.Checked as spec;
 ghost use Rattle.bsv_check.specs.declared.checking.PlaceFail.TheVariants as place_fail;
@@ -15,10 +15,12 @@ use crate::judged::judge_packages;
 use crate::law::programs_are_right;
 use bsv_ast::{Function as WrittenFunction, Item, Module as WrittenModule, Package};
 use bsv_bits::OutOfMemory;
+use bsv_context::Context;
 use bsv_modules::{Program, function, module};
 use bsv_names::{Place, bad_attribute, twice, unknown};
+use bsv_statements::{BodyFail, at};
 use bsv_types::{Function, Items, Module, Typed};
-use bsv_typing::{BodyFail, Context, at, place_number};
+use bsv_typing::place_number;
 use std::alloc::Global;
 
 /// Why a program has no typing.

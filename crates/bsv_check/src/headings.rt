@@ -1,7 +1,7 @@
 ghost use Rattle.std.specs.Prelude.{◌≡◌, IfOk, OnOk};
 ghost use Rattle.bsv_scopes.specs.Seen.{entries};
 ghost use Rattle.bsv_types.specs.Kinds.{kind};
-ghost use Rattle.bsv_typing.specs.SeenBodies.{GivesAt};
+ghost use Rattle.bsv_statements.specs.SeenBodies.{GivesAt};
 ghost use Rattle.bsv_check.specs.Blame as blames;
 ghost use Rattle.bsv_check.specs.Headers as spec;
 ghost use Rattle.bsv_modules.specs.Programs as programs;
@@ -12,10 +12,11 @@ ghost use Rattle.bsv_names.specs.PackageEvents as listed;
 use crate::blame::Blame;
 use bsv_ast::{Item, Package};
 use bsv_bits::{Name, OutOfMemory};
+use bsv_context::Context;
 use bsv_modules::{Program, announce_function, announce_module, define_types};
 use bsv_scopes::Scope;
+use bsv_statements::BodyFail;
 use bsv_types::{Interface, Items, Methods, Ty};
-use bsv_typing::{BodyFail, Context};
 use std::alloc::Global;
 
 /// The types of a program, the headings of its functions and modules, and what is blamed on them.

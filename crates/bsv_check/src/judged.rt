@@ -2,7 +2,7 @@ ghost use Rattle.std.specs.Prelude.{◌≡◌};
 ghost use Rattle.bsv_scopes.specs.Scopes.{found};
 ghost use Rattle.bsv_types.specs.Kinds.{kind};
 ghost use Rattle.bsv_names.specs.UntypedSeen.{reached, untyped as untyped_of};
-ghost use Rattle.bsv_typing.specs.SeenBodies.{GivesAt};
+ghost use Rattle.bsv_statements.specs.SeenBodies.{GivesAt};
 ghost use Rattle.bsv_check.specs.Blame as spec;
 ghost use Rattle.bsv_modules.specs.Programs.{site_at};
 ghost use Rattle.bsv_modules.specs.Seen.{program_of};
@@ -20,8 +20,9 @@ use bsv_modules::{
 };
 use bsv_names::{Place, Reach, Untyped, Variables};
 use bsv_scopes::Space;
+use bsv_statements::{BodyFail, at};
 use bsv_types::{Boxed, Items, MethodResult, Owner, Param, Ty};
-use bsv_typing::{BodyFail, at, place_number};
+use bsv_typing::place_number;
 use std::alloc::Global;
 
 /// The number of the function of the name, if it has a header.

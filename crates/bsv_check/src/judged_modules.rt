@@ -3,8 +3,8 @@
 ghost use Rattle.std.specs.Prelude.{◌≡◌, IfOk, map, option_map};
 ghost use Rattle.bsv_types.specs.Kinds.{kind};
 ghost use Rattle.bsv_types.specs.Methods.{effect};
-ghost use Rattle.bsv_typing.specs.Seen.{method_of, shown, type_names};
-ghost use Rattle.bsv_typing.specs.SeenBodies.{GivesAt, fixed};
+ghost use Rattle.bsv_context.specs.Seen.{method_of, shown, type_names};
+ghost use Rattle.bsv_statements.specs.SeenBodies.{GivesAt, fixed};
 ghost use Rattle.bsv_names.specs.ModuleEvents.{module_stmt_events};
 ghost use Rattle.bsv_names.specs.UntypedSeen.{reached, variables};
 ghost use Rattle.bsv_names.specs.Untyped as untyped;
@@ -17,13 +17,14 @@ ghost use Rattle.bsv_modules.specs.Seen.{state_of};
 use crate::judged_statements::Judge;
 use bsv_ast::{Body, Boxed, Expr, Head, Method, ModuleBranch, ModuleStmt, Rule, Span};
 use bsv_bits::{Name, OutOfMemory};
+use bsv_context::{Context, FoundMethod, Variable, is_lower};
 use bsv_modules::{
     Site, State, asked, declare_params, level, method_header, nested, stand, wanted,
 };
 use bsv_names::{Reach, Variables};
 use bsv_scopes::Scopes;
+use bsv_statements::{BodyFail, Task, returns};
 use bsv_types::{Body as TypedBody, Items, Method as TypedMethod, MethodResult, Owner, Param, Ty};
-use bsv_typing::{BodyFail, Context, FoundMethod, Task, Variable, is_lower, returns};
 use std::alloc::Global;
 
 /// What each call in a module has at hand.
@@ -185,7 +186,7 @@ impl ModuleJudge<'_> {
     }
 
     /// The statements of a rule, in a scope of their own.
-    #[tactic(auto, using(bsv_typing::proofs::Layers::closes))]
+    #[tactic(auto, using(bsv_context::proofs::Layers::closes))]
     fn rule_body(
         self,
         names: &mut Variables,
@@ -266,7 +267,7 @@ impl ModuleJudge<'_> {
     }
 
     /// The body of a method, in the scope of its parameters.
-    #[tactic(auto, using(bsv_typing::proofs::Layers::closes))]
+    #[tactic(auto, using(bsv_context::proofs::Layers::closes))]
     fn method_body(
         self,
         names: &mut Variables,
@@ -415,7 +416,7 @@ impl ModuleJudge<'_> {
 
     /// `begin .. end`, which is a scope of its own.
     #[cycle(judged_modules)]
-    #[tactic(auto, using(bsv_typing::proofs::Layers::closes))]
+    #[tactic(auto, using(bsv_context::proofs::Layers::closes))]
     fn block(
         self,
         names: &mut Variables,
@@ -436,7 +437,7 @@ impl ModuleJudge<'_> {
 
     /// A statement in a scope of its own.
     #[cycle(judged_modules)]
-    #[tactic(auto, using(bsv_typing::proofs::Layers::closes))]
+    #[tactic(auto, using(bsv_context::proofs::Layers::closes))]
     fn inside(
         self,
         names: &mut Variables,
@@ -565,7 +566,7 @@ impl ModuleJudge<'_> {
 
     /// A `for`, whose arm shares the scope of its variable.
     #[cycle(judged_modules)]
-    #[tactic(auto, using(bsv_typing::proofs::Layers::closes))]
+    #[tactic(auto, using(bsv_context::proofs::Layers::closes))]
     fn repeat(
         self,
         names: &mut Variables,

@@ -2,9 +2,9 @@
 
 ghost use Rattle.std.specs.Prelude.{◌≡◌, map, option_map};
 ghost use Rattle.bsv_types.specs.Kinds.{kind};
-ghost use Rattle.bsv_typing.specs.Bodies as bodies;
-ghost use Rattle.bsv_typing.specs.Seen.{shown};
-ghost use Rattle.bsv_typing.specs.SeenBodies.{GivesAt, opening_of};
+ghost use Rattle.bsv_statements.specs.Bodies as bodies;
+ghost use Rattle.bsv_context.specs.Seen.{shown};
+ghost use Rattle.bsv_statements.specs.SeenBodies.{GivesAt, opening_of};
 ghost use Rattle.bsv_names.specs.StatementEvents.{stmt_events};
 ghost use Rattle.bsv_names.specs.Untyped.{leans};
 ghost use Rattle.bsv_names.specs.UntypedSeen.{variables};
@@ -13,12 +13,11 @@ ghost use Rattle.bsv_check.specs.JudgedSeen.{judging};
 
 use bsv_ast::{Boxed, Branch, CaseArm, Condition, Expr, Head, Span, Stmt};
 use bsv_bits::Name;
+use bsv_context::{Made, Variable};
 use bsv_names::{Reach, Variables};
 use bsv_scopes::Scopes;
+use bsv_statements::{BodyFail, Opening, Task, asked, checked, head, of_type, open_arm, statement};
 use bsv_types::{Boxed as TypedBox, Ty};
-use bsv_typing::{
-    BodyFail, Made, Opening, Task, Variable, asked, checked, head, of_type, open_arm, statement,
-};
 use std::alloc::Global;
 
 /// What each call has at hand.
@@ -115,7 +114,7 @@ impl Judge<'_> {
 
     /// `begin .. end`, which is a scope of its own.
     #[cycle(judged_statements)]
-    #[tactic(auto, using(bsv_typing::proofs::Layers::closes))]
+    #[tactic(auto, using(bsv_context::proofs::Layers::closes))]
     fn block(
         self,
         names: &mut Variables,
@@ -136,7 +135,7 @@ impl Judge<'_> {
 
     /// A statement in a scope of its own.
     #[cycle(judged_statements)]
-    #[tactic(auto, using(bsv_typing::proofs::Layers::closes))]
+    #[tactic(auto, using(bsv_context::proofs::Layers::closes))]
     fn inside(
         self,
         names: &mut Variables,
@@ -228,7 +227,7 @@ impl Judge<'_> {
     }
 
     /// Opens the scope of an arm, with the variable that its condition binds.
-    #[tactic(auto, using(bsv_typing::proofs::Layers::closes))]
+    #[tactic(auto, using(bsv_context::proofs::Layers::closes))]
     fn open_arm(
         self,
         names: &mut Variables,
@@ -254,7 +253,7 @@ impl Judge<'_> {
 
     /// An arm behind its condition.
     #[cycle(judged_statements)]
-    #[tactic(auto, using(bsv_typing::proofs::Layers::closes))]
+    #[tactic(auto, using(bsv_context::proofs::Layers::closes))]
     fn arm(
         self,
         names: &mut Variables,
@@ -319,7 +318,7 @@ impl Judge<'_> {
     }
 
     /// Opens the scope of a loop, with its variable.
-    #[tactic(auto, using(bsv_typing::proofs::Layers::closes))]
+    #[tactic(auto, using(bsv_context::proofs::Layers::closes))]
     pub(crate) fn open_loop(
         self,
         names: &mut Variables,
@@ -344,7 +343,7 @@ impl Judge<'_> {
 
     /// A `for`, whose arm shares the scope of its variable.
     #[cycle(judged_statements)]
-    #[tactic(auto, using(bsv_typing::proofs::Layers::closes))]
+    #[tactic(auto, using(bsv_context::proofs::Layers::closes))]
     fn repeat(
         self,
         names: &mut Variables,

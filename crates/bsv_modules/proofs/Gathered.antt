@@ -1,8 +1,8 @@
 -- Lists that are made piece by piece.
 use Rattle.std.proofs.Common.{◌≡◌, sym, List, [], ◌∷◌, ◌++◌, Option, Some, None, Ok, Err, refl, ap, append_assoc, append-nil}
 use Rattle.bsv_types.specs.Operators.{◌>>=◌}
-use Rattle.bsv_typing.specs.Bodies.{Or, ◌>=>◌}
-use Rattle.bsv_typing.proofs.Fronts.{listed, list_start, list_done}
+use Rattle.bsv_statements.specs.Bodies.{Or, ◌>=>◌}
+use Rattle.bsv_statements.proofs.Fronts.{listed, list_start, list_done}
 
 module _ {A : Type 0} where
   pub groups_more : (front : List A) (xs : List A) (rest : Or (List A)) → listed (front ++ xs) rest ≡ listed front (rest >=> λ ys. Ok (xs ++ ys))

@@ -12,9 +12,9 @@ use Rattle.bsv_types.specs.Kinds.{Kind}
 use Rattle.bsv_types.specs.Methods.{param_kinds}
 use Rattle.bsv_types.specs.Modules as rules
 use Rattle.bsv_types.specs.Programs.{call_of}
-use Rattle.bsv_typing.specs.Bodies.{Or}
+use Rattle.bsv_statements.specs.Bodies.{Or}
 use Rattle.bsv_typing.proofs.Typings.{kind_back}
-use Rattle.bsv_typing.proofs.RightCalls.{ok_is, went, passed}
+use Rattle.bsv_statements.proofs.RightCalls.{ok_is, went, passed}
 use Rattle.bsv_modules.specs.Modules.{asked}
 use Rattle.bsv_modules.specs.Programs.{Program, function_header, function_made, is_function, function_body, function_case, module_header, site_of, is_module, Parts, module_made, module_parts, module_case}
 

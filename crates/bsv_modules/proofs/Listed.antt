@@ -4,7 +4,7 @@ use Rattle.bsv_types.specs.declared.definitions.MethodResult.{MethodResult}
 use Rattle.bsv_types.specs.declared.definitions.MethodResult.TheVariants as result
 use Rattle.bsv_types.specs.Methods.{effect}
 use Rattle.bsv_types.proofs.Exact.{back}
-use Rattle.bsv_typing.proofs.Fronts.{list_start, list_done, list_more, list_turn}
+use Rattle.bsv_statements.proofs.Fronts.{list_start, list_done, list_more, list_turn}
 use Rattle.bsv_modules.specs.Modules.{method_result}
 
 pub ruleset gathering = (list_start, list_done, list_more, list_turn)

@@ -9,7 +9,7 @@ use Rattle.bsv_types.specs.Methods.{Signature}
 use Rattle.bsv_types.specs.Modules.{each_once}
 use Rattle.bsv_types.proofs.Same.{both}
 use Rattle.bsv_typing.proofs.Bound.{some_is, both_true}
-use Rattle.bsv_typing.proofs.RightCalls.{ok_is, went}
+use Rattle.bsv_statements.proofs.RightCalls.{ok_is, went}
 use Rattle.bsv_modules.specs.Modules.{is_free}
 use Rattle.bsv_modules.specs.Programs.{no_methods, all_there}
 

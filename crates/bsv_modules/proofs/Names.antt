@@ -3,8 +3,8 @@ use Rattle.std.proofs.Common.{ℕ, ◌+◌, ◌≡◌, Bool, true, false, List, 
 use Rattle.std.proofs.lemmas.List.{length-map}
 use Rattle.std.specs.Str.{bytes_eq}
 use Rattle.bsv_scopes.specs.Scopes.{Entries, found, in_scope}
-use Rattle.bsv_typing.specs.declared.context.Variable.{Variable}
-use Rattle.bsv_typing.specs.Seen.{named_variable, in_layer}
+use Rattle.bsv_context.specs.declared.context.Variable.{Variable}
+use Rattle.bsv_context.specs.Seen.{named_variable, in_layer}
 use Rattle.bsv_modules.specs.declared.site.Header as code_header
 use Rattle.bsv_types.specs.declared.definitions.MethodResult.{MethodResult}
 use Rattle.bsv_types.specs.declared.definitions.MethodResult.TheVariants as result

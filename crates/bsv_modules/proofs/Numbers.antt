@@ -24,10 +24,10 @@ use Rattle.bsv_types.specs.Kinds.{integer, type_of}
 use Rattle.bsv_types.specs.Expressions.{Slot, one, many}
 use Rattle.bsv_types.specs.Modules.{or_empty, concatenated, numbers_step, own_rule, own_method, counts_up}
 use Rattle.bsv_types.proofs.Same.{both}
-use Rattle.bsv_typing.specs.Env.{variable_in}
-use Rattle.bsv_typing.specs.Bodies.{Or, Scopes, with_variable, check, of_kind, declared_kind, assignable, in_head}
+use Rattle.bsv_context.specs.Env.{variable_in}
+use Rattle.bsv_statements.specs.Bodies.{Or, Scopes, with_variable, check, of_kind, declared_kind, assignable, in_head}
 use Rattle.bsv_typing.proofs.Bound.{both_true}
-use Rattle.bsv_typing.proofs.RightCalls.{ok_is, went, there_is}
+use Rattle.bsv_statements.proofs.RightCalls.{ok_is, went, there_is}
 use Rattle.bsv_modules.specs.Modules.{Site, State, Run, task, scoped, make_at, with_rule, rule_case, rule_at, done, array_named, inside, all_in, Arm, conditions, branch, arms, last_arm, if_case, block_case, interface_at, lower_name, with_slot, instance_case, array_case, count_at, place_case, declare_case, assign_case, for_case}
 
 -- ---- numbers that count up

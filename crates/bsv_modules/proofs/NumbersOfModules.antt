@@ -16,9 +16,9 @@ use Rattle.bsv_types.specs.declared.modules.ModuleBranch.{ModuleBranch}
 use Rattle.bsv_types.specs.Methods.{Signature}
 use Rattle.bsv_types.specs.Modules.{concatenated, numbers_step, own_rule, own_method, each_once}
 use Rattle.bsv_types.specs.Modules as rules
-use Rattle.bsv_typing.specs.Places.{method_from}
+use Rattle.bsv_context.specs.Methods.{method_from}
 use Rattle.bsv_typing.proofs.Bound.{both_true}
-use Rattle.bsv_typing.proofs.RightCalls.{ok_is, went, there_is}
+use Rattle.bsv_statements.proofs.RightCalls.{ok_is, went, there_is}
 use Rattle.bsv_modules.specs.Modules.{Site, State, Run, Arm, is_free, wanted_method, with_method, method_case, method_at, done, all_in, stmt_step, arm_step, nested, direct_step, direct}
 use Rattle.bsv_modules.proofs.RightMethods.{sure_is}
 use Rattle.bsv_modules.proofs.MethodPlaces.{placed, one_stands, standing, all_freed, once_more}

@@ -19,9 +19,9 @@ use Rattle.bsv_types.specs.AttributeTexts.{first_is, mark, in_word, in_front, wo
 use Rattle.bsv_types.specs.Names.{names_from, orders_rules, of_module, of_rule}
 use Rattle.bsv_types.specs.Asked.{without_text, preempts, with_text, meaning, attribute}
 use Rattle.bsv_types.proofs.Same.{both}
-use Rattle.bsv_typing.specs.Bodies.{at}
+use Rattle.bsv_statements.specs.Bodies.{at}
 use Rattle.bsv_typing.proofs.Bound.{some_is, tested_step, both_true}
-use Rattle.bsv_typing.proofs.RightCalls.{ok_is, went, there_is}
+use Rattle.bsv_statements.proofs.RightCalls.{ok_is, went, there_is}
 use Rattle.bsv_modules.specs.Modules.{asked_by, asked}
 
 -- ---- steps that may give nothing

@@ -20,7 +20,7 @@ use Rattle.bsv_types.proofs.Same.{both}
 use Rattle.bsv_scopes.specs.Scopes.{found, is_defined, is_listed, with_name}
 use Rattle.bsv_typing.specs.Laws.{slot_right}
 use Rattle.bsv_typing.proofs.Bound.{some_is, taken, both_true}
-use Rattle.bsv_typing.proofs.RightCalls.{ok_is, went, there_is, passed}
+use Rattle.bsv_statements.proofs.RightCalls.{ok_is, went, there_is, passed}
 use Rattle.bsv_modules.specs.Growing.{Grows}
 use Rattle.bsv_modules.specs.Programs.{Types, shapes_of, type_names, added, with_type, names_of, labelled, are_new, is_undefined, is_label, enum_width, enum_named, written_at, alias_case, is_enum, with_enum, enum_case}
 use Rattle.bsv_modules.proofs.RightMakers.{at_is}

@@ -23,16 +23,17 @@ use Rattle.bsv_types.specs.Names.{of_rule}
 use Rattle.bsv_types.specs.Statements as typed
 use Rattle.bsv_types.specs.Modules as rules
 use Rattle.bsv_types.specs.Modules.{param_slots}
-use Rattle.bsv_typing.specs.Returns.{returns}
-use Rattle.bsv_typing.specs.Bodies.{Scopes, Task, of_kind, stmt_run}
-use Rattle.bsv_typing.specs.Laws.{FitsWorld, slots_of, frame_of, typed_task, ScopesFit}
+use Rattle.bsv_statements.specs.Returns.{returns}
+use Rattle.bsv_statements.specs.Bodies.{Scopes, Task, of_kind, stmt_run}
+use Rattle.bsv_typing.specs.Laws.{FitsWorld}
+use Rattle.bsv_statements.specs.Laws.{slots_of, frame_of, typed_task, ScopesFit}
 use Rattle.bsv_typing.proofs.Bound.{both_true}
-use Rattle.bsv_typing.proofs.RightScopes.{frame_opened, opened_fit}
-use Rattle.bsv_typing.proofs.RightCalls.{ok_is, went, passed, has_true, kind_right}
-use Rattle.bsv_typing.proofs.RightBlocks.{inner_true, EachRun, AllRan, all_ran}
-use Rattle.bsv_typing.proofs.RightStatements.{typed_run}
-use Rattle.bsv_typing.proofs.RightBodies.{stmt_good}
-use Rattle.bsv_typing.proofs.RightReturns.{returns_same, never_same}
+use Rattle.bsv_statements.proofs.RightScopes.{frame_opened, opened_fit}
+use Rattle.bsv_statements.proofs.RightCalls.{ok_is, went, passed, has_true, kind_right}
+use Rattle.bsv_statements.proofs.RightBlocks.{inner_true, EachRun, AllRan, all_ran}
+use Rattle.bsv_statements.proofs.RightStatements.{typed_run}
+use Rattle.bsv_statements.proofs.RightBodies.{stmt_good}
+use Rattle.bsv_statements.proofs.RightReturns.{returns_same, never_same}
 use Rattle.bsv_modules.specs.Modules.{Site, task, stmts_in, InBody, value_body, action_body, task_of, body_of, guard, asked, rule_made, rule_body}
 use Rattle.bsv_modules.proofs.RightAttributes.{asked_right}
 

@@ -15,15 +15,15 @@ use Rattle.bsv_types.specs.Statements.{gives_body}
 use Rattle.bsv_types.specs.Modules.{param_names, param_slots}
 use Rattle.bsv_types.specs.Programs.{call_of, function_right}
 use Rattle.bsv_types.proofs.Same.{both}
-use Rattle.bsv_typing.specs.Env.{is_typed_value}
-use Rattle.bsv_typing.specs.Bodies.{Scopes}
+use Rattle.bsv_context.specs.Env.{is_typed_value}
+use Rattle.bsv_statements.specs.Bodies.{Scopes}
 use Rattle.bsv_typing.specs.Laws.{FitsWorld}
 use Rattle.bsv_typing.proofs.Bound.{both_true}
 use Rattle.bsv_typing.proofs.Typings.{kind_back}
 use Rattle.bsv_typing.proofs.RightOperands.{strict_value}
 use Rattle.bsv_typing.proofs.RightExpressions.{ground_is}
-use Rattle.bsv_typing.proofs.RightStatements.{value_slot_right}
-use Rattle.bsv_typing.proofs.RightCalls.{ok_is, went, passed}
+use Rattle.bsv_statements.proofs.RightStatements.{value_slot_right}
+use Rattle.bsv_statements.proofs.RightCalls.{ok_is, went, passed}
 use Rattle.bsv_modules.specs.Modules.{InBody, params_at, with_params, are_named, task_of, value_body}
 use Rattle.bsv_modules.specs.Programs.{Program, type_names, env_of, value_kind, function_header, function_made, is_function, param_scopes, function_case, written_at, value_params, function_body}
 use Rattle.bsv_modules.proofs.RightMakers.{at_is}

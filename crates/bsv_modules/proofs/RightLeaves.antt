@@ -24,18 +24,19 @@ use Rattle.bsv_types.specs.Expressions.{Slot, one, many, World, Frame, typing, h
 use Rattle.bsv_types.specs.Statements as typed
 use Rattle.bsv_types.specs.Modules as rules
 use Rattle.bsv_scopes.specs.Scopes.{closed}
-use Rattle.bsv_typing.specs.Env.{variable_in}
-use Rattle.bsv_typing.specs.Places.{method_from}
-use Rattle.bsv_typing.specs.Written.{written}
-use Rattle.bsv_typing.specs.Bodies.{Or, Scopes, with_variable, check, of_kind, declared_kind, assignable}
-use Rattle.bsv_typing.specs.Laws.{slot_right, frame_of, ScopesFit}
+use Rattle.bsv_context.specs.Env.{variable_in}
+use Rattle.bsv_context.specs.Methods.{method_from}
+use Rattle.bsv_context.specs.Written.{written}
+use Rattle.bsv_statements.specs.Bodies.{Or, Scopes, with_variable, check, of_kind, declared_kind, assignable}
+use Rattle.bsv_typing.specs.Laws.{slot_right}
+use Rattle.bsv_statements.specs.Laws.{frame_of, ScopesFit}
 use Rattle.bsv_typing.proofs.Bound.{some_is, both_true}
 use Rattle.bsv_typing.proofs.Typings.{kind_back, value_typed}
 use Rattle.bsv_typing.proofs.RightPlaces.{instance_slot}
 use Rattle.bsv_typing.proofs.RightSuffixes.{many_is}
-use Rattle.bsv_typing.proofs.RightScopes.{scopes_fit, defined_right}
-use Rattle.bsv_typing.proofs.RightCalls.{ok_is, went, there_is, passed, has_true, assigns_true, check_right, kind_right, assignable_right}
-use Rattle.bsv_typing.proofs.RightStatements.{if_right_true, value_slot_right}
+use Rattle.bsv_statements.proofs.RightScopes.{scopes_fit, defined_right}
+use Rattle.bsv_statements.proofs.RightCalls.{ok_is, went, there_is, passed, has_true, assigns_true, check_right, kind_right, assignable_right}
+use Rattle.bsv_statements.proofs.RightStatements.{if_right_true, value_slot_right}
 use Rattle.bsv_modules.specs.Modules.{Site, State, task, scoped, make_at, guard, asked, rule_made, rule_body, with_rule, rule_case, rule_at, method_at, done, is_free, method_header, method_made, method_body, wanted_method, with_method, method_case, array_named, interface_at, lower_name, with_slot, instance_case, array_case, count_at, place_case, declare_case, assign_case}
 use Rattle.bsv_modules.proofs.RightSites.{FitsSite, written_right}
 use Rattle.bsv_modules.proofs.RightMakers.{typed_site, make_right}

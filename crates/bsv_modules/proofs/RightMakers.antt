@@ -20,14 +20,14 @@ use Rattle.bsv_types.specs.Modules as rules
 use Rattle.bsv_types.proofs.Same.{same_is, same_self}
 use Rattle.bsv_typing.specs.Places.{Instance, Front, instance, the_instance, place_of}
 use Rattle.bsv_typing.specs.Typing.{typed, term, instance_named}
-use Rattle.bsv_typing.specs.Bodies.{at, Scopes, with_scopes}
-use Rattle.bsv_typing.specs.Laws.{ScopesFit, frame_of}
+use Rattle.bsv_statements.specs.Bodies.{at, Scopes, with_scopes}
+use Rattle.bsv_statements.specs.Laws.{ScopesFit, frame_of}
 use Rattle.bsv_typing.proofs.Bound.{some_is, taken, tested_step, both_true}
 use Rattle.bsv_typing.proofs.Typings.{value_typed}
 use Rattle.bsv_typing.proofs.RightPlaces.{GoodInstance, GoodFront}
 use Rattle.bsv_typing.proofs.RightExpressions.{expressions_good, fronts_good}
-use Rattle.bsv_typing.proofs.RightScopes.{scopes_fit}
-use Rattle.bsv_typing.proofs.RightCalls.{ok_is, has_true}
+use Rattle.bsv_statements.proofs.RightScopes.{scopes_fit}
+use Rattle.bsv_statements.proofs.RightCalls.{ok_is, has_true}
 use Rattle.bsv_modules.specs.Modules.{Header, Site, if_instance_of, handed, all_handed, made_by, given_params, module_params, make_in, make_at, given_maker}
 use Rattle.bsv_modules.proofs.RightSites.{FitsSite}
 

@@ -30,14 +30,15 @@ use Rattle.bsv_types.specs.Statements as typed
 use Rattle.bsv_types.specs.Modules as rules
 use Rattle.bsv_types.specs.Modules.{param_names, param_slots}
 use Rattle.bsv_types.proofs.Same.{both, same_is, same_self}
-use Rattle.bsv_typing.specs.Places.{method_from}
-use Rattle.bsv_typing.specs.Written.{TypeNames, written, written_effect}
-use Rattle.bsv_typing.specs.Bodies.{at, sure, Scopes, with_variable}
-use Rattle.bsv_typing.specs.Laws.{slot_right, frame_of, ScopesFit}
+use Rattle.bsv_context.specs.Methods.{method_from}
+use Rattle.bsv_context.specs.Written.{TypeNames, written, written_effect}
+use Rattle.bsv_statements.specs.Bodies.{at, sure, Scopes, with_variable}
+use Rattle.bsv_typing.specs.Laws.{slot_right}
+use Rattle.bsv_statements.specs.Laws.{frame_of, ScopesFit}
 use Rattle.bsv_typing.proofs.Bound.{some_is, taken}
 use Rattle.bsv_typing.proofs.Typings.{kind_back}
-use Rattle.bsv_typing.proofs.RightScopes.{frame_opened, opened_fit, defined_right}
-use Rattle.bsv_typing.proofs.RightCalls.{ok_is, went, there_is, passed}
+use Rattle.bsv_statements.proofs.RightScopes.{frame_opened, opened_fit, defined_right}
+use Rattle.bsv_statements.proofs.RightCalls.{ok_is, went, there_is, passed}
 use Rattle.bsv_modules.specs.Modules.{Site, task, InBody, body_of, guard, param, param_at, params_at, with_params, are_named, method_result, any_kind, method_header, method_made, method_body}
 use Rattle.bsv_modules.proofs.RightSites.{FitsSite, written_right}
 use Rattle.bsv_modules.proofs.RightElements.{frame_many, body_right, guard_right}

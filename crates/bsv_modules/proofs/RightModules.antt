@@ -22,14 +22,15 @@ use Rattle.bsv_types.specs.Statements as typed
 use Rattle.bsv_types.specs.Modules as rules
 use Rattle.bsv_types.specs.Modules.{param_names, param_slots, param_right}
 use Rattle.bsv_types.proofs.Same.{both}
-use Rattle.bsv_typing.specs.Bodies.{Or, Scopes}
-use Rattle.bsv_typing.specs.Laws.{slot_right, frame_of, ScopesFit}
+use Rattle.bsv_statements.specs.Bodies.{Or, Scopes}
+use Rattle.bsv_typing.specs.Laws.{slot_right}
+use Rattle.bsv_statements.specs.Laws.{frame_of, ScopesFit}
 use Rattle.bsv_typing.proofs.Bound.{both_true}
 use Rattle.bsv_typing.proofs.Typings.{kind_back}
 use Rattle.bsv_typing.proofs.RightPlaces.{instance_slot}
-use Rattle.bsv_typing.proofs.RightCalls.{ok_is, went, passed}
+use Rattle.bsv_statements.proofs.RightCalls.{ok_is, went, passed}
 use Rattle.bsv_typing.proofs.RightExpressions.{ground_is}
-use Rattle.bsv_typing.proofs.RightBlocks.{inner_true}
+use Rattle.bsv_statements.proofs.RightBlocks.{inner_true}
 use Rattle.bsv_modules.specs.Laws.{FitsProgram}
 use Rattle.bsv_modules.specs.Modules.{State, asked, params_at, with_params, are_named, all_in, direct, defines_all}
 use Rattle.bsv_modules.specs.Programs.{Program, type_names, param_scopes, param_kind, module_header, site_of, is_module, all_there, Parts, module_made, opening_state, module_body, module_parts, module_params, site_at, env_of, written_at, module_case}

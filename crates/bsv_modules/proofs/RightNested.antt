@@ -17,14 +17,14 @@ use Rattle.bsv_types.specs.Methods.{Signature}
 use Rattle.bsv_types.specs.Expressions.{World, Frame, has_type}
 use Rattle.bsv_types.specs.Statements as typed
 use Rattle.bsv_types.specs.Modules as rules
-use Rattle.bsv_typing.specs.Bodies.{Or, Scopes, of_kind, in_head}
-use Rattle.bsv_typing.specs.Laws.{frame_of, ScopesFit}
+use Rattle.bsv_statements.specs.Bodies.{Or, Scopes, of_kind, in_head}
+use Rattle.bsv_statements.specs.Laws.{frame_of, ScopesFit}
 use Rattle.bsv_typing.proofs.Bound.{both_true}
-use Rattle.bsv_typing.proofs.RightScopes.{frame_opened, opened_fit}
-use Rattle.bsv_typing.proofs.RightCalls.{ok_is, went, has_true, kind_right}
-use Rattle.bsv_typing.proofs.RightStatements.{if_right_true}
-use Rattle.bsv_typing.proofs.RightBlocks.{inner_true}
-use Rattle.bsv_typing.proofs.RightArms.{head_right}
+use Rattle.bsv_statements.proofs.RightScopes.{frame_opened, opened_fit}
+use Rattle.bsv_statements.proofs.RightCalls.{ok_is, went, has_true, kind_right}
+use Rattle.bsv_statements.proofs.RightStatements.{if_right_true}
+use Rattle.bsv_statements.proofs.RightBlocks.{inner_true}
+use Rattle.bsv_statements.proofs.RightArms.{head_right}
 use Rattle.bsv_modules.specs.Modules.{Site, State, Run, task, scoped, inside, all_in, Arm, conditions, branch, arms, last_arm, if_case, block_case, for_case}
 use Rattle.bsv_modules.proofs.RightSites.{FitsSite}
 use Rattle.bsv_modules.proofs.RightMakers.{typed_site}

@@ -34,12 +34,12 @@ use Rattle.bsv_types.specs.Names.{distinct, lower_names}
 use Rattle.bsv_types.specs.Programs.{begins_empty, effect_right, method_header_right}
 use Rattle.bsv_types.proofs.Same.{both}
 use Rattle.bsv_scopes.specs.Scopes.{is_defined, is_listed, with_name}
-use Rattle.bsv_typing.specs.Env.{has_bits}
-use Rattle.bsv_typing.specs.Written.{TypeNames, with_bits, written, Argument, of_type, number, argument, value_effect, action_effect, effect_in, written_effect}
-use Rattle.bsv_typing.specs.Bodies.{Or, sure}
+use Rattle.bsv_context.specs.Env.{has_bits}
+use Rattle.bsv_context.specs.Written.{TypeNames, with_bits, written, Argument, of_type, number, argument, value_effect, action_effect, effect_in, written_effect}
+use Rattle.bsv_statements.specs.Bodies.{Or, sure}
 use Rattle.bsv_typing.proofs.Bound.{some_is, taken, both_true}
 use Rattle.bsv_typing.proofs.Typings.{kind_back}
-use Rattle.bsv_typing.proofs.RightCalls.{ok_is, went, there_is, passed}
+use Rattle.bsv_statements.proofs.RightCalls.{ok_is, went, there_is, passed}
 use Rattle.bsv_modules.specs.Growing.{Grows}
 use Rattle.bsv_modules.specs.Modules.{param, param_at, params_at, are_named, method_result}
 use Rattle.bsv_modules.specs.Programs.{Types, shapes_of, type_names, with_type, field_at, fields_at, field_names, width_passes, struct_named, is_struct, struct_at, with_struct, struct_case, typedef_case, header_at, headers_at, header_names, interface_named, interface_of, with_interface, interface_case, types_behind}

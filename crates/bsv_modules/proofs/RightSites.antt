@@ -18,13 +18,13 @@ use Rattle.bsv_types.specs.Expressions.{one, World}
 use Rattle.bsv_types.specs.Modules as rules
 use Rattle.bsv_types.specs.Programs.{begins_empty, shapes_right}
 use Rattle.bsv_types.proofs.Same.{both}
-use Rattle.bsv_typing.specs.Env.{has_bits}
-use Rattle.bsv_typing.specs.Written.{TypeNames, Argument, of_type, number, with_bits, plain_type, sized_type, widest, part_over, type_over, written_step, argument_step, written, argument}
+use Rattle.bsv_context.specs.Env.{has_bits}
+use Rattle.bsv_context.specs.Written.{TypeNames, Argument, of_type, number, with_bits, plain_type, sized_type, widest, part_over, type_over, written_step, argument_step, written, argument}
 use Rattle.bsv_typing.specs.Laws.{slot_right, FitsWorld}
 use Rattle.bsv_typing.proofs.Bound.{some_is, taken, tested_step}
 use Rattle.bsv_typing.proofs.RightOperands.{strictly}
 use Rattle.bsv_typing.proofs.RightGiven.{bits_value}
-use Rattle.bsv_typing.proofs.RightStatements.{value_slot_right}
+use Rattle.bsv_statements.proofs.RightStatements.{value_slot_right}
 use Rattle.bsv_modules.specs.Modules.{Header, Site}
 
 -- what a module may name stands in the world

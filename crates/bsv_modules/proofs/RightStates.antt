@@ -9,11 +9,11 @@ use Rattle.bsv_types.specs.Methods.{Signature}
 use Rattle.bsv_types.specs.Expressions.{Slot, World}
 use Rattle.bsv_types.specs.Statements as typed
 use Rattle.bsv_types.specs.Modules as rules
-use Rattle.bsv_typing.specs.Bodies.{Or, Scopes}
-use Rattle.bsv_typing.specs.Laws.{frame_of, ScopesFit}
+use Rattle.bsv_statements.specs.Bodies.{Or, Scopes}
+use Rattle.bsv_statements.specs.Laws.{frame_of, ScopesFit}
 use Rattle.bsv_typing.proofs.Bound.{some_is}
-use Rattle.bsv_typing.proofs.RightCalls.{ok_is}
-use Rattle.bsv_typing.proofs.RightScopes.{Defined}
+use Rattle.bsv_statements.proofs.RightCalls.{ok_is}
+use Rattle.bsv_statements.proofs.RightScopes.{Defined}
 use Rattle.bsv_modules.specs.Modules.{Run, State, scoped, is_free}
 use Rattle.bsv_modules.proofs.RightMakers.{typed_site}
 

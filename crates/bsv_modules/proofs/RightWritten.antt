@@ -12,8 +12,8 @@ use Rattle.bsv_types.specs.Shapes as ranged
 use Rattle.bsv_types.specs.Shapes.{Shapes, is_value, is_instance}
 use Rattle.bsv_types.specs.Expressions.{one}
 use Rattle.bsv_types.specs.Operators.{◌>>=◌}
-use Rattle.bsv_typing.specs.Env.{Limits, packed, has_bits, nests_within, most_maybes}
-use Rattle.bsv_typing.specs.Written.{TypeNames, with_bits, Argument, of_type, number, plain_type, sized_type, widest, part_over, type_over, applied_type, written_step, argument_step, written, argument}
+use Rattle.bsv_context.specs.Env.{Limits, packed, has_bits, nests_within, most_maybes}
+use Rattle.bsv_context.specs.Written.{TypeNames, with_bits, Argument, of_type, number, plain_type, sized_type, widest, part_over, type_over, applied_type, written_step, argument_step, written, argument}
 use Rattle.bsv_typing.specs.Laws.{slot_right}
 use Rattle.bsv_typing.proofs.RightGiven.{bits_value}
 use Rattle.bsv_modules.proofs.Entries.{any_left, any_right}

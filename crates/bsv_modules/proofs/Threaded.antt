@@ -1,6 +1,6 @@
 -- Lists that are made item by item, with the state behind the last item.
 use Rattle.std.proofs.Common.{◌≡◌, sym, List, [], ◌∷◌, ◌++◌, Ok, Err, refl, ap, append_assoc, append-nil}
-use Rattle.bsv_typing.specs.Bodies.{Or, ◌>=>◌}
+use Rattle.bsv_statements.specs.Bodies.{Or, ◌>=>◌}
 use Rattle.bsv_modules.specs.Modules.{State}
 
 module _ {A : Type 0} where

@@ -7,11 +7,11 @@ use Rattle.bsv_scopes.specs.Scopes.{Entries, found, is_defined, with_name, with_
 use Rattle.bsv_scopes.specs.Seen.{entries}
 use Rattle.bsv_types.specs.Kinds.{Kind, kind}
 use Rattle.bsv_types.specs.Methods.{Signature, methods}
-use Rattle.bsv_typing.specs.Env.{Env, Limits, in_reach, structure_of}
-use Rattle.bsv_typing.specs.Written.{TypeNames}
-use Rattle.bsv_typing.specs.declared.context.Context.{Context}
-use Rattle.bsv_typing.specs.Seen as typing
-use Rattle.bsv_typing.specs.SeenBodies.{fixed}
+use Rattle.bsv_context.specs.Env.{Env, Limits, in_reach, structure_of}
+use Rattle.bsv_context.specs.Written.{TypeNames}
+use Rattle.bsv_context.specs.declared.context.Context.{Context}
+use Rattle.bsv_context.specs.Seen as typing
+use Rattle.bsv_statements.specs.SeenBodies.{fixed}
 use Rattle.bsv_modules.specs.declared.program.Program as code_program
 use Rattle.bsv_modules.specs.Modules.{Header, Site}
 use Rattle.bsv_modules.specs.Programs as spec

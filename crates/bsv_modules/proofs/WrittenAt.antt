@@ -3,7 +3,7 @@ use Rattle.std.proofs.Common.{◌≡◌, Some, Ok}
 use Rattle.bsv_ast.specs.declared.text.Span.{Span}
 use Rattle.bsv_ast.specs.declared.types.WrittenType.{WrittenType}
 use Rattle.bsv_types.specs.Kinds.{Kind}
-use Rattle.bsv_typing.specs.Written.{written}
+use Rattle.bsv_context.specs.Written.{written}
 use Rattle.bsv_modules.specs.Programs.{Types, type_names, written_at}
 use Rattle.bsv_modules.proofs.RightMakers.{at_is}
 

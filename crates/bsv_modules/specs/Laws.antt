@@ -7,7 +7,7 @@ use Rattle.bsv_types.specs.Kinds.{Kind}
 use Rattle.bsv_types.specs.Expressions.{one, World}
 use Rattle.bsv_types.specs.Names.{countable}
 use Rattle.bsv_types.specs.Modules as typed
-use Rattle.bsv_typing.specs.Bodies.{Or}
+use Rattle.bsv_statements.specs.Bodies.{Or}
 use Rattle.bsv_typing.specs.Laws.{slot_right, FitsWorld}
 use Rattle.bsv_modules.specs.Modules.{Header}
 use Rattle.bsv_modules.specs.Programs.{Program, env_of, module_case}

@@ -51,13 +51,14 @@ use Rattle.bsv_types.specs.Asked.{attribute}
 use Rattle.bsv_types.specs.declared.asked.Owner.{Owner}
 use Rattle.bsv_types.specs.declared.asked.Owner.TheVariants as owner
 use Rattle.bsv_types.specs.Kinds.{type_of}
-use Rattle.bsv_typing.specs.Env.{Env, variable_in}
-use Rattle.bsv_typing.specs.Places.{Instance, place_of, method_from}
+use Rattle.bsv_context.specs.Env.{Env, variable_in}
+use Rattle.bsv_context.specs.Methods.{method_from}
+use Rattle.bsv_typing.specs.Places.{Instance, place_of}
 use Rattle.bsv_typing.specs.Typing.{typed, term, instance_named}
-use Rattle.bsv_typing.specs.Written.{TypeNames, written, written_effect}
-use Rattle.bsv_typing.specs.Returns.{returns}
+use Rattle.bsv_context.specs.Written.{TypeNames, written, written_effect}
+use Rattle.bsv_statements.specs.Returns.{returns}
 use Rattle.bsv_scopes.specs.Scopes.{opened, closed, in_scope}
-use Rattle.bsv_typing.specs.Bodies.{Or, ◌>=>◌, at, sure, Scopes, with_variable, with_scopes, Task, check, of_kind, declared_kind, assignable, in_head, all_runs, stmt_run}
+use Rattle.bsv_statements.specs.Bodies.{Or, ◌>=>◌, at, sure, Scopes, with_variable, with_scopes, Task, check, of_kind, declared_kind, assignable, in_head, all_runs, stmt_run}
 
 -- a module as its makers see it: its number, the types of its parameters, and its interface
 pub record Header : Type 0 where

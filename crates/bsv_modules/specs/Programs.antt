@@ -40,9 +40,9 @@ use Rattle.bsv_types.specs.declared.modules.Rule.{Rule}
 use Rattle.bsv_types.specs.declared.modules.ModuleStmt.{ModuleStmt}
 use Rattle.bsv_types.specs.declared.asked.Owner.TheVariants as owner
 use Rattle.bsv_types.specs.Kinds.{type_of}
-use Rattle.bsv_typing.specs.Env.{Env, Limits, has_bits, is_typed_value, structure_of, in_reach}
-use Rattle.bsv_typing.specs.Written.{TypeNames, written, written_effect}
-use Rattle.bsv_typing.specs.Bodies.{Or, ◌>=>◌, at, sure, Scopes}
+use Rattle.bsv_context.specs.Env.{Env, Limits, has_bits, is_typed_value, structure_of, in_reach}
+use Rattle.bsv_context.specs.Written.{TypeNames, written, written_effect}
+use Rattle.bsv_statements.specs.Bodies.{Or, ◌>=>◌, at, sure, Scopes}
 use Rattle.bsv_modules.specs.Modules.{Header, Site, State, params_at, with_params, are_named, method_result, body_of, asked, all_in, direct, defines_all}
 
 -- ---- the types of a program

@@ -11,14 +11,14 @@ use Rattle.bsv_types.specs.declared.modules.ModuleStmt.{ModuleStmt}
 use Rattle.bsv_types.specs.Kinds.{Kind, kind, is_interface}
 use Rattle.bsv_types.specs.declared.definitions.MethodResult.{MethodResult}
 use Rattle.bsv_types.specs.Methods.{Effect, effect, methods}
-use Rattle.bsv_typing.specs.Env.{has_bits, is_typed_value}
-use Rattle.bsv_typing.specs.Seen.{limits, shapes, shown, type_names, label, header as function_header}
-use Rattle.bsv_typing.specs.SeenBodies.{fixed}
-use Rattle.bsv_typing.specs.declared.context.Context.{Context}
-use Rattle.bsv_typing.specs.declared.context.FunctionHeader.{FunctionHeader}
-use Rattle.bsv_typing.specs.declared.context.Label.{Label}
-use Rattle.bsv_typing.specs.declared.fail.BodyFail.{BodyFail}
-use Rattle.bsv_typing.specs.declared.fail.BodyFail.TheVariants as body_fail
+use Rattle.bsv_context.specs.Env.{has_bits, is_typed_value}
+use Rattle.bsv_context.specs.Seen.{limits, shapes, shown, type_names, label, header as function_header}
+use Rattle.bsv_statements.specs.SeenBodies.{fixed}
+use Rattle.bsv_context.specs.declared.context.Context.{Context}
+use Rattle.bsv_context.specs.declared.context.FunctionHeader.{FunctionHeader}
+use Rattle.bsv_context.specs.declared.context.Label.{Label}
+use Rattle.bsv_statements.specs.declared.fail.BodyFail.{BodyFail}
+use Rattle.bsv_statements.specs.declared.fail.BodyFail.TheVariants as body_fail
 use Rattle.bsv_modules.specs.declared.named.SeenNames as code_names
 use Rattle.bsv_modules.specs.declared.program.Program as code_program
 use Rattle.bsv_modules.specs.declared.site.Header as code_header

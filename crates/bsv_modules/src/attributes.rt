@@ -1,14 +1,14 @@
 ghost use Rattle.std.specs.Prelude.{◌≡◌};
-ghost use Rattle.bsv_typing.specs.SeenBodies.{GivesAt};
+ghost use Rattle.bsv_statements.specs.SeenBodies.{GivesAt};
 ghost use Rattle.bsv_modules.specs.Modules as spec;
 
 use bsv_ast::{Attribute as Written, AttributeGroup, Span};
+use bsv_statements::BodyFail;
 use bsv_types::{Attribute, Items, Owner, attribute};
-use bsv_typing::BodyFail;
 use std::alloc::Global;
 
 /// What the attributes of one pair of brackets ask for.
-#[tactic(auto, using(bsv_typing::proofs::Fronts::lists))]
+#[tactic(auto, using(bsv_statements::proofs::Fronts::lists))]
 fn asked_in_group(
     alloc: Global,
     span: Span,

@@ -2,9 +2,9 @@ ghost use Rattle.std.specs.Prelude.{◌≡◌, Some, IfOk};
 ghost use Rattle.std.specs.List.{list_all};
 ghost use Rattle.bsv_types.specs.Kinds.{kind};
 ghost use Rattle.bsv_types.specs.Names.{distinct};
-ghost use Rattle.bsv_typing.specs.Bodies.{at};
-ghost use Rattle.bsv_typing.specs.Seen.{Gives, type_names};
-ghost use Rattle.bsv_typing.specs.SeenBodies.{GivesAt};
+ghost use Rattle.bsv_statements.specs.Bodies.{at};
+ghost use Rattle.bsv_context.specs.Seen.{Gives, type_names};
+ghost use Rattle.bsv_statements.specs.SeenBodies.{GivesAt};
 ghost use Rattle.bsv_modules.specs.Programs as spec;
 ghost use Rattle.bsv_modules.specs.Seen.{KeptAt, labels_of, types_of};
 
@@ -15,12 +15,11 @@ use bsv_ast::{
     MethodHeader as WrittenHeader, Span, Typedef, WrittenType,
 };
 use bsv_bits::{Name, OutOfMemory};
+use bsv_context::{Context, Fail, Label, is_lower, is_upper, written_effect, written_type};
 use bsv_scopes::Scope;
+use bsv_statements::{BodyFail, at};
 use bsv_types::{Enum, Field, Interface, Items, MethodHeader, Methods, Struct, Ty};
-use bsv_typing::{
-    BodyFail, Context, Fail, Label, at, is_lower, is_upper, place_number, written_effect,
-    written_type,
-};
+use bsv_typing::place_number;
 use std::alloc::Global;
 
 /// The name of a type stands for the type.

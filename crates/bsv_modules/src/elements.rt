@@ -2,8 +2,8 @@ ghost use Rattle.std.specs.Prelude.{◌≡◌, ◌<◌, IfOk, IsTrue, Ok, Some, 
 ghost use Rattle.bsv_scopes.specs.Scopes.{in_scope};
 ghost use Rattle.bsv_types.specs.Kinds.{kind};
 ghost use Rattle.bsv_types.specs.Methods.{effect};
-ghost use Rattle.bsv_typing.specs.Seen.{method_of, shown, type_names};
-ghost use Rattle.bsv_typing.specs.SeenBodies.{GivesAt, fixed, task_of};
+ghost use Rattle.bsv_context.specs.Seen.{method_of, shown, type_names};
+ghost use Rattle.bsv_statements.specs.SeenBodies.{GivesAt, fixed, task_of};
 ghost use Rattle.bsv_modules.specs.Modules as spec;
 ghost use Rattle.bsv_modules.specs.Seen.{method_header_of, site_of, state_of};
 
@@ -15,15 +15,14 @@ use bsv_ast::{
     Body as WrittenBody, Expr, Method as WrittenMethod, Rule as WrittenRule, Span, Stmt,
 };
 use bsv_bits::Name;
+use bsv_context::{Context, FoundMethod, Variable, is_lower, method_named, written_effect};
 use bsv_scopes::Scopes;
+use bsv_statements::{BodyFail, Task, at, of_type, returns, statements};
 use bsv_types::{
     Body, Boxed, Expr as Typed, Items, Method, MethodResult, ModuleStmt, Owner, Param, Rule,
     Stmt as TypedStmt, Ty,
 };
-use bsv_typing::{
-    BodyFail, Context, FoundMethod, Task, Variable, at, is_lower, method_named, of_type,
-    place_number, returns, statements, written_effect,
-};
+use bsv_typing::place_number;
 use std::alloc::Global;
 use std::mem::replace;
 
@@ -149,7 +148,7 @@ pub fn level(scopes: &Scopes<Variable>) -> Result<u32, BodyFail>
 }
 
 /// The statements of a rule, in a scope of their own.
-#[tactic(auto, using(bsv_typing::proofs::Layers::closes))]
+#[tactic(auto, using(bsv_context::proofs::Layers::closes))]
 fn rule_body(
     alloc: Global,
     site: &Site<'_>,
@@ -256,7 +255,7 @@ fn is_free(methods: &[Option<Method>], number: usize) -> bool
 }
 
 /// The body of a method, in the scope of its parameters.
-#[tactic(auto, using(bsv_typing::proofs::Layers::closes))]
+#[tactic(auto, using(bsv_context::proofs::Layers::closes))]
 fn method_body(
     alloc: Global,
     site: &Site<'_>,
@@ -279,7 +278,7 @@ fn method_body(
 }
 
 /// A method that the interface wants and that does not stand yet.
-#[tactic(auto, unfolding(bsv_typing::specs::Places::method_named))]
+#[tactic(auto, unfolding(bsv_context::specs::Methods::method_named))]
 pub fn wanted<'a>(
     site: &Site<'a>,
     state: &State,

@@ -1,17 +1,19 @@
 ghost use Rattle.std.specs.Prelude.{◌≡◌};
 ghost use Rattle.bsv_types.specs.Kinds.{kind};
 ghost use Rattle.bsv_types.specs.Methods as table;
-ghost use Rattle.bsv_typing.specs.Seen.{Gives, shown};
-ghost use Rattle.bsv_typing.specs.SeenBodies.{GivesAt};
+ghost use Rattle.bsv_context.specs.Seen.{Gives, shown};
+ghost use Rattle.bsv_statements.specs.SeenBodies.{GivesAt};
 ghost use Rattle.bsv_modules.specs.Modules as spec;
 ghost use Rattle.bsv_modules.specs.Seen.{header, kinds, module_named, site_of};
 
 use crate::site::{Header, Site};
 use bsv_ast::{Expr, Make as WrittenMake, Span};
 use bsv_bits::Name;
+use bsv_context::{Fail, Variable, is_interface};
 use bsv_scopes::Scopes;
+use bsv_statements::{BodyFail, at};
 use bsv_types::{Argument, GivenMaker, Items, Make, Maker, PartTy, Place, Ty};
-use bsv_typing::{BodyFail, Fail, Variable, at, handed_instance, is_interface, typing};
+use bsv_typing::{handed_instance, typing};
 use std::alloc::Global;
 use std::slice;
 

@@ -1,9 +1,9 @@
 ghost use Rattle.std.specs.Prelude.{map, option_map};
 ghost use Rattle.bsv_types.specs.Kinds.{bool, kind};
-ghost use Rattle.bsv_typing.specs.Bodies.{at, of_kind};
-ghost use Rattle.bsv_typing.specs.Env.{variable_in};
-ghost use Rattle.bsv_typing.specs.Seen.{shown};
-ghost use Rattle.bsv_typing.specs.SeenBodies.{GivesAt};
+ghost use Rattle.bsv_statements.specs.Bodies.{at, of_kind};
+ghost use Rattle.bsv_context.specs.Env.{variable_in};
+ghost use Rattle.bsv_context.specs.Seen.{shown};
+ghost use Rattle.bsv_statements.specs.SeenBodies.{GivesAt};
 ghost use Rattle.bsv_modules.specs.Modules as spec;
 ghost use Rattle.bsv_modules.specs.Seen.{arm_of, array_of, site_of, state_of};
 
@@ -15,12 +15,10 @@ use bsv_ast::{
     ModuleStmt as WrittenStmt, Span, WrittenType,
 };
 use bsv_bits::Name;
+use bsv_context::{Made, Slot, Variable, is_interface, is_lower, written_type};
 use bsv_scopes::Scopes;
+use bsv_statements::{BodyFail, Task, assignable, at, checked, declare, declared_type, head};
 use bsv_types::{Boxed as TypedBox, Expr as Typed, Items, ModuleBranch, ModuleStmt, Ty};
-use bsv_typing::{
-    BodyFail, Made, Slot, Task, Variable, assignable, at, checked, declare, declared_type, head,
-    is_interface, is_lower, written_type,
-};
 use std::alloc::Global;
 
 /// The interface of an instance that is declared.
@@ -52,7 +50,7 @@ fn lower_name(alloc: Global, span: Span, name: &Ident) -> Result<Name, BodyFail>
 }
 
 /// An instance.
-#[tactic(auto, using(bsv_typing::proofs::Lists::types_back))]
+#[tactic(auto, using(bsv_context::proofs::TypesBack::types_back))]
 fn instance(
     alloc: Global,
     site: &Site<'_>,
@@ -95,7 +93,7 @@ fn count(
 }
 
 /// An array of instances, which has no instance yet.
-#[tactic(auto, using(bsv_typing::proofs::Lists::types_back))]
+#[tactic(auto, using(bsv_context::proofs::TypesBack::types_back))]
 fn array(
     alloc: Global,
     site: &Site<'_>,
@@ -123,7 +121,7 @@ fn array(
 }
 
 /// An array of instances: its level, and the interface of its instances.
-#[tactic(auto, using(bsv_typing::proofs::Layers::layers), unfolding(bsv_typing::specs::Env::variable_in))]
+#[tactic(auto, using(bsv_context::proofs::Layers::layers), unfolding(bsv_context::specs::Env::variable_in))]
 fn array_named(
     alloc: Global,
     scopes: &Scopes<Variable>,
@@ -165,7 +163,7 @@ fn place(
 }
 
 /// A variable of the module.
-#[tactic(auto, using(bsv_typing::proofs::Lists::types_back))]
+#[tactic(auto, using(bsv_context::proofs::TypesBack::types_back))]
 fn variable(
     alloc: Global,
     site: &Site<'_>,
@@ -278,7 +276,7 @@ fn all_nested(
 
 /// A statement in a scope of its own.
 #[cycle(module_statements)]
-#[tactic(auto, using(bsv_typing::proofs::Layers::closes))]
+#[tactic(auto, using(bsv_context::proofs::Layers::closes))]
 fn inside(
     alloc: Global,
     site: &Site<'_>,
@@ -296,7 +294,7 @@ fn inside(
 
 /// `begin .. end`.
 #[cycle(module_statements)]
-#[tactic(auto, using(bsv_typing::proofs::Layers::closes))]
+#[tactic(auto, using(bsv_context::proofs::Layers::closes))]
 fn block(
     alloc: Global,
     site: &Site<'_>,
@@ -327,7 +325,7 @@ fn condition(
 }
 
 /// The conditions of an `if`.
-#[tactic(auto, using(bsv_typing::proofs::Fronts::lists))]
+#[tactic(auto, using(bsv_statements::proofs::Fronts::lists))]
 fn conditions(
     alloc: Global,
     site: &Site<'_>,
@@ -437,7 +435,7 @@ fn choice(
 
 /// `for`.
 #[cycle(module_statements)]
-#[tactic(auto, using(bsv_typing::proofs::Layers::closes))]
+#[tactic(auto, using(bsv_context::proofs::Layers::closes))]
 fn repeat(
     alloc: Global,
     site: &Site<'_>,

@@ -6,9 +6,9 @@ ghost use Rattle.bsv_modules.specs.Programs.{field_names, header_names};
 ghost use Rattle.bsv_modules.specs.Seen.{seen_names};
 
 use bsv_bits::{Name, OutOfMemory};
+use bsv_context::is_lower;
 use bsv_scopes::Scope;
 use bsv_types::{Field, MethodHeader, Param};
-use bsv_typing::is_lower;
 use std::alloc::Global;
 
 /// The names that came so far, no two of them one.

@@ -1,16 +1,17 @@
 ghost use Rattle.std.specs.Prelude.{◌≡◌};
 ghost use Rattle.bsv_types.specs.Kinds.{kind};
-ghost use Rattle.bsv_typing.specs.Bodies.{at};
-ghost use Rattle.bsv_typing.specs.Seen.{shown, type_names};
-ghost use Rattle.bsv_typing.specs.SeenBodies.{GivesAt};
+ghost use Rattle.bsv_statements.specs.Bodies.{at};
+ghost use Rattle.bsv_context.specs.Seen.{shown, type_names};
+ghost use Rattle.bsv_statements.specs.SeenBodies.{GivesAt};
 ghost use Rattle.bsv_modules.specs.Modules as spec;
 ghost use Rattle.bsv_modules.specs.Seen.{allowed};
 
 use bsv_ast::{Param as WrittenParam, Span};
 use bsv_bits::Name;
+use bsv_context::{Context, Slot, Variable, is_interface, written_type};
 use bsv_scopes::Scopes;
+use bsv_statements::{BodyFail, at, declare};
 use bsv_types::{Items, Param, Ty};
-use bsv_typing::{BodyFail, Context, Slot, Variable, at, declare, is_interface, written_type};
 use std::alloc::Global;
 
 /// Which types parameters may have.
@@ -41,7 +42,7 @@ impl Allowed {
 }
 
 /// A parameter.
-#[tactic(auto, using(bsv_typing::proofs::Lists::types_back))]
+#[tactic(auto, using(bsv_context::proofs::TypesBack::types_back))]
 fn param(
     alloc: Global,
     context: &Context,
@@ -61,7 +62,7 @@ fn param(
 }
 
 /// Parameters, of types that are allowed.
-#[tactic(auto, using(bsv_typing::proofs::Fronts::lists))]
+#[tactic(auto, using(bsv_statements::proofs::Fronts::lists))]
 pub(crate) fn params(
     alloc: Global,
     context: &Context,

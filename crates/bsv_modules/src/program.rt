@@ -2,8 +2,8 @@ ghost use Rattle.std.specs.Prelude.{◌≡◌, ◌++◌, false, IfOk, map, optio
 ghost use Rattle.std.specs.List.{list_all};
 ghost use Rattle.bsv_types.specs.Kinds.{kind};
 ghost use Rattle.bsv_types.specs.Methods.{methods, param_kinds};
-ghost use Rattle.bsv_typing.specs.Seen.{method_of, shapes, shown};
-ghost use Rattle.bsv_typing.specs.SeenBodies.{GivesAt};
+ghost use Rattle.bsv_context.specs.Seen.{method_of, shapes, shown};
+ghost use Rattle.bsv_statements.specs.SeenBodies.{GivesAt};
 ghost use Rattle.bsv_modules.specs.Modules as modules;
 ghost use Rattle.bsv_modules.specs.Programs as spec;
 ghost use Rattle.bsv_modules.specs.Seen.{KeptAt, body_seen, function_seen, heading, kinds, module_seen, program_of, site_of};
@@ -20,14 +20,16 @@ use bsv_ast::{
     ModuleBranch as WrittenBranch, ModuleStmt as WrittenStmt, Param as WrittenParam, Span,
 };
 use bsv_bits::Name;
+use bsv_context::{
+    Context, FoundMethod, FunctionHeader, Variable, is_interface, is_lower, method_count,
+    method_named,
+};
 use bsv_scopes::{Scope, Scopes};
+use bsv_statements::{BodyFail, at};
 use bsv_types::{
     Body, Boxed, Function, Items, Method, MethodResult, Module, ModuleStmt, Owner, Param, Rule, Ty,
 };
-use bsv_typing::{
-    BodyFail, Context, FoundMethod, FunctionHeader, Variable, at, is_interface, is_lower,
-    method_count, method_named, place_number,
-};
+use bsv_typing::place_number;
 use std::alloc::{AllocError, Global};
 
 /// What the functions and modules of a program may name.
@@ -354,7 +356,7 @@ fn mark(marks: &mut [bool], found: Option<FoundMethod<'_>>)
 
 /// The methods of a statement, also those in it, have their marks.
 #[cycle(marks)]
-#[tactic(auto, using(crate::proofs::Marks::marking), unfolding(bsv_typing::specs::Places::method_named))]
+#[tactic(auto, using(crate::proofs::Marks::marking), unfolding(bsv_context::specs::Methods::method_named))]
 fn mark_stmt(context: &Context, interface: &Ty, stmt: &WrittenStmt, marks: &mut [bool])
     ensures { marks.new ≡ modules.all_marked (methods (shapes context.now) (kind interface.now))
         (modules.stmt_names stmt.now) marks.old }

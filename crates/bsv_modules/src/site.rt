@@ -1,14 +1,15 @@
 ghost use Rattle.bsv_types.specs.Kinds.{kind};
-ghost use Rattle.bsv_typing.specs.Bodies.{of_kind};
-ghost use Rattle.bsv_typing.specs.Seen.{shown};
-ghost use Rattle.bsv_typing.specs.SeenBodies.{GivesAt};
+ghost use Rattle.bsv_statements.specs.Bodies.{of_kind};
+ghost use Rattle.bsv_context.specs.Seen.{shown};
+ghost use Rattle.bsv_statements.specs.SeenBodies.{GivesAt};
 ghost use Rattle.bsv_modules.specs.Modules as spec;
 ghost use Rattle.bsv_modules.specs.Seen.{site_of};
 
 use bsv_ast::{Expr, Span};
+use bsv_context::{Context, Variable};
 use bsv_scopes::{Scope, Scopes};
+use bsv_statements::{BodyFail, Task, of_type};
 use bsv_types::{Expr as Typed, Items, Method, Rule, Ty};
-use bsv_typing::{BodyFail, Context, Task, Variable, of_type};
 use std::alloc::Global;
 
 /// A module as its makers see it.

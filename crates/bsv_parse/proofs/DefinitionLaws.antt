@@ -10,15 +10,15 @@ use Rattle.bsv_expr.specs.Brackets.{openers, closers}
 use Rattle.bsv_expr.specs.Expressions.{expression_first, expression_more, more_of, levels, words_of}
 use Rattle.bsv_expr.proofs.Ahead.{nullable, first, more, test, guarded, Tame}
 use Rattle.bsv_expr.proofs.Complete.{Names}
-use Rattle.bsv_parse.specs.Types.{type_first}
-use Rattle.bsv_parse.specs.Statements.{stmt_first}
+use Rattle.bsv_blocks.specs.Types.{type_first}
+use Rattle.bsv_blocks.specs.Statements.{stmt_first}
 use Rattle.bsv_parse.specs.Places as places
 use Rattle.bsv_parse.specs.Places.{Hole, Of}
 use Rattle.bsv_parse.specs.ModuleTrees.{Header, RuleFront, InterfaceFront}
 use Rattle.bsv_parse.specs.Definitions as grammar
-use Rattle.bsv_parse.proofs.TypeKnot.{type_more}
-use Rattle.bsv_parse.proofs.SimpleLaws.{simple_more}
-use Rattle.bsv_parse.proofs.StatementKnot.{stmt_more}
+use Rattle.bsv_blocks.proofs.TypeKnot.{type_more}
+use Rattle.bsv_blocks.proofs.SimpleLaws.{simple_more}
+use Rattle.bsv_blocks.proofs.StatementKnot.{stmt_more}
 use Rattle.bsv_parse.proofs.PlaceLaws.{anywhere, PartLaws, NamesAt, GoodAt, WithinAt, part_good, part_laws}
 
 -- the words with which a statement begins that holds no other

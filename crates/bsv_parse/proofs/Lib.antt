@@ -1,12 +1,8 @@
 pub mod Closed
 pub mod Deepest
 pub mod DefinitionLaws
-pub mod HoleLaws
 pub mod Judged
 pub mod ModuleKnot
 pub mod PackageLaws
 pub mod PlaceLaws
-pub mod SimpleLaws
-pub mod StatementKnot
-pub mod TypeKnot
 pub mod Whole

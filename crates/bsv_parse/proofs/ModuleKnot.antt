@@ -19,12 +19,12 @@ use Rattle.bsv_expr.proofs.Complete.{Good, Within, Names, good}
 use Rattle.bsv_expr.proofs.Agrees.{Agree, agrees}
 use Rattle.bsv_expr.proofs.Closing.{Balanced, balanced, bonus, lower_limit}
 use Rattle.bsv_expr.proofs.Deeper.{deep}
-use Rattle.bsv_parse.specs.Types.{type_first}
-use Rattle.bsv_parse.specs.Simple as simple_grammar
+use Rattle.bsv_blocks.specs.Types.{type_first}
+use Rattle.bsv_blocks.specs.Simple as simple_grammar
 use Rattle.bsv_parse.specs.Definitions as definitions
 use Rattle.bsv_parse.specs.Modules as grammar
 use Rattle.bsv_parse.specs.Modules.{Nested, Filled, Of, Inner, inner, IsModuleStmt, mstmt, within, IsModule, mstmt_first, mstmts, mstmt_body, ModuleFront, module_front, module_behind, module_whole}
-use Rattle.bsv_parse.proofs.SimpleLaws.{says_sound, says_balanced, says_deep, says_agrees, head_laws, head_tame, head_guarded}
+use Rattle.bsv_blocks.proofs.SimpleLaws.{says_sound, says_balanced, says_deep, says_agrees, head_laws, head_tame, head_guarded}
 use Rattle.bsv_parse.proofs.PlaceLaws.{part_sound, part_balanced, part_deep, part_agrees}
 use Rattle.bsv_parse.proofs.DefinitionLaws.{simple_first, simple_laws, simple_tame, simple_guarded, rule_laws, rule_tame, rule_guarded, method_laws, method_tame, method_guarded, asked_laws, asked_tame, asked_guarded, module_head_laws, module_head_tame, module_head_guarded}
 

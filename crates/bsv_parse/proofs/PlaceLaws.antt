@@ -16,13 +16,13 @@ use Rattle.bsv_expr.proofs.Complete.{Good, Within, Names, good}
 use Rattle.bsv_expr.proofs.Agrees.{Agree, agrees}
 use Rattle.bsv_expr.proofs.Closing.{Balanced, balanced, bonus, lower_limit}
 use Rattle.bsv_expr.proofs.Deeper.{deep}
-use Rattle.bsv_parse.specs.Types.{type_first}
-use Rattle.bsv_parse.specs.Holes as simple_places
-use Rattle.bsv_parse.specs.Statements.{stmt_first}
+use Rattle.bsv_blocks.specs.Types.{type_first}
+use Rattle.bsv_blocks.specs.Holes as simple_places
+use Rattle.bsv_blocks.specs.Statements.{stmt_first}
 use Rattle.bsv_parse.specs.Places.{Hole, Filled, Of, Inner, inner, Says, part}
-use Rattle.bsv_parse.proofs.TypeKnot.{type_more}
-use Rattle.bsv_parse.proofs.HoleLaws as holes
-use Rattle.bsv_parse.proofs.StatementKnot.{stmt_more, stmt_sound, stmt_laws_at, stmt_balanced, stmt_deep, stmt_agrees}
+use Rattle.bsv_blocks.proofs.TypeKnot.{type_more}
+use Rattle.bsv_blocks.proofs.HoleLaws as holes
+use Rattle.bsv_blocks.proofs.StatementKnot.{stmt_more, stmt_sound, stmt_laws_at, stmt_balanced, stmt_deep, stmt_agrees}
 
 -- the words with which what stands at a place begins
 abbrev pub place_begins : Hole → List Terminal

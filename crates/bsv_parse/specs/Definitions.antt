@@ -26,8 +26,8 @@ use Rattle.bsv_expr.specs.declared.lexeme.Lexeme.{Lexeme}
 use Rattle.bsv_expr.specs.Grammar.{Grammar}
 use Rattle.bsv_expr.specs.Expressions.{always, snoc, text, the, behind, listed, many, lower, upper, pair}
 use Rattle.bsv_parse.specs.Places.{Hole, Of, stmts}
-use Rattle.bsv_parse.specs.Simple.{told_as}
-use Rattle.bsv_parse.specs.Types.{type_first}
+use Rattle.bsv_blocks.specs.Simple.{told_as}
+use Rattle.bsv_blocks.specs.Types.{type_first}
 use Rattle.bsv_parse.specs.ModuleTrees.{unquoted, attribute_of, group_of, param_of, make_of, typed_of, let_of, changed_of, statements_of, value_of, RuleFront, rule_of, Header, method_of, function_of, ModuleHead, opened, alias_of, Named, enum_of, struct_of, field_of, import_of, method_header_of, InterfaceFront, interface_of}
 use Rattle.bsv_parse.specs.declared.simple_module.Given.{Given}
 use Rattle.bsv_parse.specs.declared.simple_module.Given.TheVariants as given

@@ -1,12 +1,7 @@
 pub mod Definitions
 pub mod Depths
-pub mod Holes
 pub mod ModuleTrees
 pub mod Modules
 pub mod Packages
 pub mod Places
 pub mod Reads
-pub mod Simple
-pub mod StatementTrees
-pub mod Statements
-pub mod Types

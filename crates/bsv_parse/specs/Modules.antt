@@ -15,8 +15,8 @@ use Rattle.bsv_expr.specs.declared.fault.ReadFault.TheVariants as fault
 use Rattle.bsv_expr.specs.Grammar.{Grammar, Phrase, Means}
 use Rattle.bsv_expr.specs.Reading.{Read, read}
 use Rattle.bsv_expr.specs.Expressions.{the, behind, many, pair}
-use Rattle.bsv_parse.specs.Holes as simple_places
-use Rattle.bsv_parse.specs.Simple as simple_grammar
+use Rattle.bsv_blocks.specs.Holes as simple_places
+use Rattle.bsv_blocks.specs.Simple as simple_grammar
 use Rattle.bsv_parse.specs.Places.{Says, part}
 use Rattle.bsv_parse.specs.Definitions as definitions
 use Rattle.bsv_parse.specs.ModuleTrees.{block_of, of_rule, of_method, branch_of, one_branch, is_open, with_else, if_of, for_of, ModuleHead, module_of}

@@ -10,9 +10,9 @@ use Rattle.bsv_expr.specs.Reading.{Read, read}
 use Rattle.bsv_expr.specs.Expressions as expr_grammar
 use Rattle.bsv_expr.specs.Expressions.{IsExpr, many}
 use Rattle.bsv_expr.specs.Readers as readers
-use Rattle.bsv_parse.specs.Types.{IsType}
-use Rattle.bsv_parse.specs.Types as type_grammar
-use Rattle.bsv_parse.specs.Statements.{IsStmt, stmt, stmt_first}
+use Rattle.bsv_blocks.specs.Types.{IsType}
+use Rattle.bsv_blocks.specs.Types as type_grammar
+use Rattle.bsv_blocks.specs.Statements.{IsStmt, stmt, stmt_first}
 
 pub data Hole : Type 0 where
   expression : Hole

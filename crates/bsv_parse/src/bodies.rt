@@ -5,15 +5,14 @@ ghost use Rattle.bsv_parse.specs.Places.{part};
 ghost use Rattle.bsv_parse.specs.Definitions as grammar;
 ghost use Rattle.bsv_parse.specs.ModuleTrees as trees;
 
-use crate::simple::word;
-use crate::statements::{STMT_FIRST, stmt};
 use bsv_ast::{Body, Expr, Items, Span, Stmt};
+use bsv_blocks::{STMT_FIRST, stmt, word};
 use bsv_expr::{Lexeme, ReadFault, expect, expr, starts, to};
 use bsv_lex::Terminal;
 use std::alloc::Global;
 
 /// `{ stmt }`
-#[tactic(auto, using(bsv_expr::proofs::Turns::turns_of), unfolding(crate::specs::Places::stmts, crate::specs::Statements::stmt_first, crate::specs::Places::inner, bsv_expr::specs::Reading::read))]
+#[tactic(auto, using(bsv_expr::proofs::Turns::turns_of), unfolding(crate::specs::Places::stmts, bsv_blocks::specs::Statements::stmt_first, crate::specs::Places::inner, bsv_expr::specs::Reading::read))]
 pub fn stmts<'a>(
     alloc: Global,
     source: &[u8],

@@ -7,8 +7,8 @@ ghost use Rattle.bsv_parse.specs.ModuleTrees as trees;
 use crate::bodies::ending;
 use crate::params::optional_params;
 use crate::rules::header;
-use crate::types::written;
 use bsv_ast::{Field, Ident, Import, Interface, Items, MethodHeader, Span, Typedef};
+use bsv_blocks::written;
 use bsv_expr::{Lexeme, ReadFault, expect, name, starts, to};
 use bsv_lex::Terminal;
 use std::alloc::Global;
@@ -194,7 +194,7 @@ fn field<'a>(
 }
 
 /// `{ type Lower ";" }`
-#[tactic(auto, using(bsv_expr::proofs::Turns::turns_of), unfolding(crate::specs::Definitions::fields, crate::specs::Types::type_first, bsv_expr::specs::Reading::read))]
+#[tactic(auto, using(bsv_expr::proofs::Turns::turns_of), unfolding(crate::specs::Definitions::fields, bsv_blocks::specs::Types::type_first, bsv_expr::specs::Reading::read))]
 fn fields<'a>(
     alloc: Global,
     source: &[u8],

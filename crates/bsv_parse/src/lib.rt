@@ -1,10 +1,10 @@
 //! Packages: the tree of a whole file, exactly where its grammar has one.
 //!
-//! Modules in reading order: `types`; `simple` (statements that hold no other, conditions and the
-//! heads of loops), `statements`; `attributes`, `params`, `bodies` (of rules, methods and
-//! functions), `simple_module` (statements of a module that hold no other), `rules` (rules, methods
-//! and functions), `definitions` (types, interfaces and imports), `modules`, `items` (files),
-//! `depth` (how many brackets are open at once), `answer` (the public call).
+//! Modules in reading order: `attributes`, `params`, `bodies` (of rules, methods and functions),
+//! `simple_module` (statements of a module that hold no other), `rules` (rules, methods and
+//! functions), `definitions` (types, interfaces and imports), `modules`, `items` (files), `depth`
+//! (how many brackets are open at once), `answer` (the public call). Types and statements are those
+//! of `bsv_blocks`.
 //!
 //! A piece of the tree that is held while something may still fail stands in a `Boxed`: an early
 //! end then drops it in one step, which keeps the proof of the function short.
@@ -19,9 +19,6 @@ mod items;
 mod modules;
 mod params;
 mod rules;
-mod simple;
 mod simple_module;
-mod statements;
-mod types;
 
 pub use answer::{ParseFault, one_package, package};

@@ -2,8 +2,8 @@ ghost use Rattle.bsv_expr.specs.Reading.{Gives};
 ghost use Rattle.bsv_parse.specs.Places.{part};
 ghost use Rattle.bsv_parse.specs.Definitions as grammar;
 
-use crate::types::written;
 use bsv_ast::{Items, Param};
+use bsv_blocks::written;
 use bsv_expr::{Lexeme, ReadFault, expect, name, starts, to};
 use bsv_lex::Terminal;
 use std::alloc::Global;
@@ -72,7 +72,7 @@ pub fn params<'a>(
 }
 
 /// `"(" [ params ] ")"`
-#[tactic(auto, unfolding(crate::specs::Definitions::bracketed_params, crate::specs::Types::type_first, bsv_expr::specs::Reading::read))]
+#[tactic(auto, unfolding(crate::specs::Definitions::bracketed_params, bsv_blocks::specs::Types::type_first, bsv_expr::specs::Reading::read))]
 pub fn bracketed_params<'a>(
     alloc: Global,
     source: &[u8],

@@ -4,8 +4,8 @@ ghost use Rattle.bsv_parse.specs.Places.{part};
 ghost use Rattle.bsv_parse.specs.Definitions as grammar;
 ghost use Rattle.bsv_parse.specs.ModuleTrees as trees;
 
-use crate::types::written;
 use bsv_ast::{Declaration, DeclaredType, Expr, Ident, Items, Make, ModuleStmt, Span, WrittenType};
+use bsv_blocks::written;
 use bsv_expr::{Lexeme, ReadFault, arguments, expect, expr, name, starts, to};
 use bsv_lex::Terminal;
 use std::alloc::Global;
@@ -267,7 +267,7 @@ fn rewritten<'a>(
 }
 
 /// A statement that holds no other.
-#[tactic(auto, unfolding(crate::specs::Definitions::simple, crate::specs::Types::type_first, bsv_expr::specs::Reading::read))]
+#[tactic(auto, unfolding(crate::specs::Definitions::simple, bsv_blocks::specs::Types::type_first, bsv_expr::specs::Reading::read))]
 pub fn simple<'a>(
     alloc: Global,
     source: &[u8],

@@ -3,7 +3,8 @@ use Rattle.std.proofs.Common.{◌≡◌, Bool, true, false, cond, ◌&&◌, Opti
 use Rattle.bsv_types.specs.Kinds.{Kind, same_kind}
 use Rattle.bsv_types.specs.Operators.{◌>>=◌}
 use Rattle.bsv_types.proofs.Same.{same_is}
-use Rattle.bsv_typing.specs.Operands.{Made, Check, wanted, check_if}
+use Rattle.bsv_context.specs.Env.{Made, wanted}
+use Rattle.bsv_typing.specs.Operands.{Check, check_if}
 use Rattle.bsv_typing.specs.Forms.{if_true}
 
 pub some_is : {A : Type 0} (x y : A) → Some x ≡ Some y → x ≡ y

@@ -1,24 +1,11 @@
--- A list that is made item by item, and types that are seen as plain data.
-use Rattle.std.proofs.Common.{ℕ, zero, suc, ◌≤◌, take, drop, arith, ◌≡◌, sym, ◌∙◌, List, [], ◌∷◌, ◌++◌, Option, Some, None, map, refl, ap, append_assoc, append-nil}
+-- A list that is made item by item.
+use Rattle.std.proofs.Common.{ℕ, zero, suc, ◌≤◌, take, drop, arith, ◌≡◌, sym, List, [], ◌∷◌, ◌++◌, Option, Some, None, map, refl, ap, append_assoc, append-nil}
 use Rattle.std.proofs.lemmas.List.{take-map, drop-map, length-map}
 use Rattle.bsv_ast.specs.declared.expressions.Expr as source
 use Rattle.bsv_ast.specs.Depths.{expr_depth, greatest}
 use Rattle.bsv_types.specs.declared.expressions.Expr.{Expr}
-use Rattle.bsv_types.specs.declared.types.PartTy.{PartTy}
-use Rattle.bsv_types.specs.declared.types.Ty.{Ty, Part, fold-roll-Ty, roll-Ty}
-use Rattle.bsv_types.specs.declared.types.Ty.TheOpen.{Ty-F}
-use Rattle.bsv_types.specs.Kinds.{Kind, part, kind, kind_step}
 use Rattle.bsv_types.specs.Operators.{◌>>=◌}
-use Rattle.bsv_types.proofs.Exact.{back}
-use Rattle.bsv_typing.specs.Operands.{Made}
-
-pub ruleset types_back = (back)
-
-pub part_seen : (p : PartTy) (t : Ty) → kind (Part p (Some t)) ≡ part p (kind t)
-unfolding roll-Ty denote.Hole.Carrier.roll
-part_seen p t = fold-roll-Ty Kind kind_step (Ty-F.Part p (Some t))
-
-pub ruleset parts_seen = (part_seen)
+use Rattle.bsv_context.specs.Env.{Made}
 
 -- what was made before, and what is left
 abbrev pub with_front : List Expr → Option (List Expr) → Option (List Expr)

@@ -15,7 +15,7 @@ use Rattle.bsv_types.specs.Programs.{each_at, enum_right, struct_right, shapes_r
 use Rattle.bsv_types.specs.Expressions.{World, Frame}
 use Rattle.bsv_types.proofs.Same.{both}
 use Rattle.bsv_typing.specs.Operands.{Check, Operand, only_if}
-use Rattle.bsv_typing.specs.Env.{Env}
+use Rattle.bsv_context.specs.Env.{Env}
 use Rattle.bsv_typing.specs.Forms as forms
 use Rattle.bsv_typing.specs.Places.{Front, whole, name_front, member_behind, index_behind, slice_behind}
 use Rattle.bsv_typing.specs.Typing.{Term, Suffixed, form_of, operator, is_chain, is_choice, chain_operand, choice_operand, literal_case, label_case, call_case, postfix_front, all_behind, front_case, front_term, operands, step, suffix_step, field_step, term, typed}

@@ -13,8 +13,8 @@ use Rattle.bsv_types.specs.Operators.{gives, is_kind, all_bit}
 use Rattle.bsv_types.specs.Expressions.{World, Frame, typing, holds, all_of}
 use Rattle.bsv_types.proofs.Counted.{widths_start, widths_turn, widths_done}
 use Rattle.bsv_types.proofs.Same.{both, same_self}
-use Rattle.bsv_typing.specs.Operands.{Made, Operand, Agreed, all_as, agree, agree_with_result, wanted}
-use Rattle.bsv_typing.specs.Env.{literal, applied, chosen, beside, fits, fits_negated}
+use Rattle.bsv_context.specs.Env.{Made, wanted, literal, applied, chosen, beside, fits, fits_negated}
+use Rattle.bsv_typing.specs.Operands.{Operand, Agreed, all_as, agree, agree_with_result}
 use Rattle.bsv_typing.specs.Forms.{if_kind, if_true, number_case, sized_case, truth_case, number_op_case, bits_op_case, negated_case, amount, amounts, shift_case, order_case, equality_case, choice_case, joined, concat_case}
 use Rattle.bsv_typing.specs.Laws.{Typed}
 use Rattle.bsv_typing.proofs.Bound.{some_is, taken, tested, both_true, HasKind}

@@ -6,8 +6,8 @@ use Rattle.bsv_types.specs.Kinds.{Kind, integer}
 use Rattle.bsv_types.specs.Shapes.{is_value}
 use Rattle.bsv_types.specs.Operators.{◌>>=◌}
 use Rattle.bsv_types.specs.Expressions.{World, Frame, typing, all_typed}
-use Rattle.bsv_typing.specs.Operands.{Made, Check, Operand, wanted, all_as, are_literals, are_open, open_front, agreed, beside, around, by_first, agree_with_result, agree}
-use Rattle.bsv_typing.specs.Env.{Limits, has_bits, is_typed_value, in_order}
+use Rattle.bsv_context.specs.Env.{Made, wanted, Limits, has_bits, is_typed_value, in_order}
+use Rattle.bsv_typing.specs.Operands.{Check, Operand, all_as, are_literals, are_open, open_front, agreed, beside, around, by_first, agree_with_result, agree}
 use Rattle.bsv_typing.specs.Typing.{ordered}
 use Rattle.bsv_typing.specs.Laws.{Typed}
 use Rattle.bsv_typing.proofs.Bound.{some_is, taken, tested_step, HasKind, wanted_is}

@@ -10,10 +10,11 @@ use Rattle.bsv_types.specs.Operators.{slice_kind}
 use Rattle.bsv_types.specs.Methods.{Signature, Effect, value, action, action_value, methods}
 use Rattle.bsv_types.specs.Expressions.{one, World, Frame, place_typing, many_at, is_value_call, gives_value, method_at}
 use Rattle.bsv_types.proofs.Same.{both, same_self}
-use Rattle.bsv_typing.specs.Operands.{Made, Operand}
-use Rattle.bsv_typing.specs.Env.{below, in_order}
+use Rattle.bsv_context.specs.Env.{Made, below, in_order}
+use Rattle.bsv_typing.specs.Operands.{Operand}
 use Rattle.bsv_typing.specs.Forms.{arguments}
-use Rattle.bsv_typing.specs.Places.{Instance, Front, whole, instance, array, place_of, method_from, method_named, value_of, call_of, method_call, is_read, read, value_at, slice_type, slice_fits}
+use Rattle.bsv_context.specs.Methods.{method_from, method_named, value_of}
+use Rattle.bsv_typing.specs.Places.{Instance, Front, whole, instance, array, place_of, call_of, method_call, is_read, read, value_at, slice_type, slice_fits}
 use Rattle.bsv_typing.specs.Typing.{ordered_front}
 use Rattle.bsv_typing.specs.Laws.{Typed, slot_right}
 use Rattle.bsv_typing.proofs.Bound.{some_is, taken, tested_step, both_true}

@@ -17,7 +17,7 @@ use Rattle.bsv_types.specs.Programs.{each_at, struct_right}
 use Rattle.bsv_types.specs.Expressions.{World, Frame, typing}
 use Rattle.bsv_types.proofs.Same.{both, same_self}
 use Rattle.bsv_typing.specs.Operands.{Operand}
-use Rattle.bsv_typing.specs.Env.{applied}
+use Rattle.bsv_context.specs.Env.{applied}
 use Rattle.bsv_typing.specs.Forms.{field_from, field_named, is_among, field_values, field_count, construct_case}
 use Rattle.bsv_typing.proofs.Bound.{some_is, taken, tested_step, failed_step, both_true}
 use Rattle.bsv_typing.proofs.Typings.{Each, apply_typed}

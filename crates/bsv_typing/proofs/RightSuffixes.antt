@@ -10,9 +10,12 @@ use Rattle.bsv_types.specs.Operators.{◌>>=◌, is_kind, suffixed}
 use Rattle.bsv_types.specs.Methods.{Signature, methods}
 use Rattle.bsv_types.specs.Expressions.{Slot, one, many, World, Frame, Typing, typing, place_typing, expr_step, place_step, place_at, one_at, many_at}
 use Rattle.bsv_types.proofs.Same.{same_self}
-use Rattle.bsv_typing.specs.Operands.{Made, Operand}
+use Rattle.bsv_context.specs.Env.{Made}
+use Rattle.bsv_typing.specs.Operands.{Operand}
 use Rattle.bsv_typing.specs.Forms.{field_named, function_case}
-use Rattle.bsv_typing.specs.Places.{Instance, Front, whole, instance, array, place_of, method_named, call_of, read, value_at, variable_front, name_front, with_suffix, field_of, member_behind, method_behind, bit_of, index_behind, slice_type, slice_fits, bits_of, slice_behind}
+use Rattle.bsv_context.specs.Methods.{method_named}
+use Rattle.bsv_context.specs.Suffixes.{with_suffix}
+use Rattle.bsv_typing.specs.Places.{Instance, Front, whole, instance, array, place_of, call_of, read, value_at, variable_front, name_front, field_of, member_behind, method_behind, bit_of, index_behind, slice_type, slice_fits, bits_of, slice_behind}
 use Rattle.bsv_typing.specs.Typing.{Suffixed, all_behind, front_case}
 use Rattle.bsv_typing.specs.Laws.{Typed, slot_right}
 use Rattle.bsv_typing.proofs.Bound.{some_is, taken, tested_step, both_true}

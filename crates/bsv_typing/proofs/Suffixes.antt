@@ -10,8 +10,8 @@ use Rattle.bsv_types.specs.Shapes.{Shapes}
 use Rattle.bsv_types.specs.Operators.{◌>>=◌, is_kind, bit_kind, slice_kind, field_kind, is_suffix, suffixed, gives}
 use Rattle.bsv_types.specs.Expressions.{World, Frame, typing, all_typed, is_typed}
 use Rattle.bsv_types.proofs.Same.{same_is, same_self}
-use Rattle.bsv_typing.specs.Operands.{Made}
-use Rattle.bsv_typing.specs.Places.{are_suffixes, suffixes_in, suffixes, with_suffix}
+use Rattle.bsv_context.specs.Env.{Made}
+use Rattle.bsv_context.specs.Suffixes.{are_suffixes, suffixes_in, suffixes, with_suffix}
 use Rattle.bsv_typing.specs.Laws.{Typed}
 use Rattle.bsv_typing.proofs.Bound.{some_is, taken}
 use Rattle.bsv_typing.proofs.Typings.{Each, apply_right}

@@ -10,8 +10,8 @@ use Rattle.bsv_types.specs.declared.definitions.Field.{Field}
 use Rattle.bsv_types.specs.declared.definitions.Struct.{Struct}
 use Rattle.bsv_types.specs.Kinds.{Kind, bit, uint, int, bool, struct, maybe, integer, kind, has_family, is_number, is_amount, no_wider}
 use Rattle.bsv_types.specs.Operators.{◌>>=◌}
-use Rattle.bsv_typing.specs.Operands.{Made, Check, Operand, wanted, Agreed, agree, agree_with_result, all_as}
-use Rattle.bsv_typing.specs.Env.{Limits, beside, packed, literal, applied, called, chosen, fits, fits_negated}
+use Rattle.bsv_context.specs.Env.{Made, wanted, Limits, beside, packed, literal, applied, called, chosen, fits, fits_negated}
+use Rattle.bsv_typing.specs.Operands.{Check, Operand, Agreed, agree, agree_with_result, all_as}
 
 abbrev pub if_true : {A : Type 0} → Bool → A → Option A
 if_true true x = Some x

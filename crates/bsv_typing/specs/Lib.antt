@@ -1,12 +1,6 @@
-pub mod Bodies
-pub mod Env
 pub mod Forms
 pub mod Laws
 pub mod Operands
 pub mod Places
-pub mod Returns
-pub mod ReturnsSeen
 pub mod Seen
-pub mod SeenBodies
 pub mod Typing
-pub mod Written

@@ -3,13 +3,9 @@
 use Rattle.std.specs.Prelude.{ℕ, ◌+◌, Bool, true, false, List, [], ◌∷◌, ◌++◌, take, drop, Option, Some, None, if◌then◌else◌}
 use Rattle.std.specs.List.{list_all}
 use Rattle.bsv_types.specs.declared.expressions.Expr.{Expr}
-use Rattle.bsv_types.specs.Kinds.{Kind, integer, same_kind}
+use Rattle.bsv_types.specs.Kinds.{Kind, integer}
 use Rattle.bsv_types.specs.Operators.{◌>>=◌}
-
--- a typed expression, with its type
-pub record Made : Type 0 where
-  pub kind : Kind
-  pub expr : Expr
+use Rattle.bsv_context.specs.Env.{Made}
 
 -- an expression as a typing sees it: with an expected type, or without one
 abbrev pub Check : Type 0
@@ -38,11 +34,6 @@ check_if false check want = None
 -- an operand that has a typing only where the test is passed
 abbrev pub only_if : Bool → Operand → Operand
 only_if test x = record x { check = check_if test x.check }
-
--- a typed expression of the expected type, if there is one
-abbrev pub wanted : Option Kind → Made → Option Made
-wanted None m = Some m
-wanted (Some k) m = if same_kind m.kind k then Some m else None
 
 -- each with this type
 unfoldable pub all_as : Kind → List Operand → Option (List Expr)

@@ -1,21 +1,20 @@
 -- Names, and what stands behind them: instances, their methods, fields, bits (Bluespec reference guide,
 -- "Member selection", "Bit selection" and "Method calls").
-use Rattle.std.specs.Prelude.{ℕ, ◌+◌, ◌-◌, nat_le, nat_lt, Bool, true, false, not, ◌&&◌, ◌||◌, List, [], ◌∷◌, ◌++◌, Option, Some, None, codes, if◌then◌else◌}
-use Rattle.std.specs.Str.{bytes_eq}
-use Rattle.bsv_types.specs.declared.operators.Op.{Op}
+use Rattle.std.specs.Prelude.{ℕ, ◌+◌, ◌-◌, nat_le, nat_lt, Bool, true, false, not, ◌&&◌, ◌||◌, List, [], ◌∷◌, Option, Some, None, codes, if◌then◌else◌}
 use Rattle.bsv_types.specs.declared.operators.Op.TheVariants as op
 use Rattle.bsv_types.specs.declared.types.PartTy.TheVariants as part_type
-use Rattle.bsv_types.specs.declared.expressions.Expr.{Expr, Variable, Method, out-Expr}
-use Rattle.bsv_types.specs.declared.expressions.Expr.TheOpen.{Expr-F}
+use Rattle.bsv_types.specs.declared.expressions.Expr.{Expr, Variable, Method}
 use Rattle.bsv_types.specs.declared.expressions.Place.{Place, roll-Place}
 use Rattle.bsv_types.specs.Kinds.{Kind, bit, down, integer, part, bare, is_bit, is_interface, type_of}
 use Rattle.bsv_types.specs.Shapes.{counted}
-use Rattle.bsv_types.specs.Operators.{◌>>=◌, is_suffix}
-use Rattle.bsv_types.specs.Methods.{Signature, Effect, value, methods}
+use Rattle.bsv_types.specs.Operators.{◌>>=◌}
+use Rattle.bsv_types.specs.Methods.{Signature}
 use Rattle.bsv_types.specs.Expressions.{Slot, one, many}
-use Rattle.bsv_typing.specs.Operands.{Made, Operand}
-use Rattle.bsv_typing.specs.Env.{Limits, below, applied}
+use Rattle.bsv_context.specs.Env.{Made, Limits, below}
+use Rattle.bsv_typing.specs.Operands.{Operand}
 use Rattle.bsv_typing.specs.Forms.{arguments, field_named, function_case}
+use Rattle.bsv_context.specs.Methods.{method_named, value_of}
+use Rattle.bsv_context.specs.Suffixes.{with_suffix}
 
 -- an instance: its place, and its interface
 pub record Instance : Type 0 where
@@ -36,18 +35,6 @@ the_instance _ = None
 
 abbrev pub place_of : Instance → Place
 place_of i = roll-Place (record { level = i.level; index = i.index })
-
--- the method of this name, by its number
-abbrev pub method_from : ℕ → List ℕ → List Signature → Option (ℕ × Signature)
-method_from number name [] = None
-method_from number name (m ∷ ms) = if bytes_eq name m.name then Some (number, m) else method_from (number + 1) name ms
-
-unfoldable pub method_named : Limits → Kind → List ℕ → Option (ℕ × Signature)
-method_named g k name = method_from 0 name (methods g.shapes k)
-
-abbrev pub value_of : Effect → Option Kind
-value_of (value k) = Some k
-value_of _ = None
 
 -- a call of a value method
 abbrev pub method_call : Instance → ℕ → Kind → List Expr → Made
@@ -81,24 +68,6 @@ variable_front level (one k) =
 unfoldable pub name_front : Option (ℕ × Slot) → Option (ℕ × List Kind × Kind) → Option Front
 name_front (Some v) function = Some (variable_front v.0 v.1)
 name_front None function = function_case function [] None >>= λ m. Some (whole m)
-
--- suffixes stand with no other operators
-abbrev pub are_suffixes : List Op → Bool
-are_suffixes [] = false
-are_suffixes (o ∷ os) = is_suffix o
-
--- the suffixes of an expression, with their operands: what stands in front of them, and the place of each index.
--- Another expression stands in front, and has none
-abbrev pub suffixes_in : Expr → Expr-F Expr Place → List Op × List Expr
-suffixes_in e (Expr-F.Apply t os xs) = if are_suffixes os then (os, xs) else ([], e ∷ [])
-suffixes_in e _ = ([], e ∷ [])
-
-unfoldable pub suffixes : Expr → List Op × List Expr
-suffixes e = suffixes_in e (out-Expr e)
-
--- one suffix more: those of one expression stand in one list
-abbrev pub with_suffix : Kind → Op → List Expr → Expr → Made
-with_suffix k o places e = applied k ((suffixes e).0 ++ o ∷ []) ((suffixes e).1 ++ places)
 
 unfoldable pub field_of : Limits → List ℕ → Made → Option Front
 field_of g name m = field_named g m.kind name >>= λ f. Some (whole (with_suffix f.1 (op.Field f.0) [] m.expr))

@@ -17,8 +17,8 @@ use Rattle.bsv_types.specs.Kinds.{Kind, bool, enum, no_wider}
 use Rattle.bsv_types.specs.Operators.{◌>>=◌}
 use Rattle.bsv_typing.specs.declared.given.GivenFunction.{GivenFunction}
 use Rattle.bsv_typing.specs.declared.given.GivenFunction.TheVariants as given
-use Rattle.bsv_typing.specs.Operands.{Check, Operand, closed, opened, check_if, only_if, wanted, are_open, are_literals}
-use Rattle.bsv_typing.specs.Env.{Env, Limits, literal, in_order}
+use Rattle.bsv_context.specs.Env.{wanted, Env, Limits, literal, in_order}
+use Rattle.bsv_typing.specs.Operands.{Check, Operand, closed, opened, check_if, only_if, are_open, are_literals}
 use Rattle.bsv_typing.specs.Forms as forms
 use Rattle.bsv_typing.specs.Places.{Front, whole, name_front, value_at, member_behind, method_behind, index_behind, slice_behind, Instance, the_instance}
 

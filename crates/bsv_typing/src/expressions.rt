@@ -8,14 +8,12 @@ ghost use Rattle.bsv_typing.specs.Operands.{check_if};
 ghost use Rattle.bsv_typing.specs.Places as places;
 ghost use Rattle.bsv_typing.specs.Typing as table;
 ghost use Rattle.bsv_typing.specs.Typing.{typed, ordered, term, instance_named};
-ghost use Rattle.bsv_typing.specs.Seen.{Gives, made, exprs, agreed, limits, env, expected, header};
+ghost use Rattle.bsv_context.specs.Seen.{Gives, made, limits, env, expected, header, params_of};
+ghost use Rattle.bsv_typing.specs.Seen.{exprs, agreed};
 ghost use Rattle.bsv_typing.specs.Seen.{seen, terms_seen, all_seen, fields_seen, suffix_seen};
-ghost use Rattle.bsv_typing.specs.Seen.{suffixes_seen, front_of, instance_of, params_of};
-ghost use Rattle.bsv_typing.specs.Seen.{function_named, structure_named};
+ghost use Rattle.bsv_typing.specs.Seen.{suffixes_seen, front_of, instance_of};
+ghost use Rattle.bsv_context.specs.Seen.{function_named, structure_named};
 
-use crate::classes::{beside, has_family, is_amount, is_bit, is_number, no_wider};
-use crate::context::{Context, FunctionHeader, Variable};
-use crate::fail::Fail;
 use crate::forms::{
     field_count, front_value, invalid, is_among, is_chain, is_choice, label, negated, number,
     operators, payload, sets, tagged, without_type,
@@ -25,13 +23,14 @@ use crate::front::{
     place_number, read, slice_behind,
 };
 use crate::given::{GivenFunction, given_function};
-use crate::made::{
-    Made, applied, applied_to_one, applied_to_two, as_wanted, called, chosen, one, with_suffix,
-};
-use crate::methods::{Params, method_named};
 use crate::openness::{are_literals, are_open, is_open, literal, split_open};
 use bsv_ast::{Expr, FieldValue, Level, Operator, Suffix, UnaryOperator};
 use bsv_bits::Name;
+use bsv_context::{
+    Context, Fail, FunctionHeader, Made, Params, Variable, applied, applied_to_one, applied_to_two,
+    as_wanted, beside, called, chosen, has_family, is_amount, is_bit, is_number, method_named,
+    no_wider, one, with_suffix,
+};
 use bsv_scopes::Scopes;
 use bsv_types::{Boxed, Expr as Typed, Items, Op, Ty};
 use std::alloc::Global;
@@ -931,7 +930,7 @@ fn call_of_header(
 /// Arguments of the types of parameters, and no others.
 #[cycle(typing)]
 #[tactic(auto, using(crate::proofs::Lists::fronts), unfolding(crate::specs::Forms::arguments))]
-pub(crate) fn arguments(
+pub fn arguments(
     alloc: Global,
     context: &Context,
     variables: &Scopes<Variable>,

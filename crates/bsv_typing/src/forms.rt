@@ -2,19 +2,20 @@ ghost use Rattle.std.specs.Prelude.{◌≡◌, ◌∷◌, [], map, Some, option_
 ghost use Rattle.std.specs.List.{list_all};
 ghost use Rattle.bsv_types.specs.declared.operators.Op.TheVariants as op;
 ghost use Rattle.bsv_types.specs.Kinds.{integer, kind, maybe};
-ghost use Rattle.bsv_typing.specs.Env.{applied};
+ghost use Rattle.bsv_context.specs.Env.{applied};
 ghost use Rattle.bsv_typing.specs.Forms as spec;
 ghost use Rattle.bsv_typing.specs.Typing as table;
 ghost use Rattle.bsv_typing.specs.Typing.{ordered};
-ghost use Rattle.bsv_typing.specs.Seen.{Gives, made, front_of, limits, label_named, expected};
+ghost use Rattle.bsv_context.specs.Seen.{Gives, made, limits, label_named, expected};
+ghost use Rattle.bsv_typing.specs.Seen.{front_of};
 
-use crate::classes::{fits, fits_negated, is_below_power};
-use crate::context::Context;
-use crate::fail::Fail;
 use crate::front::{Front, value_at};
-use crate::made::{Made, applied, applied_to_one, as_wanted, literal, one};
 use bsv_ast::{Level, Literal, Operator};
 use bsv_bits::Name;
+use bsv_context::{
+    Context, Fail, Made, applied, applied_to_one, as_wanted, fits, fits_negated, is_below_power,
+    literal, one,
+};
 use bsv_types::{Boxed, Expr as Typed, Items, Op, Ty};
 use std::alloc::{AllocError, Global};
 
@@ -301,7 +302,7 @@ pub(crate) fn field_count(context: &Context, structure: u32) -> usize
 }
 
 /// The type of what a Maybe holds.
-pub(crate) fn payload(ty: &Ty) -> Option<&Ty>
+pub fn payload(ty: &Ty) -> Option<&Ty>
     ensures { option_map (λ t. kind t.now) result ≡ spec.payload (kind ty.now) }
 {
     match ty {

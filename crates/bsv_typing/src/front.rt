@@ -1,20 +1,20 @@
-ghost use Rattle.std.specs.Prelude.{◌≡◌, [], Some, IfOk, option_map, min};
+ghost use Rattle.std.specs.Prelude.{◌≡◌, [], Some, IfOk, option_map};
 ghost use Rattle.bsv_types.specs.Kinds.{kind};
 ghost use Rattle.bsv_types.specs.Shapes.{counted};
 ghost use Rattle.bsv_typing.specs.Forms as forms;
 ghost use Rattle.bsv_typing.specs.Forms.{field_from, field_named};
 ghost use Rattle.bsv_typing.specs.Places as spec;
 ghost use Rattle.bsv_typing.specs.Typing.{ordered_front};
-ghost use Rattle.bsv_typing.specs.Seen.{Gives, limits, made, instance_of, front_of, field_of};
-ghost use Rattle.bsv_typing.specs.Seen.{variable, header, method_of, variable_named};
-ghost use Rattle.bsv_typing.specs.Seen.{function_named};
+ghost use Rattle.bsv_context.specs.Seen.{Gives, limits, made};
+ghost use Rattle.bsv_typing.specs.Seen.{instance_of, front_of, field_of};
+ghost use Rattle.bsv_context.specs.Seen.{variable, header, method_of, variable_named};
+ghost use Rattle.bsv_context.specs.Seen.{function_named};
 
-use crate::classes::{below, is_interface};
-use crate::context::{Context, FunctionHeader, Slot, Variable};
-use crate::fail::Fail;
-use crate::made::{Made, called, with_suffix};
-use crate::methods::{FoundMethod, Params, method_named};
 use bsv_bits::Name;
+use bsv_context::{
+    Context, Fail, FoundMethod, FunctionHeader, Made, Params, Slot, Variable, below, called,
+    capped, is_interface, method_named, with_suffix,
+};
 use bsv_scopes::Scopes;
 use bsv_types::{Boxed, Expr, Field, Items, Op, PartTy, Place, Ty};
 use std::alloc::{AllocError, Global};
@@ -47,7 +47,7 @@ pub fn place_number(place: usize) -> Result<u32, Fail>
 }
 
 /// A call of the value method of this number, which gives a value of the type.
-#[tactic(auto, using(crate::proofs::Lists::types_back))]
+#[tactic(auto, using(bsv_context::proofs::TypesBack::types_back))]
 pub(crate) fn method_call(
     alloc: Global,
     instance: Instance,
@@ -133,7 +133,7 @@ pub(crate) fn in_order_front(context: &Context, front: Front) -> Result<Front, F
 }
 
 /// A variable where its name stands.
-#[tactic(auto, using(crate::proofs::Lists::types_back))]
+#[tactic(auto, using(bsv_context::proofs::TypesBack::types_back))]
 fn variable_front(alloc: Global, found: &Variable) -> Result<Front, AllocError>
     ensures { IfOk result (λ f. front_of f ≡ spec.variable_front (variable found.now).0
         (variable found.now).1) }
@@ -171,7 +171,7 @@ fn plain_function(alloc: Global, function: &FunctionHeader) -> Result<Made, Fail
 }
 
 /// What a name stands for: the variable, else a function without arguments.
-#[tactic(auto, using(crate::proofs::Layers::layers), unfolding(crate::specs::Env::variable_in, crate::specs::Places::name_front, crate::specs::Forms::function_case))]
+#[tactic(auto, using(bsv_context::proofs::Layers::layers), unfolding(bsv_context::specs::Env::variable_in, crate::specs::Places::name_front, crate::specs::Forms::function_case))]
 pub(crate) fn name_front(
     alloc: Global,
     context: &Context,
@@ -279,16 +279,6 @@ fn slice_type(high: u128, low: u128) -> Ty
         Ty::Bit(capped((high - low).saturating_add(1), u32::MAX))
     } else {
         below(capped(low - high - 1, u32::MAX))
-    }
-}
-
-/// A number, or the limit where that is less.
-pub(crate) fn capped(number: u128, limit: u32) -> u32
-    ensures { result ≡ min number limit }
-{
-    match u32::try_from(number) {
-        Ok(number) => number.min(limit),
-        Err(_) => limit,
     }
 }
 

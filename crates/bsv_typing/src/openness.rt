@@ -4,10 +4,10 @@ ghost use Rattle.bsv_typing.specs.Operands as spec;
 ghost use Rattle.bsv_typing.specs.Seen.{seen, all_seen};
 ghost use Rattle.bsv_typing.specs.Typing as typing;
 
-use crate::context::{Context, Variable};
 use crate::given::given_function;
 use bsv_ast::{Expr, Level, Literal, UnaryOperator};
 use bsv_bits::Name;
+use bsv_context::{Context, Variable};
 use bsv_scopes::Scopes;
 
 /// The number of an unsized literal.

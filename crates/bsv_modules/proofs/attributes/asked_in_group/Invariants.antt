@@ -1,5 +1,5 @@
 use Rattle.std.proofs.Common.{◌≡◌, length}
-use Rattle.bsv_typing.proofs.Fronts.{listed}
+use Rattle.bsv_statements.proofs.Fronts.{listed}
 use Rattle.bsv_modules.specs.Modules as spec
 use Rattle.bsv_modules.proofs.attributes.asked_in_group.Given as goal
 

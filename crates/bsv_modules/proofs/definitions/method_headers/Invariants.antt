@@ -1,6 +1,6 @@
 use Rattle.std.proofs.Common.{◌≡◌, length}
-use Rattle.bsv_typing.specs.Seen.{type_names}
-use Rattle.bsv_typing.proofs.Fronts.{listed}
+use Rattle.bsv_context.specs.Seen.{type_names}
+use Rattle.bsv_statements.proofs.Fronts.{listed}
 use Rattle.bsv_modules.specs.Programs.{headers_at}
 use Rattle.bsv_modules.proofs.definitions.method_headers.Given as goal
 

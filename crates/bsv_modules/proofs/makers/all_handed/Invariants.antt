@@ -1,5 +1,5 @@
 use Rattle.std.proofs.Common.{◌≡◌, length}
-use Rattle.bsv_typing.specs.Seen.{shown}
+use Rattle.bsv_context.specs.Seen.{shown}
 use Rattle.bsv_modules.specs.Modules as spec
 use Rattle.bsv_modules.specs.Seen.{kinds, site_of}
 use Rattle.bsv_modules.proofs.Gathered.{handed_front}

@@ -1,6 +1,6 @@
 use Rattle.std.proofs.Common.{◌≡◌, map, length}
-use Rattle.bsv_typing.specs.Seen.{shown}
-use Rattle.bsv_typing.proofs.Fronts.{listed}
+use Rattle.bsv_context.specs.Seen.{shown}
+use Rattle.bsv_statements.proofs.Fronts.{listed}
 use Rattle.bsv_modules.specs.Modules as spec
 use Rattle.bsv_modules.specs.Seen.{arm_of, site_of}
 use Rattle.bsv_modules.proofs.module_statements.conditions.Given as goal

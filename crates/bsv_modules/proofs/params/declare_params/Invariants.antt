@@ -1,6 +1,6 @@
 use Rattle.std.proofs.Common.{◌≡◌, length}
-use Rattle.bsv_typing.specs.Bodies.{at}
-use Rattle.bsv_typing.specs.Seen.{shown}
+use Rattle.bsv_statements.specs.Bodies.{at}
+use Rattle.bsv_context.specs.Seen.{shown}
 use Rattle.bsv_modules.specs.Modules as spec
 use Rattle.bsv_modules.proofs.params.declare_params.Given as goal
 

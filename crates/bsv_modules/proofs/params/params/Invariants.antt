@@ -1,6 +1,6 @@
 use Rattle.std.proofs.Common.{◌≡◌, length}
-use Rattle.bsv_typing.specs.Seen.{type_names}
-use Rattle.bsv_typing.proofs.Fronts.{listed}
+use Rattle.bsv_context.specs.Seen.{type_names}
+use Rattle.bsv_statements.proofs.Fronts.{listed}
 use Rattle.bsv_modules.specs.Modules as spec
 use Rattle.bsv_modules.specs.Seen.{allowed}
 use Rattle.bsv_modules.proofs.params.params.Given as goal

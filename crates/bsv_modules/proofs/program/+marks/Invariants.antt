@@ -3,7 +3,7 @@ use Rattle.bsv_ast.specs.Depths.{module_stmt_depth, module_branch_depth}
 use Rattle.bsv_types.specs.Kinds.{kind}
 use Rattle.bsv_types.specs.Methods.{methods}
 use Rattle.bsv_names.proofs.Deepest.{deepest_module_stmt, deepest_module_branch, last_module_stmt}
-use Rattle.bsv_typing.specs.Seen.{shapes}
+use Rattle.bsv_context.specs.Seen.{shapes}
 use Rattle.bsv_modules.specs.Modules.{all_marked, together, branch_names, method_names}
 use Rattle.bsv_modules.proofs.program.+marks.Given as goal
 

@@ -1,6 +1,6 @@
 use Rattle.std.proofs.Common.{◌≡◌, length}
 use Rattle.std.specs.Vec.Iter.{into_iter_items}
-use Rattle.bsv_typing.proofs.Fronts.{listed}
+use Rattle.bsv_statements.proofs.Fronts.{listed}
 use Rattle.bsv_modules.specs.Programs.{all_there}
 use Rattle.bsv_modules.proofs.program.all_there.Given as goal
 

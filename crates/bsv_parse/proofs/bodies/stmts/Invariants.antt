@@ -3,7 +3,7 @@ use Rattle.bsv_expr.specs.Reading.{turns}
 use Rattle.bsv_expr.specs.Expressions.{always, snoc}
 use Rattle.bsv_expr.specs.Grammar.{Grammar}
 use Rattle.bsv_parse.specs.Places.{Hole}
-use Rattle.bsv_parse.specs.Statements.{stmt_first}
+use Rattle.bsv_blocks.specs.Statements.{stmt_first}
 use Rattle.bsv_parse.specs.Places.{part}
 use Rattle.bsv_parse.specs.Places as grammar
 use Rattle.bsv_parse.proofs.bodies.stmts.Given as goal

@@ -1,7 +1,7 @@
 use Rattle.std.proofs.Common.{◌≡◌, [], ◌∷◌, false, ◌-◌}
 use Rattle.bsv_expr.specs.Reading.{turns}
 use Rattle.bsv_expr.specs.Expressions.{always, snoc}
-use Rattle.bsv_parse.specs.Types.{type_first}
+use Rattle.bsv_blocks.specs.Types.{type_first}
 use Rattle.bsv_parse.specs.Places.{part}
 use Rattle.bsv_parse.specs.Definitions as grammar
 use Rattle.bsv_parse.proofs.definitions.fields.Given as goal

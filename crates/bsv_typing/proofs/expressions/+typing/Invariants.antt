@@ -4,7 +4,8 @@ use Rattle.bsv_types.specs.Kinds.{bit, kind}
 use Rattle.bsv_typing.specs.Operands as sharing
 use Rattle.bsv_typing.specs.Forms as spec
 use Rattle.bsv_typing.specs.Typing as table
-use Rattle.bsv_typing.specs.Seen.{limits, all_seen, fields_seen, suffixes_seen, front_of, params_of}
+use Rattle.bsv_context.specs.Seen.{limits, params_of}
+use Rattle.bsv_typing.specs.Seen.{all_seen, fields_seen, suffixes_seen, front_of}
 use Rattle.bsv_typing.proofs.Lists.{deepest, with_front}
 use Rattle.bsv_typing.proofs.Values.{with_values}
 use Rattle.bsv_typing.proofs.expressions.+typing.Given as goal

@@ -1,6 +1,6 @@
 use Rattle.std.proofs.Common.{◌≡◌, map, length}
 use Rattle.bsv_names.specs.UntypedSeen.{variables}
-use Rattle.bsv_typing.specs.Seen.{shown}
+use Rattle.bsv_context.specs.Seen.{shown}
 use Rattle.bsv_check.specs.JudgedModules.{conditions_judged, arm_of}
 use Rattle.bsv_check.specs.JudgedSeen.{in_module}
 use Rattle.bsv_check.proofs.judged_modules.ModuleJudge.conditions.Given as goal

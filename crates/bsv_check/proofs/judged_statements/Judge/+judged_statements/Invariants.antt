@@ -1,7 +1,7 @@
 use Rattle.std.proofs.Common.{◌≡◌, ◌≤◌, ◌+◌, ◌*◌, max, map, length, option_map}
 use Rattle.bsv_ast.specs.Depths.{stmt_depth, branch_depth, case_depth, greatest, or_zero}
 use Rattle.bsv_names.specs.UntypedSeen.{variables}
-use Rattle.bsv_typing.specs.Seen.{shown}
+use Rattle.bsv_context.specs.Seen.{shown}
 use Rattle.bsv_check.specs.Judged as spec
 use Rattle.bsv_check.specs.JudgedSeen.{judging}
 use Rattle.bsv_check.proofs.judged_statements.Judge.+judged_statements.Given as goal

@@ -1,6 +1,6 @@
 use Rattle.std.proofs.Common.{◌≡◌, map, length}
 use Rattle.bsv_names.specs.UntypedSeen.{variables}
-use Rattle.bsv_typing.specs.Seen.{shown}
+use Rattle.bsv_context.specs.Seen.{shown}
 use Rattle.bsv_check.specs.Judged.{openings_judged, arm_of}
 use Rattle.bsv_check.specs.JudgedSeen.{judging}
 use Rattle.bsv_check.proofs.judged_statements.Judge.conditions.Given as goal

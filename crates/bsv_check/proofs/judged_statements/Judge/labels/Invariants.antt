@@ -1,7 +1,7 @@
 use Rattle.std.proofs.Common.{◌≡◌, length}
 use Rattle.bsv_types.specs.Kinds.{kind}
 use Rattle.bsv_names.specs.UntypedSeen.{variables}
-use Rattle.bsv_typing.specs.Seen.{shown}
+use Rattle.bsv_context.specs.Seen.{shown}
 use Rattle.bsv_check.specs.Judged.{labels_judged}
 use Rattle.bsv_check.specs.JudgedSeen.{judging}
 use Rattle.bsv_check.proofs.judged_statements.Judge.labels.Given as goal

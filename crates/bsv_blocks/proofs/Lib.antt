@@ -1,0 +1,4 @@
+pub mod HoleLaws
+pub mod SimpleLaws
+pub mod StatementKnot
+pub mod TypeKnot

@@ -1,0 +1,5 @@
+pub mod Holes
+pub mod Simple
+pub mod StatementTrees
+pub mod Statements
+pub mod Types

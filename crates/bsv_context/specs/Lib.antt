@@ -1,0 +1,5 @@
+pub mod Env
+pub mod Methods
+pub mod Seen
+pub mod Suffixes
+pub mod Written

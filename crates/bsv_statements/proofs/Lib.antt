@@ -1,0 +1,11 @@
+pub mod Agreeing
+pub mod Declaring
+pub mod Fronts
+pub mod RightArms
+pub mod RightBlocks
+pub mod RightBodies
+pub mod RightCalls
+pub mod RightEndings
+pub mod RightReturns
+pub mod RightScopes
+pub mod RightStatements

@@ -1,0 +1,5 @@
+pub mod Bodies
+pub mod Laws
+pub mod Returns
+pub mod ReturnsSeen
+pub mod SeenBodies
