@@ -24,12 +24,11 @@ pub mod NamedLists
 pub mod NamedMakes
 pub mod NamedMaking
 pub mod NamedNests
-pub mod NamedPaths
 pub mod NamedRules
 pub mod NamedStatements
 pub mod NamedStill
 pub mod NamedTaken
-pub mod NamedTexts
+pub mod NumberedNames
 pub mod NamedTop
 pub mod NamedWhole
 pub mod PlacedCounts
