@@ -101,8 +101,9 @@ dotted_in path name p lower = subst IsDotted (sym (name_in_path path name p)) (d
 pub told_apart : (p q a b : List ℕ) → IsPath p → IsPath q → is_lower a ≡ true → is_lower b ≡ true → with_dot p a ≡ with_dot q b → (p ≡ q) × (a ≡ b)
 told_apart p q a b f g lower other same =
     let texts = sym (name_in_path p a f) ∙ same ∙ name_in_path q b g in
-    let names =
-        joined_same (f.names ++ a ∷ []) (g.names ++ b ∷ []) (lower_more f.names a f.lower lower) (lower_more g.names b g.lower other) texts in
+    let first = lower_more f.names a f.lower lower in
+    let second = lower_more g.names b g.lower other in
+    let names = joined_same (f.names ++ a ∷ []) (g.names ++ b ∷ []) first second texts in
     let parts = same_from_push f.names g.names a b names in
     (f.is ∙ ap joined parts.0 ∙ sym g.is, parts.1)
 
