@@ -1,7 +1,7 @@
 -- What was carried out without a refusal stays accepted, over instances that were made since and from weight 0. The files of the
 -- folder go through what is carried out, from operators to rules: where the heavier computation over the first instances
 -- gives something, the lighter one over the later instances gives the same.
-mod Into
+mod SideBySide
 mod Instances
 mod Operators
 mod Arms
@@ -25,7 +25,7 @@ use Rattle.bsv_design.specs.Calls.{Site, made_of}
 use Rattle.bsv_design.specs.Carrying as carrying
 use Rattle.bsv_design.specs.Trees.{IsAccepted}
 use Rattle.bsv_carry.specs.StaysAccepted.{Stays, Grows, over, weighing, StaysAccepted}
-use Rattle.bsv_carry.proofs.StaysAccepted.Into.{Into, heavier, at_heavier}
+use Rattle.bsv_carry.proofs.StaysAccepted.SideBySide.{Into, heavier, at_heavier}
 use Rattle.bsv_carry.proofs.StaysAccepted.Instances.{stays_same}
 use Rattle.bsv_carry.proofs.StaysAccepted.Bodies.{rule_into, top_method_into}
 

@@ -19,7 +19,7 @@ use Rattle.bsv_design.specs.Frames.{no_variables}
 use Rattle.bsv_design.specs.Values.{is_true}
 use Rattle.bsv_design.specs.Working.{no_steps, at_count}
 use Rattle.bsv_design.specs.Carrying as carrying
-use Rattle.bsv_carry.proofs.StaysAccepted.Into.{Into, into_then, into_if, raised, heavier, at_heavier}
+use Rattle.bsv_carry.proofs.StaysAccepted.SideBySide.{Into, into_then, into_if, raised, heavier, at_heavier}
 use Rattle.bsv_carry.proofs.StaysAccepted.Arms.{parameters_over}
 use Rattle.bsv_carry.specs.StaysAccepted.{Grows, over}
 use Rattle.bsv_carry.proofs.StaysAccepted.Instances.{CallsInto}

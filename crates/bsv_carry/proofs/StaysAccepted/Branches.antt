@@ -14,7 +14,7 @@ use Rattle.bsv_design.specs.Values.{is_static, is_true}
 use Rattle.bsv_design.specs.Working.{no_steps, at_count}
 use Rattle.bsv_design.specs.Carrying as carrying
 use Rattle.bsv_design.specs.Carrying.{Acts, Branched, Test}
-use Rattle.bsv_carry.proofs.StaysAccepted.Into.{Into, into_then, into_if, raised, heavier, at_raised, at_heavier, both_heavier, sliced_over}
+use Rattle.bsv_carry.proofs.StaysAccepted.SideBySide.{Into, into_then, into_if, raised, heavier, at_raised, at_heavier, both_heavier, sliced_over}
 use Rattle.bsv_carry.proofs.StaysAccepted.Arms.{close_over}
 use Rattle.bsv_carry.specs.StaysAccepted.{Grows, over}
 use Rattle.bsv_carry.proofs.StaysAccepted.Instances.{ActsInto, EachActs, EachBranched, MaybeActs, CallsInto}

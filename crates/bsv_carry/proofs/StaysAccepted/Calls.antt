@@ -22,7 +22,7 @@ use Rattle.bsv_design.specs.Working.{at_count}
 use Rattle.bsv_design.specs.Operated as operated
 use Rattle.bsv_design.specs.Carrying as carrying
 use Rattle.bsv_design.specs.Carrying.{Carried, Placing, first_type}
-use Rattle.bsv_carry.proofs.StaysAccepted.Into.{Into, into_then, into_same, raised, heavier, both_heavier, at_heavier, counted_over, give_over}
+use Rattle.bsv_carry.proofs.StaysAccepted.SideBySide.{Into, into_then, into_same, raised, heavier, both_heavier, at_heavier, counted_over, give_over}
 use Rattle.bsv_carry.proofs.StaysAccepted.Operators.{applied_over}
 use Rattle.bsv_carry.specs.StaysAccepted.{Stays, Grows, over}
 use Rattle.bsv_carry.proofs.StaysAccepted.Instances.{CarryInto, PlacingInto, EachCarried, CallsInto, all_into, first_same, Refused, refused_into, refused_then, refused_first}

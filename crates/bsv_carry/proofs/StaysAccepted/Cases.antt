@@ -18,7 +18,7 @@ use Rattle.bsv_design.specs.Values.{is_static, is_true}
 use Rattle.bsv_design.specs.Working.{no_steps, at_count}
 use Rattle.bsv_design.specs.Carrying as carrying
 use Rattle.bsv_design.specs.Carrying.{Carry, Acts, Labelled}
-use Rattle.bsv_carry.proofs.StaysAccepted.Into.{Into, into_then, into_if, raised, heavier, at_raised, at_heavier, both_heavier, between_over}
+use Rattle.bsv_carry.proofs.StaysAccepted.SideBySide.{Into, into_then, into_if, raised, heavier, at_raised, at_heavier, both_heavier, between_over}
 use Rattle.bsv_carry.proofs.StaysAccepted.Operators.{two_over}
 use Rattle.bsv_carry.proofs.StaysAccepted.Arms.{close_over}
 use Rattle.bsv_carry.specs.StaysAccepted.{Grows, over}

@@ -14,7 +14,7 @@ use Rattle.bsv_design.specs.Values.{is_static, is_true}
 use Rattle.bsv_design.specs.Working.{no_steps, at_count}
 use Rattle.bsv_design.specs.Carrying as carrying
 use Rattle.bsv_design.specs.Carrying.{Carried}
-use Rattle.bsv_carry.proofs.StaysAccepted.Into.{Into, into_then, into_if, into_same, raised, heavier, at_raised, at_heavier, tick_over}
+use Rattle.bsv_carry.proofs.StaysAccepted.SideBySide.{Into, into_then, into_if, into_same, raised, heavier, at_raised, at_heavier, tick_over}
 use Rattle.bsv_carry.proofs.StaysAccepted.Arms.{value_choice_over}
 use Rattle.bsv_carry.specs.StaysAccepted.{over}
 use Rattle.bsv_carry.proofs.StaysAccepted.Instances.{CarriedInto, CarryInto, PlacingInto, EachCarried, MaybeCarried}

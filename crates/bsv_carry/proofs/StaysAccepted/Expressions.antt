@@ -8,7 +8,7 @@ use Rattle.bsv_design.specs.declared.tree.Instance.{Instance}
 use Rattle.bsv_design.specs.Calls.{Site, Caller, static_fault}
 use Rattle.bsv_design.specs.Carrying as carrying
 use Rattle.bsv_design.specs.Carrying.{Carried, Placing, expression, place}
-use Rattle.bsv_carry.proofs.StaysAccepted.Into.{into_then, counted_over}
+use Rattle.bsv_carry.proofs.StaysAccepted.SideBySide.{into_then, counted_over}
 use Rattle.bsv_carry.proofs.StaysAccepted.Operators.{literal_over}
 use Rattle.bsv_carry.specs.StaysAccepted.{Grows, over}
 use Rattle.bsv_carry.proofs.StaysAccepted.Instances.{CarriedInto, PlacingInto, EachCarried, EachCarry, CallsInto}

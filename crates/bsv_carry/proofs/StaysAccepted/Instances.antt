@@ -14,7 +14,7 @@ use Rattle.bsv_design.specs.declared.values.Work.{Work}
 use Rattle.bsv_design.specs.Calls.{Site, Callee, Caller}
 use Rattle.bsv_design.specs.Carrying.{Carry, Carried, Placing, Acts, Branched, Labelled, all_from, all, first_type}
 use Rattle.bsv_carry.specs.StaysAccepted.{Stays, Grows, over}
-use Rattle.bsv_carry.proofs.StaysAccepted.Into.{Into, into_then, raised, heavier, at_raised, at_heavier, both_heavier}
+use Rattle.bsv_carry.proofs.StaysAccepted.SideBySide.{Into, into_then, raised, heavier, at_raised, at_heavier, both_heavier}
 
 -- what is there stays
 pub stays_same : (x : Option Made) → Stays x x

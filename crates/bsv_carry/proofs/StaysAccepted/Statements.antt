@@ -8,7 +8,7 @@ use Rattle.bsv_design.specs.declared.tree.Instance.{Instance}
 use Rattle.bsv_design.specs.Calls.{Site, Caller}
 use Rattle.bsv_design.specs.Carrying as carrying
 use Rattle.bsv_design.specs.Carrying.{Acts, Branched, Labelled, place, stmt, branch, case_arm}
-use Rattle.bsv_carry.proofs.StaysAccepted.Into.{into_then, counted_over}
+use Rattle.bsv_carry.proofs.StaysAccepted.SideBySide.{into_then, counted_over}
 use Rattle.bsv_carry.specs.StaysAccepted.{Grows, over}
 use Rattle.bsv_carry.proofs.StaysAccepted.Instances.{ActsInto, BranchedInto, LabelledInto, EachActs, EachBranched, EachLabelled, CallsInto}
 use Rattle.bsv_carry.proofs.StaysAccepted.Calls.{act_into}
