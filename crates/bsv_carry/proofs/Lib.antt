@@ -1,3 +1,4 @@
+pub mod StaysAccepted
 mod Powers
 mod Depths
 mod Nodes

@@ -23,6 +23,7 @@ use Rattle.bsv_types.specs.Modules.{Header, param_names, param_slots, param_righ
 use Rattle.bsv_design.specs.declared.statics.Binding.{Binding}
 use Rattle.bsv_design.specs.declared.tree.BuiltRule.{BuiltRule}
 use Rattle.bsv_design.specs.Trees.{joined}
+use Rattle.bsv_design.proofs.Dotted.{AreLower}
 use Rattle.bsv_elab.specs.declared.state.Done.{Done}
 use Rattle.bsv_elab.specs.declared.state.Grown.{Grown}
 use Rattle.bsv_elab.specs.declared.state.State.{State}
@@ -32,7 +33,6 @@ use Rattle.bsv_elab.specs.Making.{Bodies}
 use Rattle.bsv_elab.specs.Elements.{here_module, methods_of, method}
 use Rattle.bsv_elab.specs.Bodies.{Branched, run, stmt_step, branch_step, stmt}
 use Rattle.bsv_elab.specs.Building.{opening, done, body_of, body_at}
-use Rattle.bsv_elab.proofs.NamedPaths.{AreLower}
 use Rattle.bsv_elab.proofs.NamedLists.{some_is, ok_is, through, each_is, Found, in_first, in_second, found, is_in, names_differ}
 use Rattle.bsv_elab.proofs.NamedGroups.{StandsDirectly}
 use Rattle.bsv_elab.proofs.NamedMakes.{Kept, kept, Lows, Within, marks_both}

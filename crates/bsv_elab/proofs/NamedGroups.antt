@@ -14,9 +14,9 @@ use Rattle.bsv_design.specs.declared.tree.Built.{Built}
 use Rattle.bsv_design.specs.declared.tree.Instance.{Instance}
 use Rattle.bsv_design.specs.declared.tree.Made.TheVariants as made
 use Rattle.bsv_design.specs.Trees.{joined}
+use Rattle.bsv_design.proofs.Dotted.{AreLower, lower_parted, joined_same}
 use Rattle.bsv_elab.specs.Making.{is_around}
-use Rattle.bsv_elab.proofs.NamedPaths.{AreLower, heads, not_empty, lower_parted, joined_same, ends}
-use Rattle.bsv_elab.proofs.NamedLists.{some_is, Found, in_first, in_second, found, only_one, none_there, is_in, Longer, fresh_before, taken_after}
+use Rattle.bsv_elab.proofs.NamedLists.{heads, not_empty, ends, some_is, Found, in_first, in_second, found, only_one, none_there, is_in, Longer, fresh_before, taken_after}
 
 -- ---- the rules of an instance
 

@@ -20,11 +20,11 @@ use Rattle.bsv_types.specs.Statements as typed
 use Rattle.bsv_types.specs.Names.{of_rule}
 use Rattle.bsv_types.specs.Modules.{Site, makes, condition_right, rule_right, module_stmt_step, module_branch_step}
 use Rattle.bsv_design.specs.Trees.{joined}
+use Rattle.bsv_design.proofs.Dotted.{AreLower}
 use Rattle.bsv_elab.specs.Statics.{Here, Builds, weigh}
 use Rattle.bsv_elab.specs.Making.{Bodies, width_in}
 use Rattle.bsv_elab.specs.Elements.{rules_of, here_module}
 use Rattle.bsv_elab.specs.Bodies.{Branched, run, stmt_case, stmt_step, branch_step, stmt}
-use Rattle.bsv_elab.proofs.NamedPaths.{AreLower}
 use Rattle.bsv_elab.proofs.NamedLists.{through}
 use Rattle.bsv_elab.proofs.NamedMakes.{Good}
 use Rattle.bsv_elab.proofs.NamedStill.{weigh_still, truth_still, still_ran, ran_behind, inside_good}

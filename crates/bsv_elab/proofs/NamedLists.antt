@@ -4,7 +4,7 @@ use Rattle.std.specs.Prelude.{slice_get}
 use Rattle.std.specs.List.{list_all, list_any}
 use Rattle.std.specs.Str.{bytes_eq}
 use Rattle.std.proofs.lemmas.Bool.{both_ways, and_parts, or_parts, or_left, or_right}
-use Rattle.std.proofs.lemmas.List.{append-nil, append_assoc}
+use Rattle.std.proofs.lemmas.List.{append-nil, append_assoc, append_cancel_left}
 use Rattle.std.proofs.lemmas.List.Folds.{list_any-append}
 use Rattle.std.proofs.lemmas.Slice.Eq.{bytes_eq-Decides}
 use Rattle.bsv_fail.specs.Given.{◌>>=◌}
@@ -13,6 +13,16 @@ use Rattle.bsv_fail.specs.Given.{◌>>=◌}
 
 pub ok_is : {A E : Type 0} (x y : A) → ◌≡◌ {A = Result A E} (Ok x) (Ok y) → x ≡ y
 ok_is x y e = cc
+
+pub heads : {A : Type 0} (a b : A) (xs ys : List A) → a ∷ xs ≡ b ∷ ys → a ≡ b
+heads a b xs ys e = cc
+
+pub not_empty : {A : Type 0} (a : A) (xs : List A) → a ∷ xs ≡ [] → ⊥
+not_empty a xs e = cc
+
+-- a list is not longer than itself
+pub ends : {A : Type 0} (xs ys : List A) → xs ≡ xs ++ ys → ys ≡ []
+ends xs ys e = append_cancel_left xs ys [] (sym e ∙ sym (append-nil xs))
 
 pub some_is : {A : Type 0} (x y : A) → Some x ≡ Some y → x ≡ y
 some_is x y e = cc

@@ -22,6 +22,7 @@ use Rattle.bsv_design.specs.declared.tree.Made.TheVariants as made
 use Rattle.bsv_design.specs.declared.values.Fault.TheVariants as fault
 use Rattle.bsv_design.specs.Traces.{with_dot}
 use Rattle.bsv_design.specs.Trees.{joined, rule_count}
+use Rattle.bsv_design.proofs.Dotted.{AreLower, lower_both, path_is}
 use Rattle.bsv_elab.specs.declared.refused.Refused.TheVariants as refused
 use Rattle.bsv_elab.specs.declared.state.Done.{Done}
 use Rattle.bsv_elab.specs.declared.state.Grown.{Grown}
@@ -31,7 +32,6 @@ use Rattle.bsv_elab.specs.Statics.{Here, static_fault, countable, put_at}
 use Rattle.bsv_elab.specs.MadeKinds.{kind_of}
 use Rattle.bsv_elab.specs.Attributes.{no_marks}
 use Rattle.bsv_elab.specs.Making.{instance, next_number, with_instance, with_primitive, named_instance, depth_of, at_least_one, start_of, within_limits, primitive, Bodies, is_around, unbuilt, parameters, params_of, inner, behind, child, made_by, make, arguments}
-use Rattle.bsv_elab.proofs.NamedPaths.{AreLower, lower_both, path_is}
 use Rattle.bsv_elab.proofs.NamedLists.{ok_is, through, passed, free, longer_none}
 use Rattle.bsv_elab.proofs.NamedTaken.{takes_longer, takes_taken, NewName, new_name_is}
 use Rattle.bsv_elab.proofs.NamedGroups.{BuiltNamed, Group, group_one}

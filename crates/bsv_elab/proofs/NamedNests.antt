@@ -7,8 +7,8 @@ use Rattle.bsv_design.specs.declared.tree.Built.{Built}
 use Rattle.bsv_design.specs.declared.tree.Instance.{Instance}
 use Rattle.bsv_design.specs.declared.tree.Made.TheVariants as made
 use Rattle.bsv_design.specs.Trees.{joined}
+use Rattle.bsv_design.proofs.Dotted.{AreLower}
 use Rattle.bsv_elab.specs.Making.{is_around}
-use Rattle.bsv_elab.proofs.NamedPaths.{AreLower}
 use Rattle.bsv_elab.proofs.NamedLists.{some_is, is_in}
 use Rattle.bsv_elab.proofs.NamedGroups.{BuiltNamed, Under, Group, around_front, nest_fine}
 

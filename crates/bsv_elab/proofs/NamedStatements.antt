@@ -13,13 +13,13 @@ use Rattle.bsv_design.specs.declared.statics.Binding.{Binding}
 use Rattle.bsv_design.specs.declared.statics.Static.TheVariants as static
 use Rattle.bsv_design.specs.declared.values.Fault.TheVariants as fault
 use Rattle.bsv_design.specs.Trees.{joined}
+use Rattle.bsv_design.proofs.Dotted.{AreLower}
 use Rattle.bsv_elab.specs.declared.refused.Refused.{Refused}
 use Rattle.bsv_elab.specs.declared.refused.Refused.TheVariants as refused
 use Rattle.bsv_elab.specs.declared.state.State.{State}
 use Rattle.bsv_elab.specs.Statics.{Here, Builds, static_fault, constant_in, number_in, truth_in, held, held_as, bind, assign, inside}
 use Rattle.bsv_elab.specs.Making.{Bodies, make}
 use Rattle.bsv_elab.specs.Bodies.{most_turns, length_of, no_places, places, name_of, or_one, index_in, set_place, run, one_instance, array, place_from, one_place, declare, set, Branched, chain, turn, turns, first_and_turns, looped}
-use Rattle.bsv_elab.proofs.NamedPaths.{AreLower}
 use Rattle.bsv_elab.proofs.NamedLists.{ok_is, through, passed, chosen}
 use Rattle.bsv_elab.proofs.NamedMakes.{Lows, Ran, Good, ran_none, ran_both}
 use Rattle.bsv_elab.proofs.NamedStill.{Still, constant_still, number_still, truth_still, low_at, still_ran, ran_behind, bound_ran, assigned_ran, placed_ran, inside_good}

@@ -8,7 +8,7 @@ use Rattle.bsv_design.specs.declared.values.Fault.TheVariants as fault
 use Rattle.bsv_design.specs.Traces.{with_dot}
 use Rattle.bsv_elab.specs.declared.refused.Refused.TheVariants as refused
 use Rattle.bsv_elab.specs.Names.{Named, times, with_number, given_times, is_taken, numbered, take_name, new_name}
-use Rattle.bsv_elab.proofs.NamedTexts.{numbered_lower}
+use Rattle.bsv_elab.proofs.NumberedNames.{numbered_lower}
 use Rattle.bsv_elab.proofs.NamedLists.{ok_is, through, passed, free, is_in, Longer, taken_one}
 
 -- a name that was free is taken

@@ -12,10 +12,10 @@ use Rattle.bsv_design.specs.declared.tree.Instance.{Instance}
 use Rattle.bsv_design.specs.declared.tree.Made.TheVariants as made
 use Rattle.bsv_design.specs.Calls.{made_of}
 use Rattle.bsv_design.specs.Trees.{Hierarchy, IsModuleAt, IsPath, IsInside, AreNamed, joined, methods_of}
+use Rattle.bsv_design.proofs.Dotted.{AreLower}
 use Rattle.bsv_elab.specs.declared.state.Done.{Done}
 use Rattle.bsv_elab.specs.Building.{building}
-use Rattle.bsv_elab.proofs.NamedPaths.{AreLower, not_empty}
-use Rattle.bsv_elab.proofs.NamedLists.{some_is, none_there}
+use Rattle.bsv_elab.proofs.NamedLists.{not_empty, some_is, none_there}
 use Rattle.bsv_elab.proofs.NamedGroups.{StandsDirectly, BuiltNamed, Related, AllFine, nest_fine}
 use Rattle.bsv_elab.proofs.NamedTop.{Whole, whole, top_of, Parts, parts}
 

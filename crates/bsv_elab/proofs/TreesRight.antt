@@ -1,6 +1,6 @@
 -- What is built of a typed program is a tree.
 use Rattle.bsv_elab.specs.Rightness.{TreesRight}
-use Rattle.bsv_elab.proofs.CarriedTrees.{trees_carried_out}
+use Rattle.bsv_elab.proofs.accepted.Trees.{trees_carried_out}
 use Rattle.bsv_elab.proofs.FittingTop.{modules_agree}
 use Rattle.bsv_elab.proofs.NamedDirect.{all_named}
 use Rattle.bsv_elab.proofs.NamedWhole.{paths, apart, inside}

@@ -6,7 +6,6 @@ pub mod StepPlaces
 pub mod StepsExclusive
 pub mod StepsDecided
 pub mod Outlined
-pub mod OutlinedPaths
 pub mod OutlinedElements
 pub mod OutlinedTyped
 pub mod OutlinedParts

@@ -29,7 +29,7 @@ use Rattle.bsv_design.specs.Trees.{Hierarchy, IsTree, IsPath, IsRule, IsModuleAt
 use Rattle.bsv_inline.proofs.Outlined.{AreOutlined, KeepsNames}
 use Rattle.bsv_inline.proofs.OutlinedElements.{some_is, IsMethod, StandsAt, IsRuleOf, IsOf, a_method, a_rule, top_made, element_is}
 use Rattle.bsv_inline.proofs.OutlinedParts.{part_paths, parts_alone}
-use Rattle.bsv_inline.proofs.OutlinedPaths.{dotted_in, told_apart, top_path}
+use Rattle.bsv_design.proofs.Dotted.{dotted_in, told_apart, top_path}
 use Rattle.bsv_inline.proofs.OutlinedTyped.{IsWanted, is_wanted, wanted_places, methods_distinct, module_lower}
 
 -- ---- roles and ports

@@ -12,7 +12,7 @@ use Rattle.bsv_design.specs.Sources.{part_made, parts_among}
 use Rattle.bsv_design.specs.Traces.{one_if, is_part, parts_before}
 use Rattle.bsv_design.specs.Trees.{Hierarchy, IsTree}
 use Rattle.bsv_inline.proofs.OutlinedElements.{some_is}
-use Rattle.bsv_inline.proofs.OutlinedPaths.{dotted_path}
+use Rattle.bsv_design.proofs.Dotted.{dotted_path}
 
 -- the instance of a part
 record IsPartOf (is : List Instance) (n : ℕ) (p : NamedPart) : Type 0 where

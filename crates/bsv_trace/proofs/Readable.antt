@@ -5,7 +5,8 @@ use Rattle.std.proofs.Math.Logic.{∥∥₁_elim}
 use Rattle.std.proofs.Math.Bool.{Bool-set}
 use Rattle.std.proofs.Math.Nat.{ℕ_set}
 use Rattle.std.proofs.lemmas.Bool.Decides.{nat_tests}
-use Rattle.bsv_ast.specs.Names.{begins_name, is_word, is_name, is_capital, is_lower}
+use Rattle.bsv_ast.specs.Names.{is_word, is_lower}
+use Rattle.bsv_ast.proofs.Names.{lower_words}
 use Rattle.bsv_bits.specs.Words.{Bits}
 use Rattle.bsv_design.specs.declared.design.Design.{Design}
 use Rattle.bsv_design.specs.declared.element.Element.{Element}
@@ -66,14 +67,8 @@ words_in_name [] each = refl
 words_in_name (b ∷ bytes) each =
     ap (λ t. t && list_all in_name bytes) (differs is_word b (both_left (is_word b) _ each) refl) ∙ words_in_name bytes (both_right (is_word b) _ each)
 
-name_in_name : (text : List ℕ) → is_name text ≡ true → list_all in_name text ≡ true
-name_in_name [] is = refl
-name_in_name (b ∷ bytes) is =
-    ap (λ t. t && list_all in_name bytes) (differs begins_name b (both_left (begins_name b) _ is) refl) ∙ words_in_name bytes (both_right (begins_name b) _ is)
-
 lower_in_name : (text : List ℕ) → IsTrue (is_lower text) → IsTrue (list_all in_name text)
-unfolding is_lower
-lower_in_name text lower = name_in_name text (both_left (is_name text) _ (both_left (is_name text && not (is_capital text)) _ lower))
+lower_in_name text lower = words_in_name text (lower_words text lower)
 
 method_name : (r : Role) (text : List ℕ) → is_rule r ≡ false → IsNamed r text → IsTrue (list_all in_name text)
 method_name role.Rule text acts named = absurd cc

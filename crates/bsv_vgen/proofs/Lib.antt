@@ -1,6 +1,6 @@
 pub mod Computes
-pub mod Bytes
-pub mod Dotted
+pub mod Keywords
+pub mod VerilogPaths
 pub mod Spellings
 pub mod Places
 pub mod Suffixes

@@ -18,7 +18,7 @@ use Rattle.bsv_vtext.specs.Modules.{Signal, Clock, Reset, Enable, Argument, Read
 use Rattle.bsv_vtext.specs.Signals.{Contents, argument_name, enable_name, ready_name, fire_name}
 use Rattle.bsv_vgen.specs.Interfaces.{IsModuleOf, argument_of}
 use Rattle.bsv_vgen.specs.Names.{verilog_name, part_names, numbered_from, fire_wires}
-use Rattle.bsv_vgen.proofs.Dotted.{path_told, dotted_route, verilog_same}
+use Rattle.bsv_vgen.proofs.VerilogPaths.{path_told, dotted_route, verilog_same}
 use Rattle.bsv_vgen.proofs.Places.{some_is, Found, in_first, in_second, made_of, mapped, distinct_apart, before, fires_before, fire_at}
 use Rattle.bsv_vgen.proofs.Spellings.{Sort, Clocks, Resets, Enables, Arguments, Readies, Results, Registers, Wires, sort, clock_sort, reset_sort, enable_sort, argument_sort, ready_sort, result_sort, register_sort, numbered_sort, fire_sort, argument_told, numbered_or_fire}
 use Rattle.bsv_vgen.proofs.Suffixes.{suffix_at, suffix_same}

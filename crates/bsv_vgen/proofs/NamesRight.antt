@@ -22,7 +22,7 @@ use Rattle.bsv_vtext.specs.Modules.{is_signal_name, IsArgument, HasFire}
 use Rattle.bsv_vtext.specs.Signals.{Contents, fire_name}
 use Rattle.bsv_vgen.specs.Interfaces.{IsModuleOf, IsMethodOf, argument_of}
 use Rattle.bsv_vgen.specs.Names.{register_names, part_names, suffixes, verilog_name, numbered_from, fire_wire, fire_wires}
-use Rattle.bsv_vgen.proofs.Dotted.{IsRoute, lower_route, dotted_route, lower_stays}
+use Rattle.bsv_vgen.proofs.VerilogPaths.{IsRoute, lower_route, dotted_route, lower_stays}
 use Rattle.bsv_vgen.proofs.Spellings.{fire_named, numbered_named, register_named, numbered_or_fire}
 use Rattle.bsv_vgen.proofs.Places.{some_is, Found, in_first, in_second, found, behind, made_of, mapped, each_is, before, from_one, numbered_at, IsFire, fire_at, fire_of}
 use Rattle.bsv_vgen.proofs.Suffixes.{suffix_at, IsBehind, suffix_behind}

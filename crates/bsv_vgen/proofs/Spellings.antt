@@ -7,11 +7,12 @@ use Rattle.std.specs.List.{list_all}
 use Rattle.std.proofs.lemmas.Bool.{false≢true, and_parts, and_from, or_from, or_left, not-true, not_from_false, false_from_ne_true, eqb-true}
 use Rattle.std.proofs.lemmas.List.Folds.{list_all-append}
 use Rattle.bsv_ast.specs.Names.{is_lower, is_keyword, begins_name, is_word, is_capital}
+use Rattle.bsv_ast.proofs.Names.{begins_small, word_no_dollar, lower_words, lower_small, decimal_words}
 use Rattle.bsv_vtext.specs.Modules.{is_name_byte, is_signal_name}
 use Rattle.bsv_vtext.specs.Signals.{argument_name, enable_name, ready_name, fire_name}
 use Rattle.bsv_vgen.specs.Names.{verilog_name}
-use Rattle.bsv_vgen.proofs.Bytes.{begins_small, has_dollar, marked, capital_free, dollar_free, dollar_in, marked_in, word_no_dollar, lower_words, lower_small, digits_words}
-use Rattle.bsv_vgen.proofs.Dotted.{IsRoute, verilog_bytes, small_first}
+use Rattle.bsv_vgen.proofs.Keywords.{has_dollar, marked, capital_free, dollar_free, dollar_in, marked_in}
+use Rattle.bsv_vgen.proofs.VerilogPaths.{IsRoute, verilog_bytes, small_first}
 
 -- ---- sorts
 
@@ -162,7 +163,7 @@ words_named (b ∷ text) h =
     and_from (is_name_byte b) (list_all is_name_byte text) (or_left (is_word b) (b == 36) p.0) (words_named text p.1)
 
 pub numbered_named : (n : ℕ) → n < 2 ^ 64 → is_signal_name (codes "N" ++ decimal n) ≡ true
-numbered_named n below = named_by 78 (decimal n) refl (words_named (decimal n) (digits_words n below)) (capital_free (78 ∷ decimal n) refl)
+numbered_named n below = named_by 78 (decimal n) refl (words_named (decimal n) (decimal_words n below)) (capital_free (78 ∷ decimal n) refl)
 
 both_bytes : (xs ys : List ℕ) → list_all is_name_byte xs ≡ true → list_all is_name_byte ys ≡ true → list_all is_name_byte (xs ++ ys) ≡ true
 both_bytes xs ys h k = list_all-append is_name_byte xs ys ∙ and_from (list_all is_name_byte xs) (list_all is_name_byte ys) h k

@@ -6,12 +6,12 @@ use Rattle.std.proofs.lemmas.Bool.{false≢true}
 use Rattle.std.proofs.lemmas.Fmt.{decimal_injective}
 use Rattle.std.proofs.lemmas.List.{append_cancel_left}
 use Rattle.bsv_ast.specs.Names.{is_capital}
+use Rattle.bsv_ast.proofs.Names.{decimal_words}
 use Rattle.bsv_graph.specs.Edges.{numbers_below}
 use Rattle.bsv_design.specs.declared.kind.Kind.{Kind}
 use Rattle.bsv_design.specs.declared.kind.Kind.TheVariants.{Reg, RegU, Wire, DWire, RWire, Pulse, Plain, Pipeline, Bypass}
 use Rattle.bsv_vtext.specs.Modules.{is_name_byte}
 use Rattle.bsv_vgen.specs.Names.{item_suffix, queue_suffixes, suffixes}
-use Rattle.bsv_vgen.proofs.Bytes.{digits_words}
 use Rattle.bsv_vgen.proofs.Spellings.{words_named}
 use Rattle.bsv_vgen.proofs.Places.{some_is, made_of, number_at}
 
@@ -80,5 +80,5 @@ suffix_behind i s p (item k a e) = record {
   rest = 68 ∷ decimal k;
   is = e;
   capital = refl;
-  bytes = words_named (decimal k) (digits_words k (omega arith));
+  bytes = words_named (decimal k) (decimal_words k (omega arith));
 }

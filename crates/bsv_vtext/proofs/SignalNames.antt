@@ -2,7 +2,8 @@
 use Rattle.std.proofs.Common.{◌≡◌, ℕ, Bool, true, false, not, ◌&&◌, if◌then◌else◌, List, [], ◌∷◌, ◌++◌, Option, Some, None, option_map, slice_get, codes, refl, subst}
 use Rattle.std.specs.List.{list_all}
 use Rattle.std.specs.Char.{is_ascii_uppercase}
-use Rattle.bsv_ast.specs.Names.{begins_name, is_word, is_lower, is_name, is_capital, is_keyword}
+use Rattle.bsv_ast.specs.Names.{begins_name, is_word, is_lower, is_keyword}
+use Rattle.bsv_ast.proofs.Names.{lower_parts, lower_some}
 use Rattle.bsv_vtext.specs.declared.tree.VMethod.{VMethod}
 use Rattle.bsv_vtext.specs.declared.tree.VRegister.{VRegister}
 use Rattle.bsv_vtext.specs.declared.tree.VWire.{VWire}
@@ -21,18 +22,12 @@ abbrev pub IsLower : List ℕ → Type 0
 IsLower [] = ⊥
 IsLower (b ∷ bs) = (begins_name b ≡ true) × ((is_ascii_uppercase b ≡ false) × Each (Passes is_word) bs)
 
-not_true : (a : Bool) → not a ≡ true → a ≡ false
-not_true true e = absurd cc
-not_true false e = refl
-
 pub lower_is : (text : List ℕ) → is_lower text ≡ true → IsLower text
-unfolding is_lower
-lower_is [] e = absurd cc
+lower_is [] e = absurd (lower_some [] [] e refl)
 lower_is (b ∷ bs) e =
-    let front = both (is_name (b ∷ bs) && not (is_capital (b ∷ bs))) (not (is_keyword (b ∷ bs))) e in
-    let parts = both (is_name (b ∷ bs)) (not (is_capital (b ∷ bs))) front.0 in
-    let bytes = both (begins_name b) (list_all is_word bs) parts.0 in
-    (bytes.0, (not_true (is_ascii_uppercase b) parts.1, each_passes is_word bs bytes.1))
+    let parts = lower_parts (b ∷ bs) e in
+    let bytes = both (begins_name b) (list_all is_word bs) parts.named in
+    (bytes.0, (parts.small, each_passes is_word bs bytes.1))
 
 -- ---- names
 

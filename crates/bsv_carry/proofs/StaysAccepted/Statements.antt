@@ -8,16 +8,17 @@ use Rattle.bsv_design.specs.declared.tree.Instance.{Instance}
 use Rattle.bsv_design.specs.Calls.{Site, Caller}
 use Rattle.bsv_design.specs.Carrying as carrying
 use Rattle.bsv_design.specs.Carrying.{Acts, Branched, Labelled, place, stmt, branch, case_arm}
-use Rattle.bsv_elab.proofs.CarriedInto.{into_then, counted_over}
-use Rattle.bsv_elab.proofs.CarriedGrowth.{Grows, grown, ActsInto, BranchedInto, LabelledInto, EachActs, EachBranched, EachLabelled, CallsInto}
-use Rattle.bsv_elab.proofs.CarriedCalls.{act_into}
-use Rattle.bsv_elab.proofs.CarriedExpressions.{expr_into, place_in, exprs_into, carries_into}
-use Rattle.bsv_elab.proofs.CarriedBranches.{run_into, inside_into, nothing_into, chain_into, asked_into}
-use Rattle.bsv_elab.proofs.CarriedCases.{cases_into, loop_into}
+use Rattle.bsv_carry.proofs.StaysAccepted.SideBySide.{into_then, counted_over}
+use Rattle.bsv_carry.specs.StaysAccepted.{Grows, over}
+use Rattle.bsv_carry.proofs.StaysAccepted.Instances.{ActsInto, BranchedInto, LabelledInto, EachActs, EachBranched, EachLabelled, CallsInto}
+use Rattle.bsv_carry.proofs.StaysAccepted.Calls.{act_into}
+use Rattle.bsv_carry.proofs.StaysAccepted.Expressions.{expr_into, place_in, exprs_into, carries_into}
+use Rattle.bsv_carry.proofs.StaysAccepted.Branches.{run_into, inside_into, nothing_into, chain_into, asked_into}
+use Rattle.bsv_carry.proofs.StaysAccepted.Cases.{cases_into, loop_into}
 
 module _ (d : ℕ) (is : List Instance) (call next : Caller) (s : Site) (grows : Grows s.instances is) (into : CallsInto d is call next) where
   abbrev t : Site
-  t = grown s is
+  t = over s is
 
   abbrev StmtInto : Stmt → Type 0
   StmtInto x = ActsInto d (stmt call s x) (stmt next t x)

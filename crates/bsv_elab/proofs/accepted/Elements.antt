@@ -11,9 +11,9 @@ use Rattle.bsv_elab.specs.declared.state.State.{State}
 use Rattle.bsv_elab.specs.Names.{new_name, take_name}
 use Rattle.bsv_elab.specs.Statics.{Here, site, count, countable}
 use Rattle.bsv_elab.specs.Elements.{most_elements, rules_of, methods_of, here_module, built_rule, with_rule, named_rule, weight_of, rule_from, rule, method_from, method}
-use Rattle.bsv_elab.proofs.CarriedGives.{Gives, gives_then, anything, gives_if, accepted_gives}
-use Rattle.bsv_elab.proofs.CarriedAccepted.{some_same, extends_same, RuleGoes, RuleAccepted, rule_lighter, each_behind}
-use Rattle.bsv_elab.proofs.CarriedStates.{Went, went_then, went_still, GoodRun}
+use Rattle.bsv_elab.proofs.accepted.Gives.{Gives, gives_then, anything, gives_if, accepted_gives}
+use Rattle.bsv_elab.proofs.accepted.Rules.{some_same, extends_same, RuleGoes, RuleAccepted, rule_lighter, each_after}
+use Rattle.bsv_elab.proofs.accepted.States.{Went, went_then, went_still, GoodRun}
 
 module _ (here : Here) where
   named_went : (name : List ℕ) (s : State) → Gives (λ n. Went here s n.1) (named_rule here name s)
@@ -36,7 +36,7 @@ module _ (here : Here) where
     kept = λ k. record {
       tree = k.tree;
       rules =
-          each_behind here s.grown.instances here.within s.scope.rules (built_rule name number position s) k.rules
+          each_after here s.grown.instances here.within s.scope.rules (built_rule name number position s) k.rules
           (accepted_here number r is name position s h);
     };
   }

@@ -1,7 +1,6 @@
--- Instances that were made later: what stood already still stands, but for modules that were not built. And what is
--- related by it: a computation with more weight over the first instances, and one over the later ones.
-use Rattle.std.proofs.Common.{◌≡◌, ◌⊎◌, ℕ, zero, suc, List, [], ◌∷◌, ◌++◌, Option, Some, None, Result, Ok, Err, refl, subst, inl, inr}
-use Rattle.std.specs.Prelude.{slice_get}
+-- Two computations related: one with more weight over the first instances, and one over the later ones; for expressions,
+-- statements, branches and labels, and for lists of them.
+use Rattle.std.proofs.Common.{◌≡◌, ℕ, List, [], ◌∷◌, Option, Some, None, Result, Ok, Err, refl, inr}
 use Rattle.bsv_fail.specs.Given.{◌>>=◌}
 use Rattle.bsv_types.specs.Kinds.{Kind as Sort}
 use Rattle.bsv_design.specs.declared.tree.Instance.{Instance}
@@ -12,50 +11,16 @@ use Rattle.bsv_design.specs.declared.values.Fault.{Fault}
 use Rattle.bsv_design.specs.declared.values.Local.{Local}
 use Rattle.bsv_design.specs.declared.values.Value.{Value}
 use Rattle.bsv_design.specs.declared.values.Work.{Work}
-use Rattle.bsv_design.specs.Calls.{Site, Callee, Caller, made_of}
+use Rattle.bsv_design.specs.Calls.{Site, Callee, Caller}
 use Rattle.bsv_design.specs.Carrying.{Carry, Carried, Placing, Acts, Branched, Labelled, all_from, all, first_type}
-use Rattle.bsv_elab.proofs.CarriedInto.{Into, into_then, raised, heavier, at_raised, at_heavier, both_heavier}
+use Rattle.bsv_carry.specs.StaysAccepted.{Stays, Grows, over}
+use Rattle.bsv_carry.proofs.StaysAccepted.SideBySide.{Into, into_then, raised, heavier, at_raised, at_heavier, both_heavier}
 
--- ---- instances
-
--- what stands at a place, and what stands there later. A module that is not built may become one that is
-abbrev pub Stays : Option Made → Option Made → Type 0
-Stays None y = Unit {0}
-Stays (Some (made.Primitive p k)) y = y ≡ Some (made.Primitive p k)
-Stays (Some (made.Module b)) y = (b.methods ≡ []) ⊎ (y ≡ Some (made.Module b))
-
-pub record Grows (xs ys : List Instance) : Type 0 where
-  pub stays : (n : ℕ) → Stays (made_of (slice_get xs n)) (made_of (slice_get ys n))
-
+-- what is there stays
 pub stays_same : (x : Option Made) → Stays x x
 stays_same None = tt
 stays_same (Some (made.Primitive p k)) = refl
 stays_same (Some (made.Module b)) = inr refl
-
-stays_then : (x y z : Option Made) → Stays x y → Stays y z → Stays x z
-stays_then None y z h k = tt
-stays_then (Some (made.Primitive p q)) y z h k = subst (λ o. Stays o z) h k
-stays_then (Some (made.Module b)) y z (inl e) k = inl e
-stays_then (Some (made.Module b)) y z (inr h) k = subst (λ o. Stays o z) h k
-
-pub grows_same : (xs : List Instance) → Grows xs xs
-grows_same xs = record { stays = λ n. stays_same (made_of (slice_get xs n)) }
-
-pub grows_then : (xs ys zs : List Instance) → Grows xs ys → Grows ys zs → Grows xs zs
-grows_then xs ys zs h k =
-    record { stays = λ n. stays_then (made_of (slice_get xs n)) (made_of (slice_get ys n)) (made_of (slice_get zs n)) (h.stays n) (k.stays n) }
-
-stays_front : (xs ys : List Instance) (n : ℕ) → Stays (made_of (slice_get xs n)) (made_of (slice_get (xs ++ ys) n))
-stays_front [] ys n = tt
-stays_front (x ∷ xs) ys zero = stays_same (Some x.made)
-stays_front (x ∷ xs) ys (suc n) = stays_front xs ys n
-
-pub grows_behind : (xs ys : List Instance) → Grows xs (xs ++ ys)
-grows_behind xs ys = record { stays = stays_front xs ys }
-
--- the place at which something else is known
-abbrev pub grown : Site → List Instance → Site
-grown s is = record s { instances = is }
 
 -- ---- side by side
 
@@ -120,7 +85,7 @@ module _ (d : ℕ) where
   abbrev pub CallsInto : List Instance → Caller → Caller → Type 0
   CallsInto is call next =
       (s : Site) → Grows s.instances is → (c : Callee) (xs : List Value) (w : Work) → Into (at_heavier d) (call s c xs (heavier d w))
-      (next (grown s is) c xs w)
+      (next (over s is) c xs w)
 
   -- ---- the values of operands
 

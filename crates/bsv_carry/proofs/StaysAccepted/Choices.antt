@@ -14,9 +14,10 @@ use Rattle.bsv_design.specs.Values.{is_static, is_true}
 use Rattle.bsv_design.specs.Working.{no_steps, at_count}
 use Rattle.bsv_design.specs.Carrying as carrying
 use Rattle.bsv_design.specs.Carrying.{Carried}
-use Rattle.bsv_elab.proofs.CarriedInto.{Into, into_then, into_if, into_same, raised, heavier, at_raised, at_heavier, tick_over}
-use Rattle.bsv_elab.proofs.CarriedArms.{value_choice_over}
-use Rattle.bsv_elab.proofs.CarriedGrowth.{grown, CarriedInto, CarryInto, PlacingInto, EachCarried, MaybeCarried}
+use Rattle.bsv_carry.proofs.StaysAccepted.SideBySide.{Into, into_then, into_if, into_same, raised, heavier, at_raised, at_heavier, tick_over}
+use Rattle.bsv_carry.proofs.StaysAccepted.Arms.{value_choice_over}
+use Rattle.bsv_carry.specs.StaysAccepted.{over}
+use Rattle.bsv_carry.proofs.StaysAccepted.Instances.{CarriedInto, CarryInto, PlacingInto, EachCarried, MaybeCarried}
 
 module _ (d : ℕ) where
   last_value_into : (w : Work) (arms : List Arm) (x y : Carried) → CarriedInto d x y → (vs : List Local) (c : Count)
@@ -55,17 +56,17 @@ module _ (d : ℕ) where
 
 module _ (d : ℕ) (is : List Instance) (call next : Caller) (s : Site) where
   pub choice_into : (ts us xs ys : List Carried) → EachCarried d ts us → EachCarried d xs ys
-      → CarryInto d (carrying.choice call s ts xs) (carrying.choice next (grown s is) us ys)
+      → CarryInto d (carrying.choice call s ts xs) (carrying.choice next (over s is) us ys)
   unfolding carrying.choice
   choice_into ts us xs ys h k vs w = choice_from_into d (static_fault s) w [] ts us xs ys h k vs w.count
 
   pub as_static_into : (k : Sort) (r : Value × Work)
-      → Into (at_heavier d) (carrying.as_static call s k (at_heavier d r)) (carrying.as_static next (grown s is) k r)
+      → Into (at_heavier d) (carrying.as_static call s k (at_heavier d r)) (carrying.as_static next (over s is) k r)
   as_static_into integer r = into_if (is_static r.0) (record { seen = refl }) (record { seen = tt })
   as_static_into k r = record { seen = refl }
 
   pub place_into : (level : ℕ) (x y : Option Carried) → MaybeCarried d x y
-      → PlacingInto d (carrying.place_of call s level x) (carrying.place_of next (grown s is) level y)
+      → PlacingInto d (carrying.place_of call s level x) (carrying.place_of next (over s is) level y)
   place_into level None None h vs c = into_then _ _ (into_same (placed (static_fault s) (slice_get s.bindings level))) (λ n. record { seen = refl })
   place_into level (Some a) (Some b) h vs c =
       into_then _ _ (h.carry vs (no_steps c)) (λ r. into_then _ _ (into_same (carrying.index_of call s r.0))

@@ -21,11 +21,11 @@ use Rattle.bsv_elab.specs.Attributes.{marks_of}
 use Rattle.bsv_elab.specs.Making.{Bodies, instance, unbuilt, with_instance, inner}
 use Rattle.bsv_elab.specs.Elements.{most_elements, here_module, methods_of}
 use Rattle.bsv_elab.specs.Building.{opening, body_of, body_at, most_modules, top_from, first_rule_in, outside, nothing_grown, levels_at, method_at, methods_from, tree, from_top, carried_out, building}
-use Rattle.bsv_elab.proofs.CarriedGives.{Gives, gives_then, anything, gives_if, gives_more, given, accepted_gives}
-use Rattle.bsv_elab.proofs.CarriedGrowth.{Grows}
-use Rattle.bsv_elab.proofs.CarriedAccepted.{some_same, MadeAccepted, TreeAccepted, each_at, site_at, method_later}
-use Rattle.bsv_elab.proofs.CarriedMaking.{BodyWent, BodiesGo, placed}
-use Rattle.bsv_elab.proofs.CarriedModules.{statements_went}
+use Rattle.bsv_elab.proofs.accepted.Gives.{Gives, gives_then, anything, gives_if, gives_more, given, accepted_gives}
+use Rattle.bsv_carry.specs.StaysAccepted.{Grows}
+use Rattle.bsv_elab.proofs.accepted.Rules.{some_same, MadeAccepted, TreeAccepted, each_at, site_at, method_later}
+use Rattle.bsv_elab.proofs.accepted.Making.{BodyWent, BodiesGo, placed}
+use Rattle.bsv_elab.proofs.accepted.Modules.{statements_went}
 
 -- ---- bodies
 

@@ -10,7 +10,7 @@ use Rattle.bsv_design.specs.declared.values.Work.{Work}
 use Rattle.bsv_design.specs.Arms as arms
 use Rattle.bsv_design.specs.Working.{at_count}
 use Rattle.bsv_design.specs.Carrying as carrying
-use Rattle.bsv_elab.proofs.CarriedInto.{Into, into_then, into_if, raised, heavier, at_raised, both_raised, at_heavier, fresh_over, give_over}
+use Rattle.bsv_carry.proofs.StaysAccepted.SideBySide.{Into, into_then, into_if, raised, heavier, at_raised, both_raised, at_heavier, fresh_over, give_over}
 
 module _ (d : ℕ) where
   joined_from_over : (ps : List Pending) (last found : List Local) (given : List ℕ) (vs : List Local) (c : Count)

@@ -1,30 +1,22 @@
--- Rules that were carried out without a refusal: over later instances they still are, and from weight 0.
-use Rattle.std.proofs.Common.{◌≡◌, ◌∙◌, ℕ, zero, suc, ◌+◌, ◌<◌, Bool, true, false, List, [], ◌∷◌, ◌++◌, length, Option, Some, None, Result, Ok, Err, refl, sym, ap, subst, arith, append_assoc, append-nil, length-append, inl}
+-- Rules that were carried out without a refusal, rule by rule and instance by instance: they stay accepted while the tree grows.
+use Rattle.std.proofs.Common.{◌≡◌, ◌∙◌, ℕ, zero, suc, ◌+◌, ◌<◌, Bool, true, false, List, [], ◌∷◌, ◌++◌, length, Option, Some, None, refl, sym, ap, subst, arith, append_assoc, append-nil, length-append}
 use Rattle.std.specs.Prelude.{nat_lt, slice_get, slice_set, if◌then◌else◌}
 use Rattle.std.proofs.lemmas.Bool.{lt-ltb}
 use Rattle.std.proofs.lemmas.List.{set_at}
-use Rattle.bsv_types.specs.declared.expressions.Expr.{Expr}
 use Rattle.bsv_types.specs.declared.modules.Method.{Method}
 use Rattle.bsv_types.specs.declared.modules.Module.{Module}
 use Rattle.bsv_types.specs.declared.modules.Rule.{Rule}
-use Rattle.bsv_types.specs.declared.statements.Stmt.{Stmt}
 use Rattle.bsv_design.specs.declared.statics.Binding.{Binding}
-use Rattle.bsv_design.specs.declared.tree.Built.{Built}
 use Rattle.bsv_design.specs.declared.tree.BuiltRule.{BuiltRule}
 use Rattle.bsv_design.specs.declared.tree.Instance.{Instance}
 use Rattle.bsv_design.specs.declared.tree.Made.{Made}
 use Rattle.bsv_design.specs.declared.tree.Made.TheVariants as made
-use Rattle.bsv_design.specs.declared.values.Count.{Count}
-use Rattle.bsv_design.specs.declared.values.Fault.{Fault}
 use Rattle.bsv_design.specs.Calls.{Site, made_of}
 use Rattle.bsv_design.specs.Carrying as carrying
 use Rattle.bsv_design.specs.Trees.{IsAccepted}
-use Rattle.bsv_design.specs.Working.{no_steps}
+use Rattle.bsv_carry.specs.StaysAccepted.{Grows, weighing}
+use Rattle.bsv_carry.proofs.StaysAccepted.{stays_accepted, grows_same}
 use Rattle.bsv_elab.specs.Statics.{Here, put_at}
-use Rattle.bsv_elab.specs.Making.{instance}
-use Rattle.bsv_elab.proofs.CarriedInto.{Into, heavier, at_heavier}
-use Rattle.bsv_elab.proofs.CarriedGrowth.{Stays, Grows, stays_same, grows_same, grows_behind}
-use Rattle.bsv_elab.proofs.CarriedBodies.{rule_into, top_method_into}
 
 pub some_same : {A : Type 0} (x y : A) → Some x ≡ Some y → x ≡ y
 some_same x y e = cc
@@ -42,21 +34,6 @@ pub extends_then : (xs ys zs : List Instance) → Extends xs ys → Extends ys z
 extends_then xs ys zs h k =
     record { more = h.more ++ k.more; is = k.is ∙ ap (λ (l : List Instance). l ++ k.more) h.is ∙ append_assoc xs h.more k.more }
 
-pub extends_grows : (xs ys : List Instance) → Extends xs ys → Grows xs ys
-extends_grows xs ys h = subst (λ l. Grows xs l) (sym h.is) (grows_behind xs h.more)
-
--- a module that is built in the place of one that is not
-stays_replaced : (xs more : List Instance) (path : List ℕ) (b : Built) (i : Instance) → b.methods ≡ [] → (n : ℕ)
-    → Stays (made_of (slice_get (xs ++ instance path (made.Module b) ∷ more) n)) (made_of (slice_get (xs ++ i ∷ more) n))
-stays_replaced [] more path b i e zero = inl e
-stays_replaced [] more path b i e (suc n) = stays_same (made_of (slice_get more n))
-stays_replaced (x ∷ xs) more path b i e zero = stays_same (Some x.made)
-stays_replaced (x ∷ xs) more path b i e (suc n) = stays_replaced xs more path b i e n
-
-pub grows_replaced : (xs more : List Instance) (path : List ℕ) (b : Built) (i : Instance) → b.methods ≡ []
-    → Grows (xs ++ instance path (made.Module b) ∷ more) (xs ++ i ∷ more)
-grows_replaced xs more path b i e = record { stays = stays_replaced xs more path b i e }
-
 if_true_is : {A : Type 0} (b : Bool) (x y : A) → b ≡ true → (if b then x else y) ≡ x
 if_true_is true x y e = refl
 if_true_is false x y e = absurd cc
@@ -72,11 +49,6 @@ put_is xs more l u i n number is =
 
 -- ---- accepted
 
-accepted_into : {A B : Type 0} (see : B → A) (x : Result A Fault) (y : Result B Fault) → Into see x y → IsAccepted x → IsAccepted y
-accepted_into see (Err e) y h k = absurd k
-accepted_into see (Ok a) (Err e) h k = h.seen
-accepted_into see (Ok a) (Ok b) h k = tt
-
 abbrev pub site_at : Here → List Instance → ℕ → List Binding → Site
 site_at here is number bs = record {
   shapes = here.shapes;
@@ -87,21 +59,9 @@ site_at here is number bs = record {
   bindings = bs;
 }
 
--- the count of nothing but a weight
-abbrev pub weighing : ℕ → Count
-weighing weight = record { weight = weight; slots = 0 }
-
-rule_light : (s : Site) (c : Option Expr) (ss : List Stmt) (weight : ℕ) → IsAccepted (carrying.rule s c ss (no_steps (weighing weight)))
-    → IsAccepted (carrying.rule s c ss (no_steps (weighing 0)))
-rule_light s c ss weight h =
-    let none : 0 + weight ≡ weight = omega arith in
-    accepted_into (heavier weight) (carrying.rule s c ss (no_steps (weighing (0 + weight)))) (carrying.rule s c ss (no_steps (weighing 0)))
-    (rule_into weight s.instances s (grows_same s.instances) c ss (no_steps (weighing 0)))
-    (subst (λ n. IsAccepted (carrying.rule s c ss (no_steps (weighing n)))) (sym none) h)
-
 module _ (here : Here) where
   abbrev pub RuleGoes : List Instance → ℕ → List Binding → Rule → Type 0
-  RuleGoes is number bs source = IsAccepted (carrying.rule (site_at here is number bs) source.condition source.body (no_steps (weighing 0)))
+  RuleGoes is number bs source = IsAccepted (carrying.rule (site_at here is number bs) source.condition source.body (weighing 0))
 
   abbrev pub RuleAccepted : List Instance → ℕ → BuiltRule → Type 0
   RuleAccepted is number r =
@@ -120,24 +80,24 @@ module _ (here : Here) where
   abbrev pub TreeAccepted : List Instance → List Instance → Type 0
   TreeAccepted is xs = (n : ℕ) → MadeAccepted is (made_of (slice_get xs n))
 
-  -- ---- from any weight, and over later instances
+  -- ---- later
+
+  -- from any weight, and over later instances
+  pub rule_later : (is js : List Instance) → Grows is js → (number : ℕ) (bs : List Binding) (source : Rule) (weight : ℕ)
+      → IsAccepted (carrying.rule (site_at here is number bs) source.condition source.body (weighing weight))
+      → RuleGoes js number bs source
+  rule_later is js grows number bs source weight h =
+      stays_accepted.rule (site_at here is number bs) js grows source.condition source.body weight h
 
   pub rule_lighter : (is : List Instance) (number : ℕ) (bs : List Binding) (source : Rule) (weight : ℕ)
-      → IsAccepted (carrying.rule (site_at here is number bs) source.condition source.body (no_steps (weighing weight)))
+      → IsAccepted (carrying.rule (site_at here is number bs) source.condition source.body (weighing weight))
       → RuleGoes is number bs source
-  rule_lighter is number bs source weight h = rule_light (site_at here is number bs) source.condition source.body weight h
-
-  rule_later : (is js : List Instance) → Grows is js → (number : ℕ) (bs : List Binding) (source : Rule) → RuleGoes is number bs source
-      → RuleGoes js number bs source
-  rule_later is js grows number bs source h =
-      accepted_into (heavier 0) (carrying.rule (site_at here is number bs) source.condition source.body (no_steps (weighing 0)))
-      (carrying.rule (site_at here js number bs) source.condition source.body (no_steps (weighing 0)))
-      (rule_into 0 js (site_at here is number bs) grows source.condition source.body (no_steps (weighing 0))) h
+  rule_lighter is number bs source weight h = rule_later is is (grows_same is) number bs source weight h
 
   pub each_later : (is js : List Instance) → Grows is js → (number : ℕ) (rs : List BuiltRule) → EachAccepted is number rs → EachAccepted js number rs
   each_later is js grows number [] h = tt
   each_later is js grows number (r ∷ rs) h =
-      (λ m at source there. rule_later is js grows number r.bindings source (h.0 m at source there), each_later is js grows number rs h.1)
+      (λ m at source there. rule_later is js grows number r.bindings source 0 (h.0 m at source there), each_later is js grows number rs h.1)
 
   made_later : (is js : List Instance) → Grows is js → (x : Option Made) → MadeAccepted is x → MadeAccepted js x
   made_later is js grows None h = tt
@@ -150,19 +110,14 @@ module _ (here : Here) where
   -- a method of the top
   pub method_later : (is js : List Instance) → Grows is js → (number : ℕ) (bs : List Binding) (m : Method) (weight : ℕ)
       → IsAccepted (carrying.top_method (site_at here is number bs) m weight) → IsAccepted (carrying.top_method (site_at here js number bs) m 0)
-  method_later is js grows number bs m weight h =
-      let none : 0 + weight ≡ weight = omega arith in
-      accepted_into (at_heavier weight) (carrying.top_method (site_at here is number bs) m (0 + weight))
-      (carrying.top_method (site_at here js number bs) m 0)
-      (top_method_into weight js (site_at here is number bs) grows m 0)
-      (subst (λ n. IsAccepted (carrying.top_method (site_at here is number bs) m n)) (sym none) h)
+  method_later is js grows number bs m weight h = stays_accepted.method (site_at here is number bs) js grows m weight h
 
   -- ---- lists
 
-  pub each_behind : (is : List Instance) (number : ℕ) (rs : List BuiltRule) (r : BuiltRule) → EachAccepted is number rs → RuleAccepted is number r
+  pub each_after : (is : List Instance) (number : ℕ) (rs : List BuiltRule) (r : BuiltRule) → EachAccepted is number rs → RuleAccepted is number r
       → EachAccepted is number (rs ++ r ∷ [])
-  each_behind is number [] r h k = (k, tt)
-  each_behind is number (x ∷ rs) r h k = (h.0, each_behind is number rs r h.1 k)
+  each_after is number [] r h k = (k, tt)
+  each_after is number (x ∷ rs) r h k = (h.0, each_after is number rs r h.1 k)
 
   pub each_at : (is : List Instance) (number : ℕ) (rs : List BuiltRule) → EachAccepted is number rs → (place : ℕ) (r : BuiltRule)
       → slice_get rs place ≡ Some r → RuleAccepted is number r
@@ -170,11 +125,11 @@ module _ (here : Here) where
   each_at is number (x ∷ rs) h zero r e = subst (λ y. RuleAccepted is number y) (some_same x r e) h.0
   each_at is number (x ∷ rs) h (suc place) r e = each_at is number rs h.1 place r e
 
-  pub tree_behind : (is xs : List Instance) (i : Instance) → TreeAccepted is xs → MadeAccepted is (Some i.made) → TreeAccepted is (xs ++ i ∷ [])
-  tree_behind is [] i h k zero = k
-  tree_behind is [] i h k (suc n) = tt
-  tree_behind is (x ∷ xs) i h k zero = h zero
-  tree_behind is (x ∷ xs) i h k (suc n) = tree_behind is xs i (λ j. h (suc j)) k n
+  pub tree_after : (is xs : List Instance) (i : Instance) → TreeAccepted is xs → MadeAccepted is (Some i.made) → TreeAccepted is (xs ++ i ∷ [])
+  tree_after is [] i h k zero = k
+  tree_after is [] i h k (suc n) = tt
+  tree_after is (x ∷ xs) i h k zero = h zero
+  tree_after is (x ∷ xs) i h k (suc n) = tree_after is xs i (λ j. h (suc j)) k n
 
   pub tree_replaced : (is xs : List Instance) (u i : Instance) (more : List Instance) → TreeAccepted is (xs ++ u ∷ more)
       → MadeAccepted is (Some i.made) → TreeAccepted is (xs ++ i ∷ more)

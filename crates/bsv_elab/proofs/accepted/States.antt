@@ -1,4 +1,4 @@
--- From a state of building to a later one: instances are made behind those that stand, and all rules that stand stay
+-- From a state of building to a later one: instances are made after those that are there, and all rules that are there stay
 -- accepted. The weight, the variables and the names change nothing of it.
 use Rattle.std.proofs.Common.{◌≡◌, ◌∙◌, ℕ, [], Option, Some, None, Result, refl, sym, subst, append-nil}
 use Rattle.std.specs.Prelude.{slice_get}
@@ -9,8 +9,8 @@ use Rattle.bsv_design.specs.Working.{tick}
 use Rattle.bsv_elab.specs.declared.refused.Refused.{Refused}
 use Rattle.bsv_elab.specs.declared.state.State.{State}
 use Rattle.bsv_elab.specs.Statics.{Here, Builds, static_fault, count, carried, weigh, carried_in, constant_in, known, number_in, as_number, truth_in, as_truth, inside, assigned, assign}
-use Rattle.bsv_elab.proofs.CarriedGives.{Gives, gives_then, anything, gives_more}
-use Rattle.bsv_elab.proofs.CarriedAccepted.{Extends, extends_then, EachAccepted, TreeAccepted}
+use Rattle.bsv_elab.proofs.accepted.Gives.{Gives, gives_then, anything, gives_more}
+use Rattle.bsv_elab.proofs.accepted.Rules.{Extends, extends_then, EachAccepted, TreeAccepted}
 
 -- what holds of a state
 pub record Kept (here : Here) (s : State) : Type 0 where
@@ -38,7 +38,7 @@ module _ (here : Here) where
     };
   }
 
-  -- behind a part of building, another one
+  -- after a part of building, another one
   pub after : (s r : State) (x : Result State Refused) → Went here s r → Gives (Went here r) x → Gives (Went here s) x
   after s r x h k = gives_more (Went here r) (Went here s) x (λ q g. went_then s r q h g) k
 

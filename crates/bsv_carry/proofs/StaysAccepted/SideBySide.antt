@@ -45,25 +45,13 @@ pub into_if : {A B : Type 0} {see : B → A} {x v : Result A Fault} {y w : Resul
 into_if true h k = h
 into_if false h k = k
 
--- behind a limit that is kept the more easily
+-- after a limit that is kept the more easily
 pub into_limit : {A B : Type 0} {see : B → A} {x : Result A Fault} {y : Result B Fault} (p q : Bool) (e f : Fault) → (p ≡ true → q ≡ true)
     → Into see x y
     → Into see (if p then x else Err e) (if q then y else Err f)
 into_limit true true e f less h = h
 into_limit true false e f less h = absurd (let no : false ≡ true = less refl in cc)
 into_limit false q e f less h = record { seen = tt }
-
--- the first one has given something
-pub record Reached {A B : Type 0} (see : B → A) (a : A) (y : Result B Fault) : Type 0 where
-  pub value : B
-  pub gives : y ≡ Ok value
-  pub is : a ≡ see value
-
-pub reached : {A B : Type 0} {see : B → A} {x : Result A Fault} {y : Result B Fault} (a : A) → Into see x y → x ≡ Ok a → Reached see a y
-reached {A = A} {B = B} {see} {x} {y} a h is = by_answer y (subst (λ z. Seen see z y) is h.seen) where
-  by_answer : (z : Result B Fault) → Seen see (Ok a) z → Reached see a z
-  by_answer (Err e) k = absurd k
-  by_answer (Ok b) k = record { value = b; gives = refl; is = k }
 
 -- ---- more weight
 

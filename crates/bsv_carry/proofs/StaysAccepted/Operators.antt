@@ -17,7 +17,7 @@ use Rattle.bsv_design.specs.Integers.{number_between, fitted}
 use Rattle.bsv_design.specs.Applied as applied
 use Rattle.bsv_design.specs.Operated as operated
 use Rattle.bsv_design.specs.Carrying as carrying
-use Rattle.bsv_elab.proofs.CarriedInto.{Into, into_then, into_if, into_same, heavier, at_heavier, inverted_over, between_over, picked_over, sliced_over, joined_over, extended_over, sign_extended_over}
+use Rattle.bsv_carry.proofs.StaysAccepted.SideBySide.{Into, into_then, into_if, into_same, heavier, at_heavier, inverted_over, between_over, picked_over, sliced_over, joined_over, extended_over, sign_extended_over}
 
 module _ (d : ℕ) where
   or_fault_over : (f : Fault) (o : Option Constant) (w : Work) → Into (at_heavier d) (applied.or_fault f o (heavier d w)) (applied.or_fault f o w)

@@ -8,15 +8,16 @@ use Rattle.bsv_design.specs.declared.tree.Instance.{Instance}
 use Rattle.bsv_design.specs.Calls.{Site, Caller, static_fault}
 use Rattle.bsv_design.specs.Carrying as carrying
 use Rattle.bsv_design.specs.Carrying.{Carried, Placing, expression, place}
-use Rattle.bsv_elab.proofs.CarriedInto.{into_then, counted_over}
-use Rattle.bsv_elab.proofs.CarriedOperators.{literal_over}
-use Rattle.bsv_elab.proofs.CarriedGrowth.{Grows, grown, CarriedInto, PlacingInto, EachCarried, EachCarry, CallsInto}
-use Rattle.bsv_elab.proofs.CarriedCalls.{method_into, apply_into, call_into, variable_into}
-use Rattle.bsv_elab.proofs.CarriedChoices.{choice_into, as_static_into, place_into}
+use Rattle.bsv_carry.proofs.StaysAccepted.SideBySide.{into_then, counted_over}
+use Rattle.bsv_carry.proofs.StaysAccepted.Operators.{literal_over}
+use Rattle.bsv_carry.specs.StaysAccepted.{Grows, over}
+use Rattle.bsv_carry.proofs.StaysAccepted.Instances.{CarriedInto, PlacingInto, EachCarried, EachCarry, CallsInto}
+use Rattle.bsv_carry.proofs.StaysAccepted.Calls.{method_into, apply_into, call_into, variable_into}
+use Rattle.bsv_carry.proofs.StaysAccepted.Choices.{choice_into, as_static_into, place_into}
 
 module _ (d : ℕ) (is : List Instance) (call next : Caller) (s : Site) (grows : Grows s.instances is) (into : CallsInto d is call next) where
   abbrev t : Site
-  t = grown s is
+  t = over s is
 
   abbrev ExprInto : Expr → Type 0
   ExprInto e = CarriedInto d (expression call s e) (expression next t e)

@@ -22,9 +22,10 @@ use Rattle.bsv_design.specs.Working.{at_count}
 use Rattle.bsv_design.specs.Operated as operated
 use Rattle.bsv_design.specs.Carrying as carrying
 use Rattle.bsv_design.specs.Carrying.{Carried, Placing, first_type}
-use Rattle.bsv_elab.proofs.CarriedInto.{Into, into_then, into_same, raised, heavier, both_heavier, at_heavier, counted_over, give_over}
-use Rattle.bsv_elab.proofs.CarriedOperators.{applied_over}
-use Rattle.bsv_elab.proofs.CarriedGrowth.{Stays, Grows, grown, CarryInto, PlacingInto, EachCarried, CallsInto, all_into, first_same, Refused, refused_into, refused_then, refused_first}
+use Rattle.bsv_carry.proofs.StaysAccepted.SideBySide.{Into, into_then, into_same, raised, heavier, both_heavier, at_heavier, counted_over, give_over}
+use Rattle.bsv_carry.proofs.StaysAccepted.Operators.{applied_over}
+use Rattle.bsv_carry.specs.StaysAccepted.{Stays, Grows, over}
+use Rattle.bsv_carry.proofs.StaysAccepted.Instances.{CarryInto, PlacingInto, EachCarried, CallsInto, all_into, first_same, Refused, refused_into, refused_then, refused_first}
 
 -- a method of a module that is not built is not called
 not_there : (m : ℕ) (levels : List ℕ) → levels ≡ [] → slice_get levels m ≡ None
@@ -52,7 +53,7 @@ module _ (call : Caller) (s : Site) where
 
 module _ (d : ℕ) (is : List Instance) (call next : Caller) (s : Site) (grows : Grows s.instances is) (into : CallsInto d is call next) where
   abbrev t : Site
-  t = grown s is
+  t = over s is
 
   function_into : (o : Option Function) (xs : List Value) (w : Work)
       → Into (at_heavier d) (calls.function_at call s o xs (heavier d w)) (calls.function_at next t o xs w)

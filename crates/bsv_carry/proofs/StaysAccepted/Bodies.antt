@@ -19,12 +19,13 @@ use Rattle.bsv_design.specs.Frames.{no_variables}
 use Rattle.bsv_design.specs.Values.{is_true}
 use Rattle.bsv_design.specs.Working.{no_steps, at_count}
 use Rattle.bsv_design.specs.Carrying as carrying
-use Rattle.bsv_elab.proofs.CarriedInto.{Into, into_then, into_if, Reached, reached, raised, heavier, at_heavier}
-use Rattle.bsv_elab.proofs.CarriedArms.{parameters_over}
-use Rattle.bsv_elab.proofs.CarriedGrowth.{Grows, grown, CallsInto}
-use Rattle.bsv_elab.proofs.CarriedExpressions.{expr_into}
-use Rattle.bsv_elab.proofs.CarriedBranches.{run_into}
-use Rattle.bsv_elab.proofs.CarriedStatements.{stmts_into}
+use Rattle.bsv_carry.proofs.StaysAccepted.SideBySide.{Into, into_then, into_if, raised, heavier, at_heavier}
+use Rattle.bsv_carry.proofs.StaysAccepted.Arms.{parameters_over}
+use Rattle.bsv_carry.specs.StaysAccepted.{Grows, over}
+use Rattle.bsv_carry.proofs.StaysAccepted.Instances.{CallsInto}
+use Rattle.bsv_carry.proofs.StaysAccepted.Expressions.{expr_into}
+use Rattle.bsv_carry.proofs.StaysAccepted.Branches.{run_into}
+use Rattle.bsv_carry.proofs.StaysAccepted.Statements.{stmts_into}
 
 heavier_by : (d : ℕ) (b : Bool) (x y : Work) → (if b then heavier d x else heavier d y) ≡ heavier d (if b then x else y)
 heavier_by d true x y = refl
@@ -32,7 +33,7 @@ heavier_by d false x y = refl
 
 module _ (d : ℕ) (is : List Instance) (call next : Caller) (s : Site) (grows : Grows s.instances is) (into : CallsInto d is call next) where
   abbrev t : Site
-  t = grown s is
+  t = over s is
 
   asking_into : (name : Option MethodPlace) (e : Option Expr) (w : Work)
       → Into (heavier d) (carrying.asking call s name e (heavier d w)) (carrying.asking next t name e w)
@@ -84,24 +85,14 @@ calls_into d is zero s grows c xs w = record { seen = tt }
 calls_into d is (suc n) s grows c xs w = called_into d is (carrying.call_at n) (carrying.call_at n) s grows (calls_into d is n) c xs w
 
 pub rule_into : (d : ℕ) (is : List Instance) (s : Site) → Grows s.instances is → (c : Option Expr) (ss : List Stmt) (w : Work)
-    → Into (heavier d) (carrying.rule s c ss (heavier d w)) (carrying.rule (grown s is) c ss w)
+    → Into (heavier d) (carrying.rule s c ss (heavier d w)) (carrying.rule (over s is) c ss w)
 unfolding carrying.rule
 rule_into d is s grows c ss w =
     body_into d is (carrying.call_at carrying.most_calls) (carrying.call_at carrying.most_calls) s grows (calls_into d is carrying.most_calls) c ss w
 
 pub top_method_into : (d : ℕ) (is : List Instance) (s : Site) → Grows s.instances is → (m : Method) (weight : ℕ)
-    → Into (at_heavier d) (carrying.top_method s m (weight + d)) (carrying.top_method (grown s is) m weight)
+    → Into (at_heavier d) (carrying.top_method s m (weight + d)) (carrying.top_method (over s is) m weight)
 unfolding carrying.top_method
 top_method_into d is s grows m weight =
     method_into d is (carrying.call_at carrying.most_calls) (carrying.call_at carrying.most_calls) s grows (calls_into d is carrying.most_calls) m
     (record { weight = weight; slots = 0 })
-
--- a rule that was carried out is carried out over the later instances
-pub rule_grows : (d : ℕ) (is : List Instance) (s : Site) → Grows s.instances is → (c : Option Expr) (ss : List Stmt) (w r : Work)
-    → carrying.rule s c ss (heavier d w) ≡ Ok r → Reached (heavier d) r (carrying.rule (grown s is) c ss w)
-rule_grows d is s grows c ss w r done = reached r (rule_into d is s grows c ss w) done
-
--- and so is a method of the top
-pub top_method_grows : (d : ℕ) (is : List Instance) (s : Site) → Grows s.instances is → (m : Method) (weight : ℕ) (r : Value × Work)
-    → carrying.top_method s m (weight + d) ≡ Ok r → Reached (at_heavier d) r (carrying.top_method (grown s is) m weight)
-top_method_grows d is s grows m weight r done = reached r (top_method_into d is s grows m weight) done

@@ -14,10 +14,11 @@ use Rattle.bsv_design.specs.Values.{is_static, is_true}
 use Rattle.bsv_design.specs.Working.{no_steps, at_count}
 use Rattle.bsv_design.specs.Carrying as carrying
 use Rattle.bsv_design.specs.Carrying.{Acts, Branched, Test}
-use Rattle.bsv_elab.proofs.CarriedInto.{Into, into_then, into_if, raised, heavier, at_raised, at_heavier, both_heavier, sliced_over}
-use Rattle.bsv_elab.proofs.CarriedArms.{close_over}
-use Rattle.bsv_elab.proofs.CarriedGrowth.{Grows, grown, ActsInto, EachActs, EachBranched, MaybeActs, CallsInto}
-use Rattle.bsv_elab.proofs.CarriedExpressions.{expr_into}
+use Rattle.bsv_carry.proofs.StaysAccepted.SideBySide.{Into, into_then, into_if, raised, heavier, at_raised, at_heavier, both_heavier, sliced_over}
+use Rattle.bsv_carry.proofs.StaysAccepted.Arms.{close_over}
+use Rattle.bsv_carry.specs.StaysAccepted.{Grows, over}
+use Rattle.bsv_carry.proofs.StaysAccepted.Instances.{ActsInto, EachActs, EachBranched, MaybeActs, CallsInto}
+use Rattle.bsv_carry.proofs.StaysAccepted.Expressions.{expr_into}
 
 module _ (d : ℕ) where
   pub run_into : (xs ys : List Acts) → EachActs d xs ys → ActsInto d (carrying.run xs) (carrying.run ys)
@@ -75,7 +76,7 @@ module _ (d : ℕ) where
 
 module _ (d : ℕ) (is : List Instance) (call next : Caller) (s : Site) (grows : Grows s.instances is) (into : CallsInto d is call next) where
   pub asked_into : (x : Condition) (vs : List Local) (c : Count)
-      → Into (both_heavier d) (carrying.asked call s x vs (raised d c)) (carrying.asked next (grown s is) x vs c)
+      → Into (both_heavier d) (carrying.asked call s x vs (raised d c)) (carrying.asked next (over s is) x vs c)
   unfolding carrying.asked
   asked_into (condition.Test e) vs c = into_then _ _ ((expr_into d is call next s grows into e).carry vs (no_steps c)) (λ r. record { seen = refl })
   asked_into (condition.Matches e) vs c =

@@ -14,10 +14,10 @@ use Rattle.bsv_elab.specs.Statics.{Here, Builds, static_fault, held, bind, insid
 use Rattle.bsv_elab.specs.Making.{Bodies, width_in}
 use Rattle.bsv_elab.specs.Bodies as body
 use Rattle.bsv_elab.specs.Bodies.{Branched, run, stmt, branch}
-use Rattle.bsv_elab.proofs.CarriedGives.{Gives, gives_then, anything, gives_if}
-use Rattle.bsv_elab.proofs.CarriedStates.{Went, went_then, went_still, after, GoodRun, weigh_went, constant_went, number_went, truth_went, inside_went, assign_went}
-use Rattle.bsv_elab.proofs.CarriedElements.{rule_went, method_went}
-use Rattle.bsv_elab.proofs.CarriedMaking.{BodiesGo, make_went}
+use Rattle.bsv_elab.proofs.accepted.Gives.{Gives, gives_then, anything, gives_if}
+use Rattle.bsv_elab.proofs.accepted.States.{Went, went_then, went_still, after, GoodRun, weigh_went, constant_went, number_went, truth_went, inside_went, assign_went}
+use Rattle.bsv_elab.proofs.accepted.Elements.{rule_went, method_went}
+use Rattle.bsv_elab.proofs.accepted.Making.{BodiesGo, make_went}
 
 module _ (bodies : Bodies) (here : Here) where
   abbrev Good : Builds → Type 0

@@ -21,12 +21,13 @@ use Rattle.bsv_elab.specs.MadeKinds.{kind_of}
 use Rattle.bsv_elab.specs.Names.{new_name}
 use Rattle.bsv_elab.specs.Statics.{Here, static_fault, countable, put_at}
 use Rattle.bsv_elab.specs.Making.{Bodies, argument_in, placed_in, arguments_from, arguments, named_instance, instance, next_number, with_instance, with_primitive, depth_of, at_least_one, start_of, within_limits, primitive, is_around, unbuilt, parameters, params_of, inner, behind, child, made_by, make}
-use Rattle.bsv_elab.proofs.CarriedGives.{Gives, gives_then, anything, gives_if}
-use Rattle.bsv_elab.proofs.CarriedGrowth.{Grows, grows_behind}
-use Rattle.bsv_elab.proofs.CarriedAccepted.{Extends, grows_replaced, put_is, EachAccepted, TreeAccepted, each_later, tree_later, tree_behind, tree_replaced}
-use Rattle.bsv_elab.proofs.CarriedStates.{Went, went_then, went_still, after_with, constant_went}
+use Rattle.bsv_elab.proofs.accepted.Gives.{Gives, gives_then, anything, gives_if}
+use Rattle.bsv_carry.specs.StaysAccepted.{Grows}
+use Rattle.bsv_carry.proofs.StaysAccepted.{grows_after, grows_replaced}
+use Rattle.bsv_elab.proofs.accepted.Rules.{Extends, put_is, EachAccepted, TreeAccepted, each_later, tree_later, tree_after, tree_replaced}
+use Rattle.bsv_elab.proofs.accepted.States.{Went, went_then, went_still, after_with, constant_went}
 
--- a body that was carried out: of the module of its place, behind the instances that stood
+-- a body that was carried out: of the module of its place, after the instances that were there
 pub record BodyWent (here : Here) (g : Grown) (d : Done) : Type 0 where
   pub of : d.built.«module» ≡ here.within
   pub extends : Extends g.instances d.grown.instances
@@ -62,8 +63,8 @@ module _ (here : Here) where
         is = put_is g.instances more d.grown.instances u i number count is;
         tree = λ h.
             let start : TreeAccepted here (g.instances ++ u ∷ []) (g.instances ++ u ∷ []) =
-            tree_behind here (g.instances ++ u ∷ []) g.instances u (tree_later here g.instances (g.instances ++ u ∷ [])
-            (grows_behind g.instances (u ∷ [])) g.instances h) tt in
+            tree_after here (g.instances ++ u ∷ []) g.instances u (tree_later here g.instances (g.instances ++ u ∷ [])
+            (grows_after g.instances (u ∷ [])) g.instances h) tt in
             let tree : TreeAccepted here first first = subst (λ l. TreeAccepted here l l) is (body.tree start) in
             let rules : EachAccepted here first d.built.«module» d.built.rules = subst (λ l. EachAccepted here l d.built.«module» d.built.rules) is
             (body.rules start) in
@@ -102,11 +103,11 @@ module _ (here : Here) where
   primitive_stands path p k s =
       let xs = s.grown.instances in
       let i = instance path (made.Primitive p k) in
-      let grows : Grows xs (xs ++ i ∷ []) = grows_behind xs (i ∷ []) in
+      let grows : Grows xs (xs ++ i ∷ []) = grows_after xs (i ∷ []) in
       record {
         extends = record { more = i ∷ []; is = refl };
         kept = λ h. record {
-          tree = tree_behind here (xs ++ i ∷ []) xs i (tree_later here xs (xs ++ i ∷ []) grows xs h.tree) tt;
+          tree = tree_after here (xs ++ i ∷ []) xs i (tree_later here xs (xs ++ i ∷ []) grows xs h.tree) tt;
           rules = each_later here xs (xs ++ i ∷ []) grows here.within s.scope.rules h.rules;
         };
       }
@@ -138,7 +139,7 @@ module _ (here : Here) where
           tree = subst (λ l. TreeAccepted here l l) (sym p.is) (p.tree h.tree);
           rules =
               subst (λ l. EachAccepted here l here.within s.scope.rules) (sym p.is)
-              (each_later here xs (xs ++ i ∷ p.more) (grows_behind xs (i ∷ p.more)) here.within s.scope.rules h.rules);
+              (each_later here xs (xs ++ i ∷ p.more) (grows_after xs (i ∷ p.more)) here.within s.scope.rules h.rules);
         };
       }
 

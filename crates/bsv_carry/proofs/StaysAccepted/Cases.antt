@@ -18,12 +18,13 @@ use Rattle.bsv_design.specs.Values.{is_static, is_true}
 use Rattle.bsv_design.specs.Working.{no_steps, at_count}
 use Rattle.bsv_design.specs.Carrying as carrying
 use Rattle.bsv_design.specs.Carrying.{Carry, Acts, Labelled}
-use Rattle.bsv_elab.proofs.CarriedInto.{Into, into_then, into_if, raised, heavier, at_raised, at_heavier, both_heavier, between_over}
-use Rattle.bsv_elab.proofs.CarriedOperators.{two_over}
-use Rattle.bsv_elab.proofs.CarriedArms.{close_over}
-use Rattle.bsv_elab.proofs.CarriedGrowth.{Grows, grown, CarryInto, ActsInto, LabelledInto, EachCarry, EachLabelled, CallsInto}
-use Rattle.bsv_elab.proofs.CarriedExpressions.{expr_into}
-use Rattle.bsv_elab.proofs.CarriedBranches.{inside_into}
+use Rattle.bsv_carry.proofs.StaysAccepted.SideBySide.{Into, into_then, into_if, raised, heavier, at_raised, at_heavier, both_heavier, between_over}
+use Rattle.bsv_carry.proofs.StaysAccepted.Operators.{two_over}
+use Rattle.bsv_carry.proofs.StaysAccepted.Arms.{close_over}
+use Rattle.bsv_carry.specs.StaysAccepted.{Grows, over}
+use Rattle.bsv_carry.proofs.StaysAccepted.Instances.{CarryInto, ActsInto, LabelledInto, EachCarry, EachLabelled, CallsInto}
+use Rattle.bsv_carry.proofs.StaysAccepted.Expressions.{expr_into}
+use Rattle.bsv_carry.proofs.StaysAccepted.Branches.{inside_into}
 
 module _ (d : ℕ) where
   turn_into : (x y : Carry) → CarryInto d x y → (at : ℕ) (a b : Acts) → ActsInto d a b → ActsInto d (carrying.turn x at a) (carrying.turn y at b)
@@ -37,7 +38,7 @@ module _ (d : ℕ) where
 
 module _ (d : ℕ) (is : List Instance) (call next : Caller) (s : Site) where
   abbrev t : Site
-  t = grown s is
+  t = over s is
 
   -- ---- loops
 

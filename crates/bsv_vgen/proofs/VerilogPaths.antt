@@ -6,11 +6,11 @@ use Rattle.std.specs.Char.{is_ascii_uppercase}
 use Rattle.std.specs.List.{list_all}
 use Rattle.std.proofs.lemmas.Bool.{false≢true, both_ways, and_parts, and_from, or_left, not-true, eqb-true}
 use Rattle.bsv_ast.specs.Names.{is_lower, begins_name, is_word, is_capital}
+use Rattle.bsv_ast.proofs.Names.{begins_small, begins_word, word_no_dollar, word_no_dot, lower_words, lower_small}
 use Rattle.bsv_design.specs.Designs.{IsDotted}
 use Rattle.bsv_design.specs.Trees.{joined}
 use Rattle.bsv_vtext.specs.Modules.{is_name_byte}
 use Rattle.bsv_vgen.specs.Names.{written, verilog_name}
-use Rattle.bsv_vgen.proofs.Bytes.{begins_small, begins_word, word_no_dollar, word_no_dot, lower_words, lower_small}
 
 -- ---- what is needed of a path
 
