@@ -1,7 +1,7 @@
 //! Typing: the type of each expression, with an expected type or without one.
 //!
-//! Modules in reading order: `fail` (why there is no typed expression), `made` (typed expressions), `given`
-//! (the functions that the language gives), `names` (which texts are names), `context` (what an expression may
+//! Modules in reading order: `fail` (why there is no typed expression), `made` (typed expressions), `names`
+//! (which texts are names), `context` (what an expression may
 //! name), `classes` (classes of types, and which literals fit), `methods` (the methods of interfaces), `front`
 //! (what stands in front of a suffix), `openness` (which expressions have no type of their own), `forms` (forms
 //! without operands, and what finishes the others), `expressions` (the forms), `written` (types as they are
@@ -29,7 +29,6 @@ mod expressions;
 mod fail;
 mod forms;
 mod front;
-mod given;
 mod law;
 mod made;
 mod methods;
