@@ -1,12 +1,11 @@
 ghost use Rattle.std.specs.Prelude.{◌≡◌, ◌≤◌};
-ghost use Rattle.bsv_types.specs.Methods.{made_part};
 ghost use Rattle.bsv_elab.specs.MadeKinds as spec;
 
 use bsv_bits::Word;
 use bsv_design::Kind;
 use bsv_fifo::{BypassKind, PipelineKind, PlainKind};
 use bsv_prim::{DWireKind, PulseKind, RWireKind, RegKind, RegUKind, WireKind};
-use bsv_types::{GivenMaker, PartTy};
+use bsv_types::GivenMaker;
 
 /// A wire without a word.
 fn pulse() -> Kind
@@ -125,29 +124,5 @@ pub(crate) fn kind_of(maker: GivenMaker, width: u32, depth: u64, start: Word) ->
         | GivenMaker::LFifof
         | GivenMaker::PipelineFifof => pipeline(width),
         GivenMaker::BypassFifo | GivenMaker::BypassFifof => bypass(width),
-    }
-}
-
-/// The interface of what the maker makes.
-pub(crate) fn part_of(maker: GivenMaker) -> PartTy
-    ensures { result ≡ made_part maker }
-{
-    match maker {
-        GivenMaker::Reg | GivenMaker::RegU => PartTy::Reg,
-        GivenMaker::Wire | GivenMaker::DWire => PartTy::Wire,
-        GivenMaker::RWire => PartTy::RWire,
-        GivenMaker::PulseWire => PartTy::PulseWire,
-        GivenMaker::Fifo
-        | GivenMaker::Fifo1
-        | GivenMaker::SizedFifo
-        | GivenMaker::LFifo
-        | GivenMaker::PipelineFifo
-        | GivenMaker::BypassFifo => PartTy::Fifo,
-        GivenMaker::Fifof
-        | GivenMaker::Fifof1
-        | GivenMaker::SizedFifof
-        | GivenMaker::LFifof
-        | GivenMaker::PipelineFifof
-        | GivenMaker::BypassFifof => PartTy::Fifof,
     }
 }

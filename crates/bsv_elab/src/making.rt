@@ -9,7 +9,7 @@ ghost use Rattle.bsv_elab.specs.Statics as statics;
 use crate::attributes::add_marks;
 use crate::builder::Builder;
 use crate::elements::copied_static;
-use crate::kinds::{kind_of, part_of};
+use crate::kinds::kind_of;
 use crate::refused::{Building, LimitKind, Refused, from_carry};
 use crate::state::{Grown, Marks, State};
 use crate::values::{count, countable, set_weight};
@@ -260,7 +260,7 @@ impl<'a> Builder<'a> {
         let path = self.named_instance(name, state)?;
         let number = within_limits(depth, &state.grown)?;
         let kind = kind_of(maker, width, depth, start_of(arguments));
-        let made = Made::Primitive(part_of(maker), kind);
+        let made = Made::Primitive(maker.part(), kind);
         add_primitive(Instance { path, made }, &mut state.grown)?;
         Ok(number)
     }

@@ -28,7 +28,8 @@ use Rattle.bsv_typing.proofs.RightPlaces.{GoodInstance, GoodFront}
 use Rattle.bsv_typing.proofs.RightExpressions.{expressions_good, fronts_good}
 use Rattle.bsv_statements.proofs.RightScopes.{scopes_fit}
 use Rattle.bsv_statements.proofs.RightCalls.{ok_is, has_true}
-use Rattle.bsv_modules.specs.Modules.{Header, Site, if_instance_of, handed, all_handed, made_by, given_params, module_params, make_in, make_at, given_maker}
+use Rattle.bsv_types.specs.Makers.{given_maker}
+use Rattle.bsv_modules.specs.Modules.{Header, Site, if_instance_of, handed, all_handed, made_by, given_params, module_params, make_in, make_at}
 use Rattle.bsv_modules.proofs.RightSites.{FitsSite}
 
 pub at_is : {A : Type 0} (s : Span) (o : Option A) (x : A) → at s o ≡ Ok x → o ≡ Some x

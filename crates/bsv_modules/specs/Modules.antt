@@ -30,7 +30,6 @@ use Rattle.bsv_types.specs.declared.makers.Make.{Make}
 use Rattle.bsv_types.specs.declared.makers.Maker.{Maker}
 use Rattle.bsv_types.specs.declared.makers.Maker.TheVariants as maker
 use Rattle.bsv_types.specs.declared.makers.GivenMaker.{GivenMaker}
-use Rattle.bsv_types.specs.declared.makers.GivenMaker.TheVariants as given
 use Rattle.bsv_types.specs.declared.definitions.Body.{Body}
 use Rattle.bsv_types.specs.declared.definitions.Body.TheVariants as body
 use Rattle.bsv_types.specs.declared.definitions.Param.{Param}
@@ -44,6 +43,7 @@ use Rattle.bsv_types.specs.declared.statements.Stmt.{Stmt}
 use Rattle.bsv_types.specs.Kinds.{Kind, bool, integer, part, bare, kind, is_interface, same_kind, same_part}
 use Rattle.bsv_types.specs.Operators.{◌>>=◌, same_kinds}
 use Rattle.bsv_types.specs.Methods.{Signature, Effect, value, action, action_value, same_effect, made_part, maker_params, param_kinds}
+use Rattle.bsv_types.specs.Makers.{given_maker}
 use Rattle.bsv_types.specs.Modules.{param_names}
 use Rattle.bsv_types.specs.Expressions.{Slot, one, many}
 use Rattle.bsv_types.specs.Names.{lower_names}
@@ -95,42 +95,6 @@ abbrev pub task : Site → Task
 task site = record { env = site.env; types = site.types; acts = false; result = None; base = 0 }
 
 -- ---- makers
-
--- registers and wires
-abbrev pub given_wire : List ℕ → Option GivenMaker
-given_wire name =
-    if bytes_eq name (codes "mkReg") then Some given.Reg
-    else if bytes_eq name (codes "mkRegU") then Some given.RegU
-    else if bytes_eq name (codes "mkWire") then Some given.Wire
-    else if bytes_eq name (codes "mkDWire") then Some given.DWire
-    else if bytes_eq name (codes "mkRWire") then Some given.RWire
-    else if bytes_eq name (codes "mkPulseWire") then Some given.PulseWire
-    else None
-
--- plain queues
-abbrev pub given_queue : List ℕ → Option GivenMaker
-given_queue name =
-    if bytes_eq name (codes "mkFIFO") then Some given.Fifo
-    else if bytes_eq name (codes "mkFIFO1") then Some given.Fifo1
-    else if bytes_eq name (codes "mkSizedFIFO") then Some given.SizedFifo
-    else if bytes_eq name (codes "mkFIFOF") then Some given.Fifof
-    else if bytes_eq name (codes "mkFIFOF1") then Some given.Fifof1
-    else if bytes_eq name (codes "mkSizedFIFOF") then Some given.SizedFifof
-    else None
-
--- queues that pass a value on in the clock in which it comes or goes
-abbrev pub given_passing_queue : List ℕ → Option GivenMaker
-given_passing_queue name =
-    if bytes_eq name (codes "mkLFIFO") then Some given.LFifo
-    else if bytes_eq name (codes "mkPipelineFIFO") then Some given.PipelineFifo
-    else if bytes_eq name (codes "mkLFIFOF") then Some given.LFifof
-    else if bytes_eq name (codes "mkPipelineFIFOF") then Some given.PipelineFifof
-    else if bytes_eq name (codes "mkBypassFIFO") then Some given.BypassFifo
-    else if bytes_eq name (codes "mkBypassFIFOF") then Some given.BypassFifof
-    else None
-
-abbrev pub given_maker : List ℕ → Option GivenMaker
-given_maker name = option_or (given_wire name) (option_or (given_queue name) (given_passing_queue name))
 
 abbrev pub if_instance_of : Kind → Instance → Option Argument
 if_instance_of k i = if same_kind i.kind k then Some (argument.Instance (place_of i)) else None

@@ -8,115 +8,13 @@ ghost use Rattle.bsv_modules.specs.Seen.{header, kinds, module_named, site_of};
 
 use crate::site::{Header, Site};
 use bsv_ast::{Expr, Make as WrittenMake, Span};
-use bsv_bits::Name;
 use bsv_context::{Fail, Variable, is_interface};
 use bsv_scopes::Scopes;
 use bsv_statements::{BodyFail, at};
-use bsv_types::{Argument, GivenMaker, Items, Make, Maker, PartTy, Place, Ty};
+use bsv_types::{Argument, GivenMaker, Items, Make, Maker, Place, Ty};
 use bsv_typing::{handed_instance, typing};
 use std::alloc::Global;
 use std::slice;
-
-/// The makers of registers and wires, by their names.
-fn given_wire(name: &[u8]) -> Option<GivenMaker>
-    ensures { result ≡ spec.given_wire name.now }
-{
-    if name == b"mkReg".as_slice() {
-        Some(GivenMaker::Reg)
-    } else if name == b"mkRegU".as_slice() {
-        Some(GivenMaker::RegU)
-    } else if name == b"mkWire".as_slice() {
-        Some(GivenMaker::Wire)
-    } else if name == b"mkDWire".as_slice() {
-        Some(GivenMaker::DWire)
-    } else if name == b"mkRWire".as_slice() {
-        Some(GivenMaker::RWire)
-    } else if name == b"mkPulseWire".as_slice() {
-        Some(GivenMaker::PulseWire)
-    } else {
-        None
-    }
-}
-
-/// The makers of plain queues, by their names.
-fn given_queue(name: &[u8]) -> Option<GivenMaker>
-    ensures { result ≡ spec.given_queue name.now }
-{
-    if name == b"mkFIFO".as_slice() {
-        Some(GivenMaker::Fifo)
-    } else if name == b"mkFIFO1".as_slice() {
-        Some(GivenMaker::Fifo1)
-    } else if name == b"mkSizedFIFO".as_slice() {
-        Some(GivenMaker::SizedFifo)
-    } else if name == b"mkFIFOF".as_slice() {
-        Some(GivenMaker::Fifof)
-    } else if name == b"mkFIFOF1".as_slice() {
-        Some(GivenMaker::Fifof1)
-    } else if name == b"mkSizedFIFOF".as_slice() {
-        Some(GivenMaker::SizedFifof)
-    } else {
-        None
-    }
-}
-
-/// The makers of queues that pass a value on in the clock in which it comes or goes, by their names.
-fn given_passing_queue(name: &[u8]) -> Option<GivenMaker>
-    ensures { result ≡ spec.given_passing_queue name.now }
-{
-    if name == b"mkLFIFO".as_slice() {
-        Some(GivenMaker::LFifo)
-    } else if name == b"mkPipelineFIFO".as_slice() {
-        Some(GivenMaker::PipelineFifo)
-    } else if name == b"mkLFIFOF".as_slice() {
-        Some(GivenMaker::LFifof)
-    } else if name == b"mkPipelineFIFOF".as_slice() {
-        Some(GivenMaker::PipelineFifof)
-    } else if name == b"mkBypassFIFO".as_slice() {
-        Some(GivenMaker::BypassFifo)
-    } else if name == b"mkBypassFIFOF".as_slice() {
-        Some(GivenMaker::BypassFifof)
-    } else {
-        None
-    }
-}
-
-/// The maker of the name that the language gives.
-fn given_maker(name: &Name) -> Option<GivenMaker>
-    ensures { result ≡ spec.given_maker name.now }
-{
-    let text = name.bytes();
-    if let Some(maker) = given_wire(text) {
-        return Some(maker);
-    }
-    if let Some(maker) = given_queue(text) {
-        return Some(maker);
-    }
-    given_passing_queue(text)
-}
-
-/// The interface of what the maker makes.
-fn made_part(maker: GivenMaker) -> PartTy
-    ensures { result ≡ table.made_part maker }
-{
-    match maker {
-        GivenMaker::Reg | GivenMaker::RegU => PartTy::Reg,
-        GivenMaker::Wire | GivenMaker::DWire => PartTy::Wire,
-        GivenMaker::RWire => PartTy::RWire,
-        GivenMaker::PulseWire => PartTy::PulseWire,
-        GivenMaker::Fifo
-        | GivenMaker::Fifo1
-        | GivenMaker::SizedFifo
-        | GivenMaker::LFifo
-        | GivenMaker::PipelineFifo
-        | GivenMaker::BypassFifo => PartTy::Fifo,
-        GivenMaker::Fifof
-        | GivenMaker::Fifof1
-        | GivenMaker::SizedFifof
-        | GivenMaker::LFifof
-        | GivenMaker::PipelineFifof
-        | GivenMaker::BypassFifof => PartTy::Fifof,
-    }
-}
 
 /// An argument of this type: a value, or an instance that stands in no brackets.
 fn handed(
@@ -211,10 +109,10 @@ fn given_arguments(
         (shown scopes.now) maker exprs.now (kind ty.now)) }
 {
     match ty {
-        Ty::Part(part, Some(held)) if *part == made_part(maker) => {
+        Ty::Part(part, Some(held)) if *part == maker.part() => {
             given_over(alloc, site, scopes, maker, exprs, held.get())
         }
-        Ty::Part(part, None) if *part == made_part(maker) => {
+        Ty::Part(part, None) if *part == maker.part() => {
             all_handed(alloc, site, scopes, exprs, &[])
         }
         _ => Err(Fail::Fault),
@@ -275,7 +173,7 @@ pub(crate) fn make(
     ensures { GivesAt (λ x. x) result (spec.make_at (site_of site.now)
         (shown scopes.now) span written.now (kind ty.now)) }
 {
-    let Some(maker) = given_maker(&written.maker.name) else {
+    let Some(maker) = GivenMaker::named(written.maker.name.bytes()) else {
         return at(span, module_make(alloc, site, scopes, written, ty));
     };
     let exprs = written.arguments.as_slice();

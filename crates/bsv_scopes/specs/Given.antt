@@ -1,6 +1,8 @@
 -- The names that the language gives, and what the definitions see of the names over all packages.
-use Rattle.std.specs.Prelude.{ℕ, if◌then◌else◌, List, [], ◌∷◌, ◌++◌, fold, codes}
+use Rattle.std.specs.Prelude.{ℕ, if◌then◌else◌, List, [], ◌∷◌, ◌++◌, fold, map, codes}
 use Rattle.std.specs.Map.{keys_of}
+use Rattle.bsv_types.specs.Makers.{makers, maker_name}
+use Rattle.bsv_types.specs.GivenFunctions.{functions, function_name}
 use Rattle.bsv_scopes.specs.Scopes.{Entries, is_listed, with_new}
 use Rattle.bsv_scopes.specs.Seen.{entries}
 use Rattle.bsv_scopes.specs.declared.definitions.Space.{Space}
@@ -18,17 +20,11 @@ unfoldable pub given_labels : List (List ℕ)
 given_labels = codes "True" ∷ codes "False" ∷ []
 
 unfoldable pub given_functions : List (List ℕ)
-given_functions =
-    codes "truncate" ∷ codes "zeroExtend" ∷ codes "signExtend" ∷ codes "pack" ∷ codes "unpack" ∷
-    codes "fromInteger" ∷ codes "isValid" ∷ codes "fromMaybe" ∷ codes "validValue" ∷ []
+given_functions = map function_name functions
 
 -- of what makes a primitive
 unfoldable pub given_modules : List (List ℕ)
-given_modules =
-    codes "mkReg" ∷ codes "mkRegU" ∷ codes "mkWire" ∷ codes "mkDWire" ∷ codes "mkRWire" ∷ codes "mkPulseWire" ∷
-    codes "mkFIFO" ∷ codes "mkFIFO1" ∷ codes "mkSizedFIFO" ∷ codes "mkFIFOF" ∷ codes "mkFIFOF1" ∷
-    codes "mkSizedFIFOF" ∷ codes "mkLFIFO" ∷ codes "mkPipelineFIFO" ∷ codes "mkLFIFOF" ∷
-    codes "mkPipelineFIFOF" ∷ codes "mkBypassFIFO" ∷ codes "mkBypassFIFOF" ∷ []
+given_modules = map maker_name makers
 
 -- the names of each space
 abbrev pub given_names : Space → List (List ℕ)

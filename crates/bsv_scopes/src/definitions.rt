@@ -1,13 +1,16 @@
 ghost use Rattle.std.specs.Prelude.{◌≡◌, ◌≢◌, not, map, IfOk, OnOk, OnErr};
 ghost use Rattle.bsv_scopes.specs.Given as spec;
-ghost use Rattle.bsv_scopes.specs.Given.{names_of, given_names, with_new_name};
+ghost use Rattle.bsv_scopes.specs.Given.{names_of, given_names, given_types, given_labels, with_new_name};
 ghost use Rattle.bsv_scopes.specs.Scopes.{is_listed};
 ghost use Rattle.bsv_scopes.specs.Seen.{entries};
 ghost use Rattle.bsv_scopes.specs.declared.definitions.Space.{Space};
 ghost use Rattle.bsv_scopes.specs.declared.definitions.Space.TheVariants as space;
+ghost use Rattle.bsv_types.specs.Makers.{maker_name};
+ghost use Rattle.bsv_types.specs.GivenFunctions.{function_name};
 
 use crate::scope::Scope;
 use bsv_bits::{Name, OutOfMemory};
+use bsv_types::{GivenFunction, GivenMaker, given_functions, given_makers};
 use std::alloc::{AllocError, Global};
 
 /// The four scopes over all packages.
@@ -41,50 +44,20 @@ const TYPES: [&[u8]; 15] = [
 
 const LABELS: [&[u8]; 2] = [b"True", b"False"];
 
-const FUNCTIONS: [&[u8]; 9] = [
-    b"truncate",
-    b"zeroExtend",
-    b"signExtend",
-    b"pack",
-    b"unpack",
-    b"fromInteger",
-    b"isValid",
-    b"fromMaybe",
-    b"validValue",
-];
-
-const MODULES: [&[u8]; 18] = [
-    b"mkReg",
-    b"mkRegU",
-    b"mkWire",
-    b"mkDWire",
-    b"mkRWire",
-    b"mkPulseWire",
-    b"mkFIFO",
-    b"mkFIFO1",
-    b"mkSizedFIFO",
-    b"mkFIFOF",
-    b"mkFIFOF1",
-    b"mkSizedFIFOF",
-    b"mkLFIFO",
-    b"mkPipelineFIFO",
-    b"mkLFIFOF",
-    b"mkPipelineFIFOF",
-    b"mkBypassFIFO",
-    b"mkBypassFIFOF",
-];
-
-/// The names that the language gives.
+/// The names of types and of interfaces that the language gives.
 #[tactic(auto, using(crate::proofs::Tables::tables))]
-pub fn given(space: Space) -> &'static [&'static [u8]]
-    ensures { map (λ name. name.now) result.now ≡ given_names space }
+fn types() -> &'static [&'static [u8]]
+    ensures { map (λ name. name.now) result.now ≡ given_types }
 {
-    match space {
-        Space::Types => &TYPES,
-        Space::Labels => &LABELS,
-        Space::Functions => &FUNCTIONS,
-        Space::Modules => &MODULES,
-    }
+    &TYPES
+}
+
+/// The labels that the language gives.
+#[tactic(auto, using(crate::proofs::Tables::tables))]
+fn labels() -> &'static [&'static [u8]]
+    ensures { map (λ name. name.now) result.now ≡ given_labels }
+{
+    &LABELS
 }
 
 /// A scope of these names, in their order.
@@ -95,6 +68,30 @@ fn scope_of(alloc: Global, names: &[&[u8]]) -> Result<Scope<()>, OutOfMemory>
     let mut scope = Scope::new(alloc);
     for text in names {
         scope.define(Name::new(alloc, text)?, ())?;
+    }
+    Ok(scope)
+}
+
+/// A scope of the names of these functions, in their order.
+fn scope_of_functions(alloc: Global, functions: &[GivenFunction]) -> Result<Scope<()>, OutOfMemory>
+    ensures { IfOk result (λ scope. entries scope
+        ≡ spec.defined_all (map function_name functions.now)) }
+{
+    let mut scope = Scope::new(alloc);
+    for function in functions {
+        scope.define(Name::new(alloc, function.name())?, ())?;
+    }
+    Ok(scope)
+}
+
+/// A scope of the names of these makers, in their order.
+fn scope_of_makers(alloc: Global, makers: &[GivenMaker]) -> Result<Scope<()>, OutOfMemory>
+    ensures { IfOk result (λ scope. entries scope
+        ≡ spec.defined_all (map maker_name makers.now)) }
+{
+    let mut scope = Scope::new(alloc);
+    for maker in makers {
+        scope.define(Name::new(alloc, maker.name())?, ())?;
     }
     Ok(scope)
 }
@@ -122,10 +119,10 @@ impl Definitions {
             ≡ given_names space.Modules) }
     {
         Ok(Definitions {
-            types: scope_of(alloc, given(Space::Types))?,
-            labels: scope_of(alloc, given(Space::Labels))?,
-            functions: scope_of(alloc, given(Space::Functions))?,
-            modules: scope_of(alloc, given(Space::Modules))?,
+            types: scope_of(alloc, types())?,
+            labels: scope_of(alloc, labels())?,
+            functions: scope_of_functions(alloc, given_functions())?,
+            modules: scope_of_makers(alloc, given_makers())?,
         })
     }
 

@@ -10,6 +10,6 @@ mod definitions;
 mod scope;
 mod scopes;
 
-pub use definitions::{Definitions, Space, given};
+pub use definitions::{Definitions, Space};
 pub use scope::Scope;
 pub use scopes::Scopes;

@@ -3,6 +3,7 @@ pub mod Counted
 pub mod Exact
 pub mod FirstPlaces
 pub mod Gathering
+mod GivenTables
 pub mod Least
 pub mod Pieces
 pub mod Same

@@ -1,7 +1,9 @@
 pub mod Asked
 pub mod AttributeTexts
 pub mod Expressions
+pub mod GivenFunctions
 pub mod Kinds
+pub mod Makers
 pub mod Methods
 pub mod Modules
 pub mod Named

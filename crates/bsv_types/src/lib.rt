@@ -2,8 +2,8 @@
 //!
 //! Modules in reading order: `types` (what a type is), `operators` (the labels of operators),
 //! `expressions`, `statements` (of rules, methods and functions), `attributes`, `attribute_text` (the
-//! words and marks of an attribute's text), `asked` (what an attribute asks for), `makers` (what makes an
-//! instance), `modules`, `definitions` (enums, structs, interfaces and functions), `methods` (of an interface,
+//! words and marks of an attribute's text), `asked` (what an attribute asks for), `given` (the
+//! functions that the language gives), `makers` (what makes an instance), `modules`, `definitions` (enums, structs, interfaces and functions), `methods` (of an interface,
 //! by their names), `widths` (of types),
 //! `packing` (laws of widths), `typed` (a whole program, its invariant, widths and packing).
 //!
@@ -18,6 +18,7 @@ mod attribute_text;
 mod attributes;
 mod definitions;
 mod expressions;
+mod given;
 mod makers;
 mod methods;
 mod modules;
@@ -34,7 +35,8 @@ pub use definitions::{
     Body, Enum, Field, Function, Interface, MethodHeader, MethodResult, Param, Struct,
 };
 pub use expressions::{Expr, Place};
-pub use makers::{Argument, GivenMaker, Make, Maker};
+pub use given::{GivenFunction, given_functions};
+pub use makers::{Argument, GivenMaker, Make, Maker, given_makers};
 pub use methods::Methods;
 pub use modules::{Method, Module, ModuleBranch, ModuleStmt, Rule};
 pub use operators::Op;

@@ -12,12 +12,13 @@ use Rattle.bsv_types.specs.Shapes.{Shapes, is_value, has_bits, has_range, counte
 use Rattle.bsv_types.specs.Operators.{◌>>=◌, gives, is_kind, when, chained, same_kinds, is_packed}
 use Rattle.bsv_types.specs.Expressions.{World, Frame, typing, is_call, label_count}
 use Rattle.bsv_types.proofs.Same.{both, same_self}
-use Rattle.bsv_typing.specs.declared.given.GivenFunction.{GivenFunction}
-use Rattle.bsv_typing.specs.declared.given.GivenFunction.TheVariants as given
+use Rattle.bsv_types.specs.GivenFunctions.{given_function}
+use Rattle.bsv_types.specs.declared.given.GivenFunction.{GivenFunction}
+use Rattle.bsv_types.specs.declared.given.GivenFunction.TheVariants as given
 use Rattle.bsv_context.specs.Env.{Made, wanted, literal, applied, called, beside, packed}
 use Rattle.bsv_typing.specs.Operands.{Operand}
 use Rattle.bsv_typing.specs.Forms.{resized_case, no_narrower, pack_case, unpack_case, from_integer_case, valid_case, invalid_case, payload, is_valid_case, valid_value_case, from_maybe_case, arguments, function_case, sized_case}
-use Rattle.bsv_typing.specs.Typing.{literal_case, label_case, given_function, one_case, two_case, given_case, call_case}
+use Rattle.bsv_typing.specs.Typing.{literal_case, label_case, one_case, two_case, given_case, call_case}
 use Rattle.bsv_typing.proofs.Bound.{some_is, taken, tested, tested_step, checked, both_true, HasKind, wanted_is}
 use Rattle.bsv_typing.proofs.Typings.{Each, value_typed, call_typed}
 use Rattle.bsv_typing.proofs.RightOperands.{strictly, Formed, FormedAs, Good, EachGood, wanted_formed, each_more}

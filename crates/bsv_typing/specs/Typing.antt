@@ -15,8 +15,9 @@ use Rattle.bsv_types.specs.declared.operators.Op.{Op}
 use Rattle.bsv_types.specs.declared.operators.Op.TheVariants as op
 use Rattle.bsv_types.specs.Kinds.{Kind, bool, enum, no_wider}
 use Rattle.bsv_types.specs.Operators.{◌>>=◌}
-use Rattle.bsv_typing.specs.declared.given.GivenFunction.{GivenFunction}
-use Rattle.bsv_typing.specs.declared.given.GivenFunction.TheVariants as given
+use Rattle.bsv_types.specs.GivenFunctions.{given_function, has_open_type}
+use Rattle.bsv_types.specs.declared.given.GivenFunction.{GivenFunction}
+use Rattle.bsv_types.specs.declared.given.GivenFunction.TheVariants as given
 use Rattle.bsv_context.specs.Env.{wanted, Env, Limits, literal, in_order}
 use Rattle.bsv_typing.specs.Operands.{Check, Operand, closed, opened, check_if, only_if, are_open, are_literals}
 use Rattle.bsv_typing.specs.Forms as forms
@@ -144,30 +145,7 @@ label_case label name want =
 abbrev pub no_case : Check
 no_case want = None
 
--- the functions that the language gives, by their names
-unfoldable pub given_function : List ℕ → Option GivenFunction
-given_function name =
-    if bytes_eq name (codes "truncate") then Some given.Truncate
-    else if bytes_eq name (codes "zeroExtend") then Some given.ZeroExtend
-    else if bytes_eq name (codes "signExtend") then Some given.SignExtend
-    else if bytes_eq name (codes "unpack") then Some given.Unpack
-    else if bytes_eq name (codes "fromInteger") then Some given.FromInteger
-    else if bytes_eq name (codes "pack") then Some given.Pack
-    else if bytes_eq name (codes "isValid") then Some given.IsValid
-    else if bytes_eq name (codes "validValue") then Some given.ValidValue
-    else if bytes_eq name (codes "fromMaybe") then Some given.FromMaybe
-    else None
-
--- those that take the expected type
-abbrev pub has_open_type : GivenFunction → Bool
-has_open_type given.Truncate = true
-has_open_type given.ZeroExtend = true
-has_open_type given.SignExtend = true
-has_open_type given.Unpack = true
-has_open_type given.FromInteger = true
-has_open_type _ = false
-
--- they take one argument, or two
+-- the functions that the language gives take one argument, or two
 unfoldable pub one_case : Limits → GivenFunction → Operand → Check
 one_case g given.Truncate x = forms.resized_case op.Truncate forms.no_narrower x
 one_case g given.ZeroExtend x = forms.resized_case op.ZeroExtend no_wider x

@@ -22,7 +22,6 @@ use crate::front::{
     Front, Instance, field_named, in_order_front, member_behind, method_call, name_front,
     place_number, read, slice_behind,
 };
-use crate::given::{GivenFunction, given_function};
 use crate::openness::{are_literals, are_open, is_open, literal, split_open};
 use bsv_ast::{Expr, FieldValue, Level, Operator, Suffix, UnaryOperator};
 use bsv_bits::Name;
@@ -32,7 +31,7 @@ use bsv_context::{
     no_wider, one, with_suffix,
 };
 use bsv_scopes::Scopes;
-use bsv_types::{Boxed, Expr as Typed, Items, Op, Ty};
+use bsv_types::{Boxed, Expr as Typed, GivenFunction, Items, Op, Ty};
 use std::alloc::Global;
 use std::slice;
 
@@ -630,7 +629,7 @@ fn call(
         (function_named context.now name.now) name.now
         (all_seen context.now variables.now given.now) (expected want.entry)) }
 {
-    match given_function(name) {
+    match GivenFunction::named(name.bytes()) {
         Some(function) => given_call(alloc, context, variables, function, given, want),
         None => function_call(alloc, context, variables, name, given, want),
     }

@@ -1,9 +1,8 @@
 //! Typing: the type of each expression, with an expected type or without one.
 //!
-//! Modules in reading order: `given` (the functions that the language gives), `front` (what stands
-//! in front of a suffix), `openness` (which expressions have no type of their own), `forms` (forms
-//! without operands, and what finishes the others), `expressions` (the forms), `law` (what the
-//! typing promises).
+//! Modules in reading order: `front` (what stands in front of a suffix), `openness` (which
+//! expressions have no type of their own), `forms` (forms without operands, and what finishes the
+//! others), `expressions` (the forms), `law` (what the typing promises).
 //!
 //! The definition is the table of forms in `specs/Typing.antt`, over those of `specs/Forms.antt`
 //! (forms with operands), `specs/Places.antt` (names and suffixes) and `specs/Operands.antt`
@@ -18,7 +17,6 @@
 mod expressions;
 mod forms;
 mod front;
-mod given;
 mod law;
 mod openness;
 

@@ -4,11 +4,11 @@ ghost use Rattle.bsv_typing.specs.Operands as spec;
 ghost use Rattle.bsv_typing.specs.Seen.{seen, all_seen};
 ghost use Rattle.bsv_typing.specs.Typing as typing;
 
-use crate::given::given_function;
 use bsv_ast::{Expr, Level, Literal, UnaryOperator};
 use bsv_bits::Name;
 use bsv_context::{Context, Variable};
 use bsv_scopes::Scopes;
+use bsv_types::GivenFunction;
 
 /// The number of an unsized literal.
 fn unsized_number(literal: &Literal) -> Option<u128>
@@ -50,7 +50,7 @@ pub(crate) fn is_open(context: &Context, variables: &Scopes<Variable>, expr: &Ex
 fn is_open_call(name: &Name) -> bool
     ensures { result ≡ typing.is_open_call name.now }
 {
-    match given_function(name) {
+    match GivenFunction::named(name.bytes()) {
         Some(function) => function.has_open_type(),
         None => false,
     }
