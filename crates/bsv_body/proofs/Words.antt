@@ -8,7 +8,7 @@ use Rattle.bsv_design.specs.declared.steps.Atom.{Atom}
 use Rattle.bsv_design.specs.declared.steps.Atom.TheVariants as atom
 use Rattle.bsv_design.specs.declared.steps.Compute.{Compute}
 use Rattle.bsv_design.specs.declared.steps.Compute.TheVariants as computed
-use Rattle.bsv_design.specs.Bodies.{at}
+use Rattle.bsv_design.specs.Bodies.{at, words_behind}
 use Rattle.bsv_design.specs.Computing as computing
 use Rattle.bsv_design.specs.Running as steps
 use Rattle.bsv_design.specs.Running.{Results, or_zero, word_of, words_of}
@@ -78,12 +78,12 @@ module _ (r : Results) (arguments : List Bits) (full : List Call) where
   word_at vs x = node_word r arguments full vs x
 
   one_more : (vs : List Bits) (ns : List Node) (x : Node) → values r arguments full vs (ns ++ x ∷ []) ≡ values r arguments full vs ns ++ word_at (values r arguments full vs ns) x ∷ []
-  unfolding values
+  unfolding words_behind
   one_more vs [] x = refl
   one_more vs (n ∷ ns) x = one_more (vs ++ word_at vs n ∷ []) ns x
 
   as_long : (vs : List Bits) (ns : List Node) → length (values r arguments full vs ns) ≡ length vs + length ns
-  unfolding values
+  unfolding words_behind
   as_long vs [] = omega arith
   as_long vs (n ∷ ns) = omega (arith, as_long (vs ++ word_at vs n ∷ []) ns, length-append vs (word_at vs n ∷ []))
 

@@ -25,7 +25,7 @@ use Rattle.bsv_clock.proofs.Clocks.{clock_fed}
 use Rattle.bsv_clock.proofs.Steadily.{steady_scheme}
 use Rattle.bsv_design.specs.declared.kind.Kind.{Kind}
 use Rattle.bsv_guard.proofs.Lists.{mapped_at}
-use Rattle.bsv_clock.specs.Carrying.{TellsElements, cell, cells_of, cell_widths, inputs_of}
+use Rattle.bsv_clock.specs.Hardware.{TellsElements, cell, cells_of, cell_widths, inputs_of}
 use Rattle.bsv_clock.specs.Clocks.{IsClock, is_in}
 use Rattle.bsv_clock.specs.Grounds.{BelongTogether, Fit, IsLawful, IsScheduleOf}
 use Rattle.bsv_clock.specs.Looks.{clock_look}

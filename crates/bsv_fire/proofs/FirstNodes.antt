@@ -14,7 +14,7 @@ use Rattle.bsv_design.specs.Roles.{is_rule}
 use Rattle.bsv_design.specs.Running.{or_zero}
 use Rattle.bsv_design.specs.Schemes.{Scheme, Asking, given, outline}
 use Rattle.bsv_design.specs.States.{part_at}
-use Rattle.bsv_clock.specs.Carrying.{Shows, inputs_from}
+use Rattle.bsv_clock.specs.Hardware.{Shows, inputs_from}
 use Rattle.bsv_clock.specs.Clocks.{is_asked}
 use Rattle.bsv_net.specs.Placing.{node_at}
 use Rattle.bsv_fire.specs.Grounds.{input_count, input_starts, register_starts}

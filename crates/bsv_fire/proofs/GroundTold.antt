@@ -22,7 +22,7 @@ use Rattle.bsv_design.specs.States.{part_at}
 use Rattle.bsv_graph.specs.Edges.{numbers_below}
 use Rattle.bsv_guard.proofs.Given.{given_arguments}
 use Rattle.bsv_guard.proofs.Lists.{mapped_at}
-use Rattle.bsv_clock.specs.Carrying.{Shows, cells_in, cells_of, inputs_from, inputs_of, input_widths_of}
+use Rattle.bsv_clock.specs.Hardware.{Shows, cells_in, cells_of, inputs_from, inputs_of, input_widths_of}
 use Rattle.bsv_clock.specs.Clocks.{is_asked}
 use Rattle.bsv_net.specs.declared.node.NetNode.{NetNode}
 use Rattle.bsv_net.specs.declared.node.NetNode.TheVariants as net

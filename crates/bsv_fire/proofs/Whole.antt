@@ -10,7 +10,7 @@ use Rattle.bsv_design.specs.Schemes.{Scheme, Outline, Asking, given}
 use Rattle.bsv_design.specs.States.{AreWordsOf, emptied}
 use Rattle.bsv_graph.specs.Orders.{In}
 use Rattle.bsv_guard.specs.Fitting.{HaveWidths}
-use Rattle.bsv_clock.specs.Carrying.{inputs_from, input_widths_of}
+use Rattle.bsv_clock.specs.Hardware.{inputs_from, input_widths_of}
 use Rattle.bsv_clock.specs.Clocks.{IsClock, is_in, is_asked}
 use Rattle.bsv_clock.specs.Grounds.{BelongTogether}
 use Rattle.bsv_clock.specs.Looks.{clock_look, look_after, calls_in_turn}

@@ -5,7 +5,7 @@ use Rattle.bsv_design.specs.declared.schedule.Schedule.{Schedule}
 use Rattle.bsv_design.specs.Designs.{Blueprint}
 use Rattle.bsv_design.specs.Schemes.{kinds_of, outline}
 use Rattle.bsv_graph.specs.Edges.{numbers_below}
-use Rattle.bsv_clock.specs.Carrying.{cell, cells_of, input_widths_of}
+use Rattle.bsv_clock.specs.Hardware.{cell, cells_of, input_widths_of}
 use Rattle.bsv_net.specs.declared.circuit.Circuit.{Circuit}
 use Rattle.bsv_fire.specs.Grounds.{Ground, first_nodes, input_starts, register_starts}
 use Rattle.bsv_fire.specs.Growing.{Growing, grown, none_placed}

@@ -12,7 +12,7 @@ use Rattle.bsv_design.specs.Schemes.{Scheme, Outline, Asking, seen}
 use Rattle.bsv_design.specs.Traces.{Site, kind_at}
 use Rattle.bsv_graph.specs.Orders.{In}
 use Rattle.bsv_guard.specs.Fitting.{HaveWidths}
-use Rattle.bsv_clock.specs.Carrying.{Given, Shows, TellsElements, cell, cells_of, cell_widths, inputs_of, input_widths}
+use Rattle.bsv_clock.specs.Hardware.{Given, Shows, TellsElements, cell, cells_of, cell_widths, inputs_of, input_widths}
 use Rattle.bsv_clock.specs.Clocks.{IsClock}
 use Rattle.bsv_clock.specs.Grounds.{Fit}
 use Rattle.bsv_clock.specs.Looks.{clock_look}

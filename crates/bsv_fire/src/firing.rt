@@ -2,7 +2,7 @@ ghost use Rattle.std.specs.Prelude.{◌≡◌, ◌+◌, IfOk, false, length, map
 ghost use Rattle.bsv_graph.specs.Edges.{numbers_below};
 ghost use Rattle.bsv_fire.specs.AtHand as hand;
 ghost use Rattle.bsv_fire.specs.Circuits as spec;
-ghost use Rattle.bsv_clock.specs.Carrying.{cells_of, input_widths_of};
+ghost use Rattle.bsv_clock.specs.Hardware.{cells_of, input_widths_of};
 ghost use Rattle.bsv_clock.specs.Grounds.{IsScheduleOf, KeepsRules};
 ghost use Rattle.bsv_design.specs.Guards.{needs_of};
 ghost use Rattle.bsv_design.specs.Schemes.{design_scheme, kinds_of, outline};

@@ -1,5 +1,5 @@
 ghost use Rattle.std.specs.Prelude.{◌≡◌, ◌++◌, ◌∷◌, [], IfOk, IfSome, OnOk, map};
-ghost use Rattle.bsv_clock.specs.Carrying as carrying;
+ghost use Rattle.bsv_clock.specs.Hardware as carrying;
 ghost use Rattle.bsv_design.specs.Schemes.{outline};
 ghost use Rattle.bsv_fire.specs.Grounds as spec;
 ghost use Rattle.bsv_graph.specs.Edges.{numbers_below};
@@ -53,7 +53,7 @@ fn push_registers(registers: &mut Items<RegisterInfo>, part: &NamedPart) -> Resu
 }
 
 /// The registers of all parts, in building order.
-#[tactic(auto, unfolding(bsv_clock::specs::Carrying::cells_of))]
+#[tactic(auto, unfolding(bsv_clock::specs::Hardware::cells_of))]
 pub fn registers_of(alloc: Global, parts: &[NamedPart]) -> Result<Items<RegisterInfo>, OutOfMemory>
     ensures { IfOk result (λ registers. map carrying.cell registers
         ≡ carrying.cells_of (map (λ p. p.kind) parts.now)) }

@@ -45,7 +45,7 @@ use Rattle.bsv_attr.proofs.Alike as marks
 use Rattle.bsv_attr.proofs.Attributes.{obeys}
 use Rattle.bsv_graph.proofs.OrderedLemmas.{ordering_before, urging_stands}
 use Rattle.bsv_graph.proofs.RelationsLemmas.{agrees_design}
-use Rattle.bsv_clock.specs.Carrying.{cell}
+use Rattle.bsv_clock.specs.Hardware.{cell}
 use Rattle.bsv_clock.specs.Grounds.{IsScheduleOf, KeepsRules}
 use Rattle.bsv_clock.proofs.Belonging as belonging
 use Rattle.bsv_clock.proofs.CarriedAlike.{carried_to}

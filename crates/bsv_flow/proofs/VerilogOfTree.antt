@@ -10,7 +10,7 @@ use Rattle.bsv_design.specs.Sources.{parts_among}
 use Rattle.bsv_design.specs.Trees.{Hierarchy}
 use Rattle.bsv_guard.proofs.Alike.{alike_back}
 use Rattle.bsv_inline.specs.Flattening.{top_name}
-use Rattle.bsv_clock.specs.Carrying.{cell, cells_of}
+use Rattle.bsv_clock.specs.Hardware.{cell, cells_of}
 use Rattle.bsv_clock.specs.Grounds.{IsLawful, IsScheduleOf, KeepsRules}
 use Rattle.bsv_clock.proofs.Belonging as belonging
 use Rattle.bsv_clock.proofs.CarriedAlike.{carried_to}
@@ -20,7 +20,7 @@ use Rattle.bsv_fire.specs.Firing.{gives}
 use Rattle.bsv_mux.specs.Hardware.{NetCarries}
 use Rattle.bsv_vtext.specs.declared.modules.VModule.{VModule}
 use Rattle.bsv_vtext.specs.AtHand.{contents}
-use Rattle.bsv_vgen.specs.Carrying.{ModuleCarries}
+use Rattle.bsv_vgen.specs.Hardware.{ModuleCarries}
 use Rattle.bsv_vgen.specs.Interfaces.{IsModuleOf}
 use Rattle.bsv_vgen.specs.Resetting.{BeginsOpen, Resets}
 use Rattle.bsv_vgen.specs.Runs.{RunsAs}

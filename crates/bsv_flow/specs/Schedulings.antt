@@ -36,7 +36,7 @@ use Rattle.bsv_mux.specs.Results.{KeepsResults}
 use Rattle.bsv_vtext.specs.AtHand.{contents}
 use Rattle.bsv_vtext.specs.Modules.{IsModule}
 use Rattle.bsv_vtext.specs.Signals.{Contents}
-use Rattle.bsv_vgen.specs.Carrying.{ModuleCarries}
+use Rattle.bsv_vgen.specs.Hardware.{ModuleCarries}
 use Rattle.bsv_vgen.specs.Interfaces.{IsModuleOf}
 use Rattle.bsv_vgen.specs.Resetting.{BeginsOpen, Resets}
 use Rattle.bsv_vgen.specs.Runs.{RunsAs}

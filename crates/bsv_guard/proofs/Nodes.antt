@@ -10,7 +10,7 @@ use Rattle.bsv_design.specs.declared.element.Port.{Port}
 use Rattle.bsv_design.specs.declared.kind.Kind.{Kind}
 use Rattle.bsv_design.specs.declared.node.Node.{Node}
 use Rattle.bsv_design.specs.declared.node.Node.TheVariants as node
-use Rattle.bsv_design.specs.Bodies.{target, Answers, at, answer, node_word, values}
+use Rattle.bsv_design.specs.Bodies.{target, Answers, at, answer, node_word, values, words_behind}
 use Rattle.bsv_design.specs.Kinds.{kind_table}
 use Rattle.bsv_design.specs.Running.{or_zero}
 use Rattle.bsv_design.specs.Traces.{acts, kind_at}
@@ -61,7 +61,7 @@ module _ (ks : List Kind) (ports : List Port) (cs : List Call) (ws : List Bits) 
   next_word r vs x = node_word r ws cs vs x
 
   pub grown : (r : Answers) (vs : List Bits) (ns : List Node) → (more : List Bits) × (values r ws cs vs ns ≡ vs ++ more)
-  unfolding values
+  unfolding words_behind
   grown r vs [] = ([], sym (append-nil vs))
   grown r vs (x ∷ ns) =
       let g = grown r (vs ++ next_word r vs x ∷ []) ns in
@@ -105,7 +105,7 @@ module _ (ks : List Kind) (ports : List Port) (cs : List Call) (ws : List Bits) 
 
   same_from : (q r : Answers) (all : List Bits) → AgreeAt q r all → (ns : List Node) (vs : List Bits) (us ends : List ℕ) → values q ws cs vs ns ≡ all → length vs ≡ length us → widths_from ports ks cs us ns ≡ Some ends
       → values q ws cs vs ns ≡ values r ws cs vs ns
-  unfolding values widths_from
+  unfolding words_behind widths_from
   same_from q r all h [] vs us ends is long e = refl
   same_from q r all h (x ∷ ns) vs us ends is long e =
       let c = chained (node_width ports ks cs us x) (λ w. widths_from ports ks cs (us ++ w ∷ []) ns) ends e in

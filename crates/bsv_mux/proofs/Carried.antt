@@ -28,7 +28,7 @@ use Rattle.bsv_graph.specs.Orders.{In}
 use Rattle.bsv_guard.specs.ElementLaws.{IsUse}
 use Rattle.bsv_guard.specs.Fitting.{HaveWidths}
 use Rattle.bsv_guard.proofs.Lists.{mapped_at}
-use Rattle.bsv_clock.specs.Carrying.{Cell, Given, Shows, TellsElements, TellsClock, Carries, cell, cells_of, cell_widths, inputs_of, input_widths}
+use Rattle.bsv_clock.specs.Hardware.{Cell, Given, Shows, TellsElements, TellsClock, Carries, cell, cells_of, cell_widths, inputs_of, input_widths}
 use Rattle.bsv_clock.specs.Clocks.{IsClock, is_in}
 use Rattle.bsv_clock.specs.Grounds.{BelongTogether, Fit, IsLawful, IsScheduleOf, KeepsRules}
 use Rattle.bsv_clock.specs.Looks.{clock_look}

@@ -14,7 +14,7 @@ use Rattle.bsv_design.specs.States.{FitsKinds, part_at}
 use Rattle.bsv_graph.specs.Edges.{numbers_below}
 use Rattle.bsv_graph.specs.Orders.{In}
 use Rattle.bsv_guard.specs.ElementLaws.{IsUse}
-use Rattle.bsv_clock.specs.Carrying.{Shows}
+use Rattle.bsv_clock.specs.Hardware.{Shows}
 use Rattle.bsv_clock.specs.Settling.{end_of}
 use Rattle.bsv_net.specs.declared.node.NetNode.{NetNode}
 use Rattle.bsv_net.specs.declared.wires.MethodPort.{MethodPort}

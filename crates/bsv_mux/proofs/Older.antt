@@ -7,7 +7,7 @@ use Rattle.std.proofs.lemmas.List.{length-map}
 use Rattle.std.proofs.lemmas.Option.{slice_get_past}
 use Rattle.bsv_bits.specs.Words.{Bits}
 use Rattle.bsv_design.specs.declared.node.Node.{Node}
-use Rattle.bsv_design.specs.Bodies.{at, values, node_word}
+use Rattle.bsv_design.specs.Bodies.{at, values, node_word, words_behind}
 use Rattle.bsv_design.specs.Relations.{no_answers}
 use Rattle.bsv_design.specs.Running.{or_zero}
 use Rattle.bsv_guard.proofs.Lists.{holds_at_all}
@@ -27,12 +27,12 @@ module _ (arguments : List Bits) where
   following vs ns = values no_answers arguments [] vs ns
 
   values_both : (vs : List Bits) (xs ys : List Node) → following vs (xs ++ ys) ≡ following (following vs xs) ys
-  unfolding values
+  unfolding words_behind
   values_both vs [] ys = refl
   values_both vs (x ∷ xs) ys = values_both (vs ++ node_word no_answers arguments [] vs x ∷ []) xs ys
 
   values_long : (vs : List Bits) (xs : List Node) → length (following vs xs) ≡ length vs + length xs
-  unfolding values
+  unfolding words_behind
   values_long vs [] = omega arith
   values_long vs (x ∷ xs) = values_long (vs ++ node_word no_answers arguments [] vs x ∷ []) xs ∙ omega (arith, length-append vs (node_word no_answers arguments [] vs x ∷ []))
 

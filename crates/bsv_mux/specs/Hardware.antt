@@ -2,7 +2,7 @@
 use Rattle.std.specs.Prelude.{Bool, map}
 use Rattle.bsv_design.specs.declared.schedule.Schedule.{Schedule}
 use Rattle.bsv_design.specs.Schemes.{Scheme}
-use Rattle.bsv_clock.specs.Carrying.{Carries, cell}
+use Rattle.bsv_clock.specs.Hardware.{Carries, cell}
 use Rattle.bsv_net.specs.declared.net.Net.{Net}
 use Rattle.bsv_net.specs.AtHand.{circuit}
 use Rattle.bsv_fire.specs.Firing.{gives}

@@ -7,7 +7,7 @@ use Rattle.std.proofs.lemmas.Option.{same_Some}
 use Rattle.std.proofs.Math.Logic.{∥∥₁_elim}
 use Rattle.bsv_bits.specs.Words.{Bits}
 use Rattle.bsv_design.specs.declared.node.Node.{Node}
-use Rattle.bsv_design.specs.Bodies.{at, node_word, values}
+use Rattle.bsv_design.specs.Bodies.{at, node_word, values, words_behind}
 use Rattle.bsv_design.specs.Relations.{no_answers}
 use Rattle.bsv_guard.specs.Fitting.{HaveWidths}
 use Rattle.bsv_guard.proofs.Lists.{holds_at_all}
@@ -25,16 +25,16 @@ take_one {A} (y ∷ ys) (suc i) x e = let place : suc i + 1 ≡ suc (i + 1) = om
 
 module _ (arguments : List Bits) where
   values_append : (ws : List Bits) (xs ys : List Node) → values no_answers arguments [] ws (xs ++ ys) ≡ values no_answers arguments [] (values no_answers arguments [] ws xs) ys
-  unfolding values
+  unfolding words_behind
   values_append ws [] ys = refl
   values_append ws (x ∷ xs) ys = values_append (ws ++ node_word no_answers arguments [] ws x ∷ []) xs ys
 
   values_one : (ws : List Bits) (x : Node) → values no_answers arguments [] ws (x ∷ []) ≡ ws ++ node_word no_answers arguments [] ws x ∷ []
-  unfolding values
+  unfolding words_behind
   values_one ws x = refl
 
 pub words_none : (inputs registers : List Bits) → words [] inputs registers ≡ []
-unfolding words values
+unfolding words words_behind
 words_none inputs registers = refl
 
 -- the words of one node more

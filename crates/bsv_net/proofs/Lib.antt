@@ -5,3 +5,4 @@ pub mod Evaluating
 pub mod Grows
 pub mod PieceMeans
 pub mod Gates
+pub mod Hardware

@@ -22,8 +22,8 @@ use Rattle.bsv_guard.specs.Fitting.{HaveWidths}
 use Rattle.bsv_guard.proofs.Alike.{alike}
 use Rattle.bsv_guard.proofs.Given.{given_arguments}
 use Rattle.bsv_guard.proofs.Lists.{IsOf, item_of, mapped_at}
-use Rattle.bsv_clock.specs.Carrying.{Cell, Given, Shows, TellsClock, cell, cell_widths, cells_of, input_widths, inputs_of}
-use Rattle.bsv_clock.specs.Carrying as clocks
+use Rattle.bsv_clock.specs.Hardware.{Cell, Given, Shows, TellsClock, cell, cell_widths, cells_of, input_widths, inputs_of}
+use Rattle.bsv_clock.specs.Hardware as clocks
 use Rattle.bsv_clock.specs.Clocks.{IsClock, is_asked, is_in}
 use Rattle.bsv_clock.specs.Grounds.{Fit, IsLawful, IsScheduleOf}
 use Rattle.bsv_clock.specs.Looks.{clock_look}
@@ -42,7 +42,7 @@ use Rattle.bsv_vtext.specs.declared.tree.Target.TheVariants as target
 use Rattle.bsv_vtext.specs.Signals.{Contents}
 use Rattle.bsv_vtext.specs.VClock.{Inputs, Nets, VClock, atom_word, word_at}
 use Rattle.bsv_vgen.specs.declared.known.Known.{Known}
-use Rattle.bsv_vgen.specs.Carrying.{ModuleCarries, TellsFire, TellsModule, inputs}
+use Rattle.bsv_vgen.specs.Hardware.{ModuleCarries, TellsFire, TellsModule, inputs}
 use Rattle.bsv_vgen.specs.Modules as modules
 use Rattle.bsv_vgen.specs.Modules.{argument_inputs, asked_input}
 use Rattle.bsv_vgen.specs.Names.{fire_wire}

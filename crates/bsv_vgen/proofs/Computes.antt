@@ -14,7 +14,7 @@ use Rattle.bsv_vtext.specs.declared.tree.Target.TheVariants as target
 use Rattle.bsv_vtext.specs.Signals.{Contents}
 use Rattle.bsv_vtext.specs.VClock.{Inputs, Nets, VClock, atom_word}
 use Rattle.bsv_vgen.specs.declared.known.Known.{Known}
-use Rattle.bsv_vgen.specs.Carrying.{TellsFire}
+use Rattle.bsv_vgen.specs.Hardware.{TellsFire}
 use Rattle.bsv_vgen.specs.Modules.{inputs}
 
 -- the words of the inputs of a net, where atoms have these words

@@ -9,8 +9,8 @@ use Rattle.bsv_design.specs.declared.schedule.Schedule.{Schedule}
 use Rattle.bsv_design.specs.Designs.{Blueprint, IsDesign}
 use Rattle.bsv_design.specs.Schemes.{Scheme, AreAlike, Outline, design_scheme, kinds_of, outline}
 use Rattle.bsv_design.specs.Seen.{blueprint}
-use Rattle.bsv_clock.specs.Carrying as carrying
-use Rattle.bsv_clock.specs.Carrying.{cells_of, input_widths, input_widths_of}
+use Rattle.bsv_clock.specs.Hardware as carrying
+use Rattle.bsv_clock.specs.Hardware.{cells_of, input_widths, input_widths_of}
 use Rattle.bsv_clock.specs.Grounds.{IsLawful, IsScheduleOf}
 use Rattle.bsv_net.specs.declared.circuit.Circuit.{Circuit}
 use Rattle.bsv_net.specs.declared.net.Net.{Net}
@@ -24,7 +24,7 @@ use Rattle.bsv_vtext.specs.declared.tree.VRegister.{VRegister}
 use Rattle.bsv_vtext.specs.declared.tree.VWire.{VWire}
 use Rattle.bsv_vtext.specs.Modules.{IsModule}
 use Rattle.bsv_vtext.specs.Signals.{Contents}
-use Rattle.bsv_vgen.specs.Carrying.{ModuleCarries}
+use Rattle.bsv_vgen.specs.Hardware.{ModuleCarries}
 use Rattle.bsv_vgen.specs.Interfaces.{IsModuleOf, cell}
 use Rattle.bsv_vgen.specs.Modules.{module_of}
 use Rattle.bsv_vgen.specs.Resetting.{BeginsOpen, Resets}

@@ -1,5 +1,5 @@
 ghost use Rattle.std.specs.Prelude.{◌≡◌, ◌^◌, nat_lt, Bool, IsTrue, length, map, IfOk};
-ghost use Rattle.bsv_clock.specs.Carrying.{cell, cells_of, input_widths};
+ghost use Rattle.bsv_clock.specs.Hardware.{cell, cells_of, input_widths};
 ghost use Rattle.bsv_clock.specs.Grounds.{IsLawful, IsScheduleOf};
 ghost use Rattle.bsv_design.specs.Schemes.{Scheme, AreAlike, design_scheme, kinds_of, outline};
 ghost use Rattle.bsv_design.specs.Seen.{blueprint};
@@ -7,7 +7,7 @@ ghost use Rattle.bsv_design.specs.declared.schedule.Schedule.{Schedule};
 ghost use Rattle.bsv_mux.specs.Hardware.{NetCarries};
 ghost use Rattle.bsv_net.specs.AtHand.{circuit};
 ghost use Rattle.bsv_vgen.specs.AtHand as hand;
-ghost use Rattle.bsv_vgen.specs.Carrying.{ModuleCarries};
+ghost use Rattle.bsv_vgen.specs.Hardware.{ModuleCarries};
 ghost use Rattle.bsv_vgen.specs.Interfaces.{IsModuleOf};
 ghost use Rattle.bsv_vgen.specs.Modules as spec;
 ghost use Rattle.bsv_vgen.specs.Resetting.{BeginsOpen, Resets};

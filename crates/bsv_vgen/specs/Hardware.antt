@@ -9,7 +9,7 @@ use Rattle.bsv_design.specs.Roles.{is_rule, is_value}
 use Rattle.bsv_design.specs.Schemes.{Scheme, Outline, Asking, given, ready, value}
 use Rattle.bsv_graph.specs.Edges.{numbers_below}
 use Rattle.bsv_guard.specs.Fitting.{HaveWidths}
-use Rattle.bsv_clock.specs.Carrying.{Shows, cell_widths, cells_of}
+use Rattle.bsv_clock.specs.Hardware.{Shows, cell_widths, cells_of}
 use Rattle.bsv_clock.specs.Clocks.{IsClock, is_in, is_asked}
 use Rattle.bsv_clock.specs.Grounds.{Fit}
 use Rattle.bsv_clock.specs.Looks.{clock_look}
