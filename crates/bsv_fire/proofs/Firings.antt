@@ -36,6 +36,7 @@ use Rattle.bsv_net.specs.Circuits.{IsCircuit, register_widths, words}
 use Rattle.bsv_net.specs.Placing.{node_at}
 use Rattle.bsv_net.proofs.Solution.{satisfies}
 use Rattle.bsv_fire.specs.Circuits.{IsFireCircuit, net}
+use Rattle.bsv_net.specs.Hardware.{given_at}
 use Rattle.bsv_fire.specs.Firing as firing
 use Rattle.bsv_fire.specs.Growing.{Growing}
 use Rattle.bsv_fire.specs.Bodies.{or_none}
@@ -149,7 +150,7 @@ module _ (b : Blueprint) (right : IsDesign b) (needs : List (List Need)) (made :
         (mapped_at (λ o. unwrap_or o (length x.nodes)) x.results n (Some found.0) found.1)
         ∙ ap (λ (u : Bits). Some u) found.2)
 
-    pub tells_elements : TellsElements false T q s fired (firing.given_at c vs)
+    pub tells_elements : TellsElements false T q s fired (given_at c vs)
     tells_elements = record {
       fires = fire_word;
       readies = ready_word;

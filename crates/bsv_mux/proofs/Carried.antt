@@ -39,16 +39,19 @@ use Rattle.bsv_clock.proofs.Members.{in_kept}
 use Rattle.bsv_clock.proofs.Steadily.{steady_scheme}
 use Rattle.bsv_clock.proofs.Stopping.{execution_order}
 use Rattle.bsv_net.specs.declared.circuit.Circuit.{Circuit}
+use Rattle.bsv_net.specs.declared.net.Net.{Net}
 use Rattle.bsv_net.specs.declared.node.NetNode.{NetNode}
 use Rattle.bsv_net.specs.declared.node.NetNode.TheVariants as net
 use Rattle.bsv_net.specs.declared.node.Site.{Site as NetSite}
+use Rattle.bsv_net.specs.AtHand.{circuit}
 use Rattle.bsv_net.specs.Circuits.{IsCircuit, register_widths, words}
 use Rattle.bsv_net.specs.Placing.{node_at}
 use Rattle.bsv_net.proofs.Grows.{Grows, grows_trans, kept}
 use Rattle.bsv_net.proofs.Solution.{satisfies, same_length, words_have}
 use Rattle.bsv_fire.specs.Bodies.{or_none}
 use Rattle.bsv_fire.specs.Firing as firing
-use Rattle.bsv_fire.specs.Firing.{Fires, gives, given_at}
+use Rattle.bsv_fire.specs.Firing.{Fires}
+use Rattle.bsv_net.specs.Hardware.{NamesNoResult, NetCarries, gives, given_at}
 use Rattle.bsv_fire.specs.Grounds.{register_starts}
 use Rattle.bsv_fire.specs.Spots.{all_spots}
 use Rattle.bsv_fire.proofs.FirstNodes.{part_shown, register_start, registers_before, word_behind}
@@ -59,7 +62,6 @@ use Rattle.bsv_fire.proofs.Numbers.{count_below, got_before, got_behind, number_
 use Rattle.bsv_fire.proofs.Structure.{some_same}
 use Rattle.bsv_fire.proofs.Whole.{after_is, fired_is, fires_is, inputs_have, look_is}
 use Rattle.bsv_mux.specs.Nexts.{IsNextCircuit, Told, next_words, renamed, told, with_registers}
-use Rattle.bsv_mux.specs.Results.{KeepsResults}
 use Rattle.bsv_mux.proofs.NextsTold.{NextsTold, nexts_grow, nexts_told, words_are}
 use Rattle.bsv_mux.proofs.Older.{Named, named, results_renamed, words_grown, words_long}
 
@@ -363,16 +365,16 @@ module _ (d : Design) (made : Schedule) (rules : KeepsRules (design_scheme (blue
   cells_kept : map cell e.registers ≡ cells_of U.kinds
   cells_kept = ap (map cell) is.registers ∙ promise.registers
 
-  pub carries : Carries false U made (map cell e.registers) e.inputs (gives e)
-  carries = record {
+  words_carry : Carries false U made (map cell e.registers) e.inputs (gives e)
+  words_carry = record {
     registers = cells_kept;
     inputs = is.inputs ∙ promise.inputs;
     clock = λ q s ws fired after fit have shows clock.
         clock_of q s ws fired after fit (subst (λ (cs : List Cell). HaveWidths (cell_widths cs) ws) cells_kept have) shows clock;
   }
 
-  pub keeps_results : KeepsResults U e
-  keeps_results n o at_o gives_none =
+  names_no_result : NamesNoResult U e
+  names_no_result n o at_o gives_none =
       ap (λ (ns : List ℕ). slice_get ns n) is.results
       ∙ (mapped_at (renamed (length c.nodes) (length (next_words (blueprint d) made c).nodes)) c.results n (length c.nodes) (promise.no_result n o at_o gives_none)
       ∙ (ap (λ (t : Bool). Some (if t then length c.nodes else length (next_words (blueprint d) made c).nodes)) (never (length c.nodes))
@@ -384,3 +386,11 @@ module _ (d : Design) (made : Schedule) (rules : KeepsRules (design_scheme (blue
           of : (t : Bool) → nat_lt k k ≡ t → t ≡ false
           of true h = absurd (let l = ltb-true k k h in omega arith)
           of false h = refl
+
+pub net_carries : (d : Design) (made : Schedule) → KeepsRules (design_scheme (blueprint d)) → IsScheduleOf (design_scheme (blueprint d)) made
+    → (c : Circuit) → ∥ IsCircuit c ∥₁ → Fires false (design_scheme (blueprint d)) made c
+    → (n : Net) → IsNextCircuit (blueprint d) made c (circuit n) → NetCarries false (design_scheme (blueprint d)) made n
+net_carries d made rules scheduled c before promise n is = record {
+  words = words_carry d made rules scheduled c before promise (circuit n) is n.right;
+  no_result = names_no_result d made rules scheduled c before promise (circuit n) is n.right;
+}

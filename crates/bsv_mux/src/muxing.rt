@@ -6,9 +6,8 @@ ghost use Rattle.bsv_fire.specs.Bodies.{or_none};
 ghost use Rattle.bsv_fire.specs.Firing.{Fires};
 ghost use Rattle.bsv_net.specs.AtHand.{circuit};
 ghost use Rattle.bsv_mux.specs.AtHand as hand;
-ghost use Rattle.bsv_mux.specs.Hardware.{NetCarries};
+ghost use Rattle.bsv_net.specs.Hardware.{NetCarries};
 ghost use Rattle.bsv_mux.specs.Nexts as spec;
-ghost use Rattle.bsv_mux.specs.Results.{KeepsResults};
 
 use crate::parts::Muxing;
 use bsv_bits::{OutOfMemory, Word};
@@ -179,8 +178,6 @@ pub fn add_next(
     requires fires { Fires false (design_scheme (blueprint design.now)) schedule.now (circuit net) }
     ensures carries { IfOk result (λ made.
         NetCarries false (design_scheme (blueprint design.now)) schedule.now made) }
-    ensures no_result { IfOk result (λ made.
-        KeepsResults (design_scheme (blueprint design.now)) (circuit made)) }
     ensures sites { IfOk result (λ made. made.sites ≡ []) }
 {
     let circuit = next_circuit(alloc, design, schedule, net)?;

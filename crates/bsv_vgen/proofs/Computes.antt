@@ -8,7 +8,7 @@ use Rattle.bsv_design.specs.declared.element.Element.{Element}
 use Rattle.bsv_guard.specs.Fitting.{HaveWidths}
 use Rattle.bsv_net.specs.declared.circuit.Circuit.{Circuit}
 use Rattle.bsv_net.specs.Circuits.{register_widths}
-use Rattle.bsv_fire.specs.Firing.{gives}
+use Rattle.bsv_net.specs.Hardware.{gives}
 use Rattle.bsv_vtext.specs.declared.tree.Atom.{Atom}
 use Rattle.bsv_vtext.specs.declared.tree.Target.TheVariants as target
 use Rattle.bsv_vtext.specs.Signals.{Contents}

@@ -16,7 +16,7 @@ use Rattle.bsv_net.specs.declared.circuit.Circuit.{Circuit}
 use Rattle.bsv_net.specs.declared.net.Net.{Net}
 use Rattle.bsv_net.specs.AtHand.{circuit}
 use Rattle.bsv_net.specs.Circuits.{IsCircuit}
-use Rattle.bsv_mux.specs.Hardware.{NetCarries}
+use Rattle.bsv_net.specs.Hardware.{WordsCarry}
 use Rattle.bsv_vtext.specs.declared.tree.Assign.{Assign}
 use Rattle.bsv_vtext.specs.declared.tree.Atom.{Atom}
 use Rattle.bsv_vtext.specs.declared.tree.VMethod.{VMethod}
@@ -65,7 +65,7 @@ module _ (d : Design) (n : Net) (v : Contents) (is : v ≡ module_of (blueprint 
   is_its_module = subst (IsModuleOf d.name d.parts (map outline d.elements)) same (whole.is_its_module b c registers widths d.right)
 
   pub carries_too : (aggressive : Bool) (S : Scheme) (made : Schedule) → AreAlike S (design_scheme b) → IsLawful S → IsScheduleOf S made
-      → NetCarries aggressive S made n → ModuleCarries aggressive S made v
+      → WordsCarry aggressive S made n → ModuleCarries aggressive S made v
   carries_too aggressive S made alike lawful scheduled net_carries =
       subst (ModuleCarries aggressive S made) same
       (carries b d.right n (whole.m b c registers widths) (whole.computes b c registers widths d.right n.right) (whole.methods_count b c registers widths)
@@ -89,7 +89,7 @@ module _ (d : Design) (n : Net) (v : Contents) (is : v ≡ module_of (blueprint 
   kinds_are S alike = alike.kinds
 
   pub runs_too : ∥ IsModule v ∥₁ → (aggressive : Bool) (S : Scheme) (made : Schedule) → AreAlike S (design_scheme b) → IsLawful S → IsScheduleOf S made
-      → NetCarries aggressive S made n → RunsAs aggressive S made v
+      → WordsCarry aggressive S made n → RunsAs aggressive S made v
   runs_too right aggressive S made alike lawful scheduled net_carries =
       let own : IsModuleOf d.name d.parts S.elements v = subst (λ (os : List Outline). IsModuleOf d.name d.parts os v) (sym (elements_are S alike)) is_its_module in
       runs_as S v own.methods own.no_more aggressive made lawful right (cells_are ∙ ap cells_of (sym (kinds_are S alike)))

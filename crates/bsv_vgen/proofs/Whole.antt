@@ -32,7 +32,7 @@ use Rattle.bsv_net.specs.Circuits as circuits
 use Rattle.bsv_net.specs.Equations.{Satisfies}
 use Rattle.bsv_net.proofs.Lists.{got_right}
 use Rattle.bsv_net.proofs.Solution.{satisfies, words_have, same_length}
-use Rattle.bsv_fire.specs.Firing.{gives}
+use Rattle.bsv_net.specs.Hardware.{gives}
 use Rattle.bsv_clock.specs.Hardware as carrying
 use Rattle.bsv_clock.specs.Hardware.{cells_of, input_widths_of}
 use Rattle.bsv_vtext.specs.declared.tree.Assign.{Assign}
