@@ -29,10 +29,11 @@ use Rattle.bsv_net.specs.Placing.{add, node_at}
 use Rattle.bsv_net.proofs.Grows.{Grows, added_there, grows_trans}
 use Rattle.bsv_net.proofs.Operands.{is_below}
 use Rattle.bsv_fire.specs.Bodies.{Ports, body, body_node, result, result_of}
-use Rattle.bsv_fire.specs.Firing.{arity_of}
+use Rattle.bsv_ports.specs.Ports.{arity_of}
 use Rattle.bsv_fire.specs.Grounds.{Base, Ground}
 use Rattle.bsv_fire.proofs.BodiesGrow.{body_grows}
-use Rattle.bsv_fire.proofs.Frame.{Scene, S, IsGround}
+use Rattle.bsv_ports.proofs.Scene.{Scene, S}
+use Rattle.bsv_fire.proofs.Frame.{IsGround}
 use Rattle.bsv_fire.proofs.Wiring.{IsWired}
 
 -- ---- places

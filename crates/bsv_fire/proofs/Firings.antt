@@ -39,8 +39,9 @@ use Rattle.bsv_fire.specs.Circuits.{IsFireCircuit, net}
 use Rattle.bsv_net.specs.Hardware.{given_at}
 use Rattle.bsv_fire.specs.Firing as firing
 use Rattle.bsv_fire.specs.Growing.{Growing}
-use Rattle.bsv_fire.specs.Bodies.{or_none}
-use Rattle.bsv_fire.proofs.Frame.{Scene, looks, Tells}
+use Rattle.bsv_ports.specs.CallSites.{or_none}
+use Rattle.bsv_ports.proofs.Scene.{Scene, looks}
+use Rattle.bsv_fire.proofs.Frame.{Tells}
 use Rattle.bsv_fire.proofs.Structure.{some_same}
 use Rattle.bsv_fire.proofs.Whole.{fires_is, fired_fires, fired_below, look_is, inputs_have}
 

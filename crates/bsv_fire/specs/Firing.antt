@@ -1,12 +1,10 @@
 -- What is promised of a net that tells what fires: it carries the scheme but for the next words, which keep every register,
 -- and its sites tell the calls of the elements that fire.
-use Rattle.std.specs.Prelude.{◌≡◌, ◌<◌, ℕ, Bool, true, List, map, length, slice_get, Option, Some, None}
+use Rattle.std.specs.Prelude.{◌≡◌, ◌<◌, ℕ, Bool, true, List, map, length, slice_get, Some}
 use Rattle.bsv_bits.specs.Words.{Bits, bit}
 use Rattle.bsv_prim.specs.declared.part.Part.{Part}
 use Rattle.bsv_design.specs.declared.schedule.Schedule.{Schedule}
-use Rattle.bsv_design.specs.declared.kind.Kind.{Kind}
 use Rattle.bsv_design.specs.Bodies.{Target, at}
-use Rattle.bsv_design.specs.Kinds.{kind_table}
 use Rattle.bsv_design.specs.Schemes.{Scheme, Asking, seen}
 use Rattle.bsv_design.specs.Traces.{Site, kind_at}
 use Rattle.bsv_graph.specs.Orders.{In}
@@ -19,13 +17,10 @@ use Rattle.bsv_net.specs.declared.circuit.Circuit.{Circuit}
 use Rattle.bsv_net.specs.declared.node.Site.{Site as NetSite}
 use Rattle.bsv_net.specs.Circuits.{words}
 use Rattle.bsv_net.specs.Hardware.{NamesNoResult, gives, given_at}
-use Rattle.bsv_fire.specs.Bodies.{or_none}
+use Rattle.bsv_ports.specs.CallSites.{or_none}
+use Rattle.bsv_ports.specs.Ports.{arity_of}
 
 -- ---- calls
-
-abbrev pub arity_of : Option Kind → ℕ → ℕ
-arity_of None m = 0
-arity_of (Some k) m = (kind_table k).arity m
 
 -- the nodes of the calls of an element
 abbrev pub sites_of : Circuit → ℕ → List NetSite

@@ -48,17 +48,17 @@ use Rattle.bsv_net.specs.Circuits.{IsCircuit, register_widths, words}
 use Rattle.bsv_net.specs.Placing.{node_at}
 use Rattle.bsv_net.proofs.Grows.{Grows, grows_trans, kept}
 use Rattle.bsv_net.proofs.Solution.{satisfies, same_length, words_have}
-use Rattle.bsv_fire.specs.Bodies.{or_none}
+use Rattle.bsv_ports.specs.CallSites.{or_none, all_call_sites}
+use Rattle.bsv_ports.specs.Ports.{arity_of}
 use Rattle.bsv_fire.specs.Firing as firing
 use Rattle.bsv_fire.specs.Firing.{Fires}
 use Rattle.bsv_net.specs.Hardware.{NamesNoResult, NetCarries, gives, given_at}
-use Rattle.bsv_fire.specs.Grounds.{register_starts}
-use Rattle.bsv_fire.specs.Spots.{all_spots}
-use Rattle.bsv_fire.proofs.FirstNodes.{part_shown, register_start, registers_before, word_behind}
+use Rattle.bsv_ports.specs.Starts.{register_starts}
+use Rattle.bsv_ports.proofs.FirstNodes.{part_shown, register_start, registers_before, word_behind}
 use Rattle.bsv_fire.proofs.Firings.{cells_have, node_there}
-use Rattle.bsv_fire.proofs.Frame.{Scene, does, looks, TellsFiring, TellsSite}
+use Rattle.bsv_ports.proofs.Scene.{Scene, does, looks, TellsFiring, TellsSite}
 use Rattle.bsv_fire.proofs.GroundTold.{registers_within}
-use Rattle.bsv_fire.proofs.Numbers.{count_below, got_before, got_behind, number_at}
+use Rattle.bsv_ports.proofs.Numbers.{count_below, got_before, got_behind, number_at}
 use Rattle.bsv_fire.proofs.Structure.{some_same}
 use Rattle.bsv_fire.proofs.Whole.{after_is, fired_is, fires_is, inputs_have, look_is}
 use Rattle.bsv_mux.specs.Nexts.{IsNextCircuit, Told, next_words, renamed, told, with_registers}
@@ -157,7 +157,7 @@ module _ (b : Blueprint) (right : IsDesign b) (made : Schedule) (lawful : IsLawf
   unfolding next_words
   grown_registers =
       subst (λ (ns : List NetNode). Grows (with_registers c.nodes count) ns) (sym is.nodes)
-      (nexts_grow x (register_starts (length c.nodes) (kinds_of b)) (all_spots (kinds_of b) b.elements made.execution) 0 (with_registers c.nodes count) [] (kinds_of b))
+      (nexts_grow x (register_starts (length c.nodes) (kinds_of b)) (all_call_sites (kinds_of b) b.elements made.execution) 0 (with_registers c.nodes count) [] (kinds_of b))
 
   grown_nodes : Grows c.nodes e.nodes
   grown_nodes = grows_trans (record { more = behind c.nodes count; is = refl }) grown_registers
@@ -205,7 +205,7 @@ module _ (b : Blueprint) (right : IsDesign b) (made : Schedule) (lawful : IsLawf
         ∙ ap bit (fires_is T made q s together fired after clock n l)
 
     calls_told : (n : ℕ) → In made.execution n → (k : ℕ) (t : Target) → slice_get (T.uses n) k ≡ Some t
-        → (y : NetSite) × (slice_get (or_none (slice_get c.sites n)) k ≡ Some y) × (length y.args ≡ firing.arity_of (kind_at T.kinds t) t.method)
+        → (y : NetSite) × (slice_get (or_none (slice_get c.sites n)) k ≡ Some y) × (length y.args ≡ arity_of (kind_at T.kinds t) t.method)
     calls_told n i k t used =
         let found = there_is (firing.sites_of c n) k (omega (arith, promise.calls n (below n i), slice_get_within (T.uses n) k t used)) in
         (found.0, found.1, promise.arguments n k t found.0 used found.1)
@@ -275,11 +275,11 @@ module _ (b : Blueprint) (right : IsDesign b) (made : Schedule) (lawful : IsLawf
     ends_fit = (clock_fed false T made q s together (steady_scheme false T lawful)).end_fits
 
     all_told : NextsTold scene x zero_bit made.execution firing_told (λ n i m u. each_use n i m u (cases_lt n (length T.elements)))
-        (all_spots (kinds_of b) b.elements made.execution) refl (register_starts (length c.nodes) (kinds_of b)) shown_told [] (kinds_of b) (end_of T made s (does scene)) (next_words b made c)
+        (all_call_sites (kinds_of b) b.elements made.execution) refl (register_starts (length c.nodes) (kinds_of b)) shown_told [] (kinds_of b) (end_of T made s (does scene)) (next_words b made c)
     unfolding next_words
     all_told =
         nexts_told scene x zero_bit made.execution firing_told (λ n i m u. each_use n i m u (cases_lt n (length T.elements)))
-        (all_spots (kinds_of b) b.elements made.execution) refl (register_starts (length c.nodes) (kinds_of b)) shown_told (kinds_of b) (end_of T made s (does scene)) ends_fit 0
+        (all_call_sites (kinds_of b) b.elements made.execution) refl (register_starts (length c.nodes) (kinds_of b)) shown_told (kinds_of b) (end_of T made s (does scene)) ends_fit 0
         (λ j. ap (slice_get (kinds_of b)) (omega arith)) (λ j. ap (part_at (end_of T made s (does scene))) (omega arith)) (with_registers c.nodes count) []
         (subst (λ (ns : List NetNode). Grows ns e.nodes) is.nodes (record { more = []; is = sym (append-nil e.nodes) }))
 

@@ -18,7 +18,7 @@ use Rattle.bsv_net.specs.declared.node.NetNode.{NetNode}
 use Rattle.bsv_net.specs.declared.node.Site.{Site as NetSite}
 use Rattle.bsv_net.specs.Circuits.{as_node, as_nodes, is_bit, is_in_order, is_node, is_site, nexts_fit, width_fits, names, words}
 use Rattle.bsv_net.proofs.Grows.{Grows}
-use Rattle.bsv_fire.specs.Bodies.{or_none}
+use Rattle.bsv_ports.specs.CallSites.{or_none}
 use Rattle.bsv_mux.specs.Nexts.{renamed}
 
 -- ---- words
