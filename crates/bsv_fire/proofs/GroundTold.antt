@@ -34,7 +34,7 @@ use Rattle.bsv_fire.specs.Grounds.{Ground}
 use Rattle.bsv_ports.proofs.FirstNodes.{MethodsFirst, argument_at, asked_at, inputs_before, part_shown, register_start, registers_before, start_of, word_behind}
 use Rattle.bsv_ports.proofs.Scene.{Scene, S}
 use Rattle.bsv_fire.proofs.Frame.{IsGround}
-use Rattle.bsv_ports.proofs.Numbers.{count_below, got_before, got_behind, number_at}
+use Rattle.bsv_net.proofs.Numbers.{count_below, got_before, got_behind, number_at}
 
 -- ---- which node stands where
 

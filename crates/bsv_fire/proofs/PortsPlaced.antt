@@ -33,7 +33,7 @@ use Rattle.bsv_fire.proofs.Bodies.{use_of}
 use Rattle.bsv_fire.proofs.FireTold.{more_urgent, stands_below}
 use Rattle.bsv_ports.proofs.Scene.{Scene, S, TellsFiring, TellsPort, last_call}
 use Rattle.bsv_fire.proofs.Frame.{IsGround, Tells, placed_port}
-use Rattle.bsv_ports.proofs.Numbers.{number_at}
+use Rattle.bsv_net.proofs.Numbers.{number_at}
 use Rattle.bsv_fire.proofs.Setting.{length-set, set_elsewhere, set_there, there_is}
 use Rattle.bsv_fire.proofs.Steps.{one_seen, with_ports_grows, with_seen_grows}
 use Rattle.bsv_fire.proofs.Wired.{SeesPorts}

@@ -50,10 +50,11 @@ use Rattle.bsv_ports.specs.Ports.{arity_of}
 use Rattle.bsv_fire.specs.Firing.{Fires, TellsFiring, sites_of}
 use Rattle.bsv_ports.specs.Starts.{first_nodes}
 use Rattle.bsv_ports.proofs.FirstNodes.{word_is_at}
-use Rattle.bsv_fire.proofs.Firings.{scene, tells_firing, cells_have, same_words}
+use Rattle.bsv_net.proofs.WidthsFit.{cells_have}
+use Rattle.bsv_fire.proofs.Firings.{scene, tells_firing, same_words}
 use Rattle.bsv_fire.proofs.Frame.{Tells}
 use Rattle.bsv_fire.proofs.GroundTold.{register_there}
-use Rattle.bsv_ports.proofs.Numbers.{count_below, number_at}
+use Rattle.bsv_net.proofs.Numbers.{count_below, number_at}
 use Rattle.bsv_fire.proofs.Structure.{Holds, some_same}
 
 bits_set : IsSet Bits

@@ -55,12 +55,13 @@ use Rattle.bsv_fire.specs.Firing.{Fires}
 use Rattle.bsv_net.specs.Hardware.{NamesNoResult, NetCarries, gives, given_at}
 use Rattle.bsv_ports.specs.Starts.{register_starts}
 use Rattle.bsv_ports.proofs.FirstNodes.{part_shown, register_start, registers_before, word_behind}
-use Rattle.bsv_fire.proofs.Firings.{cells_have, node_there}
+use Rattle.bsv_net.proofs.WidthsFit.{cells_have, inputs_have}
+use Rattle.bsv_fire.proofs.Firings.{node_there}
 use Rattle.bsv_ports.proofs.Scene.{Scene, does, looks, TellsFiring, TellsSite}
 use Rattle.bsv_fire.proofs.GroundTold.{registers_within}
-use Rattle.bsv_ports.proofs.Numbers.{count_below, got_before, got_behind, number_at}
+use Rattle.bsv_net.proofs.Numbers.{count_below, got_before, got_behind, number_at}
 use Rattle.bsv_fire.proofs.Structure.{some_same}
-use Rattle.bsv_fire.proofs.Whole.{after_is, fired_is, fires_is, inputs_have, look_is}
+use Rattle.bsv_fire.proofs.Whole.{after_is, fired_is, fires_is, look_is}
 use Rattle.bsv_mux.specs.Nexts.{IsNextCircuit, Told, next_words, renamed, told, with_registers}
 use Rattle.bsv_mux.proofs.NextsTold.{NextsTold, nexts_grow, nexts_told, words_are}
 use Rattle.bsv_mux.proofs.Older.{Named, named, results_renamed, words_grown, words_long}

@@ -31,7 +31,7 @@ use Rattle.bsv_ports.proofs.PortTold.{port_told}
 use Rattle.bsv_mux.specs.Nexts as nexts
 use Rattle.bsv_mux.specs.Nexts.{Told, PlacedPorts}
 use Rattle.bsv_mux.proofs.PartNext.{next_signals, next_shows, or_any}
-use Rattle.bsv_mux.proofs.ShownRegisters.{shows_same, shows_more}
+use Rattle.bsv_net.proofs.ShownRegisters.{shows_same, shows_more}
 
 -- ---- lists
 

@@ -6,3 +6,6 @@ pub mod Grows
 pub mod PieceMeans
 pub mod Gates
 pub mod Hardware
+pub mod Numbers
+pub mod ShownRegisters
+pub mod WidthsFit

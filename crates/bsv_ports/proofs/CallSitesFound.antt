@@ -11,7 +11,7 @@ use Rattle.bsv_graph.specs.Edges.{numbers_below}
 use Rattle.bsv_guard.proofs.Lists.{mapped_at}
 use Rattle.bsv_ports.specs.declared.call_sites.CallSite.{CallSite}
 use Rattle.bsv_ports.specs.CallSites.{or_none, acts_in, all_call_sites, call_sites_from, call_sites_in, call_sites_of, with_call, with_calls, with_elements}
-use Rattle.bsv_ports.proofs.Numbers.{count_below, number_at}
+use Rattle.bsv_net.proofs.Numbers.{count_below, number_at}
 
 -- ---- lists of lists
 

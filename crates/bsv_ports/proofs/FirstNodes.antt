@@ -18,7 +18,7 @@ use Rattle.bsv_clock.specs.Hardware.{Shows, inputs_from}
 use Rattle.bsv_clock.specs.Clocks.{is_asked}
 use Rattle.bsv_net.specs.Placing.{node_at}
 use Rattle.bsv_ports.specs.Starts.{input_count, input_starts, register_starts}
-use Rattle.bsv_ports.proofs.Numbers.{got_before, got_behind}
+use Rattle.bsv_net.proofs.Numbers.{got_before, got_behind}
 
 -- ---- inputs
 

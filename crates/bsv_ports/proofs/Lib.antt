@@ -1,4 +1,3 @@
-pub mod Numbers
 pub mod Zeros
 pub mod FirstNodes
 pub mod Scene

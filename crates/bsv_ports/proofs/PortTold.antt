@@ -37,7 +37,7 @@ use Rattle.bsv_ports.specs.CallSites.{or_none, all_call_sites, call_sites_in, ca
 use Rattle.bsv_ports.specs.Ports.{arity_of, PlacedSoFar, at_call_sites, or_never, port, site_in}
 use Rattle.bsv_ports.proofs.Scene.{Scene, S, does, looks, TellsFiring, TellsPort, TellsSite, last_call}
 use Rattle.bsv_ports.proofs.Latest.{all_made, latest_made, latest_ranked, none_made}
-use Rattle.bsv_ports.proofs.Numbers.{number_at}
+use Rattle.bsv_net.proofs.Numbers.{number_at}
 use Rattle.bsv_ports.proofs.PortGrowth.{at_call_sites-append, at_call_sites_grows, or_never_grows}
 use Rattle.bsv_ports.proofs.CallSitesTold.{CallIsTold, TellsSoFar, calls_told}
 

@@ -32,9 +32,8 @@ use Rattle.bsv_net.specs.declared.net.Net.{Net}
 use Rattle.bsv_net.specs.AtHand.{circuit}
 use Rattle.bsv_net.specs.Circuits.{register_widths}
 use Rattle.bsv_net.specs.Hardware.{gives, WordsCarry}
-use Rattle.bsv_fire.proofs.Firings.{cells_have}
-use Rattle.bsv_ports.proofs.Numbers.{number_at}
-use Rattle.bsv_fire.proofs.Whole.{inputs_have}
+use Rattle.bsv_net.proofs.WidthsFit.{cells_have, inputs_have}
+use Rattle.bsv_net.proofs.Numbers.{number_at}
 use Rattle.bsv_vtext.specs.declared.tree.Atom.{Atom}
 use Rattle.bsv_vtext.specs.declared.tree.Atom.TheVariants as atom
 use Rattle.bsv_vtext.specs.declared.tree.Target.TheVariants as target

@@ -23,7 +23,7 @@ use Rattle.bsv_clock.specs.Runs.{Row, AllFit, Continues}
 use Rattle.bsv_clock.proofs.InTurn.{run_fits}
 use Rattle.bsv_clock.proofs.OneRun.{opening_fits}
 use Rattle.bsv_clock.proofs.Steadily.{emptied_fits}
-use Rattle.bsv_ports.proofs.Numbers.{number_at}
+use Rattle.bsv_net.proofs.Numbers.{number_at}
 use Rattle.bsv_vtext.specs.declared.tree.Atom.TheVariants as atom
 use Rattle.bsv_vtext.specs.declared.tree.VMethod.{VMethod}
 use Rattle.bsv_vtext.specs.declared.tree.VRegister.{VRegister}
