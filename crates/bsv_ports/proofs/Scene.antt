@@ -18,7 +18,6 @@ use Rattle.bsv_clock.specs.Settling.{Doing, the_clock, look_of, deeds, fires}
 use Rattle.bsv_net.specs.declared.node.NetNode.{NetNode}
 use Rattle.bsv_net.specs.declared.node.Site.{Site as NetSite}
 use Rattle.bsv_net.specs.declared.wires.MethodPort.{MethodPort}
-use Rattle.bsv_net.specs.AtHand.{placed}
 use Rattle.bsv_net.specs.Equations.{Values, Satisfies}
 use Rattle.bsv_net.specs.Placing.{node_at}
 use Rattle.bsv_ports.specs.CallSites.{or_none}

@@ -59,6 +59,9 @@ pub generate-requires-clause-registers : goal.generate-requires-clause-registers
 generate-requires-clause-registers g c =
     registers_there c.in_ok-design.design c.in_ok-schedule.schedule c.in_ok-net.net c.in_ok-net.ensures
 
+pub generate-requires-clause-inputs : goal.generate-requires-clause-inputs
+generate-requires-clause-inputs g c = c.in_ok-net.ensures.words.inputs
+
 pub returns-clause-compiled : goal.returns-clause-compiled
 returns-clause-compiled g c =
     let made = c.in_ok-design.ensures in
