@@ -18,7 +18,6 @@ use Rattle.bsv_body.specs.Bodies.{Shows, AreSites, AreNeeds, IsResult, IsBody}
 use Rattle.bsv_body.specs.Flat as nodes
 use Rattle.bsv_body.specs.Flat.{Flat, Alternative, Spot, flat, alternative, choice, step_flat, choice_flat, arm_flat, in_turn, put, stand}
 use Rattle.bsv_design.specs.Bodies.{words_behind}
-use Rattle.bsv_body.specs.Nodes.{values}
 use Rattle.bsv_body.specs.Opening.{no_nodes, arguments_from, opened, given}
 use Rattle.bsv_body.proofs.Words.{keeps_all, operand_worth, stand_more}
 use Rattle.bsv_body.proofs.StepsSame.{Holds, words, Follows, Matches, AllMatch, let_same, need_same, act_same, read_same, in_turn_same, sites_within, needs_within}

@@ -11,7 +11,7 @@ use Rattle.bsv_design.specs.declared.kind.Kind.{Kind}
 use Rattle.bsv_design.specs.declared.node.Node.TheVariants.{Constant}
 use Rattle.bsv_design.specs.declared.tree.Assert.{Assert}
 use Rattle.bsv_design.specs.declared.tree.Pair.{Pair}
-use Rattle.bsv_design.specs.Bodies.{Answers, values, words, words_behind}
+use Rattle.bsv_design.specs.Bodies.{Answers, words, words_behind}
 use Rattle.bsv_design.specs.Branches.{AreExclusive, AreSameWhereTaken, apart}
 use Rattle.bsv_design.specs.Designs.{HasWidths, IsDesign, IsDotted, IsElement, IsNamed}
 use Rattle.bsv_design.specs.Kinds.{kind_table}

@@ -1,6 +1,6 @@
 use Rattle.std.proofs.Common.{◌∙◌, ◌++◌, ◌∷◌, [], List, sym, ap, ap₂, subst}
 use Rattle.bsv_bits.specs.Words.{Bits}
-use Rattle.bsv_design.specs.Bodies.{values, node_word, words_behind}
+use Rattle.bsv_design.specs.Bodies.{node_word, words_behind}
 use Rattle.bsv_serial.specs.AtHand as hand
 use Rattle.bsv_serial.specs.Bodies.{HasOperands}
 use Rattle.bsv_serial.proofs.Computing.{values_more, operands_at}
