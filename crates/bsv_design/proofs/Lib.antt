@@ -3,3 +3,4 @@ mod Meeting
 pub mod Asked
 pub mod Named
 pub mod Dotted
+pub mod Bodies
