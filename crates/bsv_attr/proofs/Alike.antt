@@ -11,9 +11,10 @@ use Rattle.bsv_design.specs.Traces.{Trace}
 use Rattle.bsv_schedule.specs.relating.Relating.{Relating}
 use Rattle.bsv_schedule.specs.stopping.Stops.{Stops}
 use Rattle.bsv_attr.specs.Asserting.{IsExplicit, IsUnstopped, IsAccepted, NamesImplicit, NamesStopper}
-use Rattle.bsv_attr.specs.Implicit.{are_implicit, has_name, has_guard, IsFirstTrue, NoneTrue}
-use Rattle.bsv_attr.specs.Marks.{IsMarked, IsPaired}
-use Rattle.bsv_attr.specs.Obeying.{own, Obeys}
+use Rattle.bsv_design.specs.Traces.{has_name}
+use Rattle.bsv_attr.specs.Implicit.{are_implicit, has_guard, IsFirstTrue, NoneTrue}
+use Rattle.bsv_schedule.specs.relating.Marks.{IsMarked, IsPaired}
+use Rattle.bsv_clock.specs.Obeying.{own, Obeys}
 use Rattle.bsv_schedule.specs.stopping.Firing.{StopsIn}
 use Rattle.bsv_schedule.specs.relating.Elements.{relating}
 

@@ -12,7 +12,7 @@ use Rattle.bsv_attr.specs.declared.fault.AttrFault.{AttrFault}
 use Rattle.bsv_attr.specs.declared.fault.AttrFault.TheVariants.{NoImplicit, FireWhenEnabled}
 use Rattle.bsv_attr.specs.Asserting.{IsExplicit, IsUnstopped, AreExplicit, AreUnstopped, NamesImplicit, NamesStopped, IsAnswer}
 use Rattle.bsv_attr.specs.Implicit.{are_implicit, NoneTrue, IsFirstTrue}
-use Rattle.bsv_attr.specs.Marks.{IsMarkOf, IsMarked}
+use Rattle.bsv_schedule.specs.relating.Marks.{IsMarkOf, IsMarked}
 use Rattle.bsv_attr.specs.Stopping.{ListStops, NoneStops, IsFirstStopper}
 use Rattle.bsv_attr.proofs.Asserted.{implicit_never, stopped_never, implicit_one, stopped_one}
 use Rattle.bsv_attr.proofs.Stoppers.{in_cases, stopper_in}

@@ -31,8 +31,8 @@ use Rattle.bsv_graph.specs.Walks.{HasEdge}
 use Rattle.bsv_attr.specs.Asserting.{IsAccepted}
 use Rattle.bsv_attr.specs.Calling.{condition_named, call_guarded, implicit_places}
 use Rattle.bsv_attr.specs.Implicit.{NoneTrue, are_implicit}
-use Rattle.bsv_attr.specs.Marks.{IsPaired}
-use Rattle.bsv_attr.specs.Obeying.{own, Obeys}
+use Rattle.bsv_schedule.specs.relating.Marks.{IsPaired}
+use Rattle.bsv_clock.specs.Obeying.{own, Obeys}
 use Rattle.bsv_schedule.specs.stopping.Firing.{StopsIn, OthersAreStopped}
 use Rattle.bsv_schedule.specs.relating.Elements.{relating, edge_of, edges_of, is_ordering, is_urging, is_preempting, preempts}
 use Rattle.bsv_attr.specs.Stopping.{ListStops}

@@ -17,8 +17,9 @@ use Rattle.bsv_design.specs.Schemes.{design_scheme, kinds_of, trace_of, ports_of
 use Rattle.bsv_design.specs.Seen.{blueprint}
 use Rattle.bsv_design.specs.Traces.{Trace, body_trace, site_at, demand_at}
 use Rattle.bsv_attr.specs.Calling.{is_countable, condition_named, implicit_places}
-use Rattle.bsv_attr.specs.Implicit.{are_implicit, has_name, has_guard}
-use Rattle.bsv_attr.specs.Marks.{IsMarked}
+use Rattle.bsv_design.specs.Traces.{has_name}
+use Rattle.bsv_attr.specs.Implicit.{are_implicit, has_guard}
+use Rattle.bsv_schedule.specs.relating.Marks.{IsMarked}
 
 both_left : (a b : Bool) → (a && b) ≡ true → a ≡ true
 both_left true b h = refl

@@ -11,7 +11,7 @@ use Rattle.bsv_design.specs.Seen.{blueprint}
 use Rattle.bsv_attr.specs.Asserting.{IsExplicit, IsUnstopped, AreExplicit, AreUnstopped, NamesImplicit, NamesStopped}
 use Rattle.bsv_attr.specs.Calling.{implicit_places}
 use Rattle.bsv_attr.specs.Implicit.{IsFirstTrue, NoneTrue}
-use Rattle.bsv_attr.specs.Marks.{IsMarked}
+use Rattle.bsv_schedule.specs.relating.Marks.{IsMarked}
 use Rattle.bsv_attr.specs.Stopping.{IsFirstStopper}
 use Rattle.bsv_attr.proofs.Elements.{implicit_is, marked_within}
 

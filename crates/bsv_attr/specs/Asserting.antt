@@ -5,7 +5,7 @@ use Rattle.bsv_design.specs.Schemes.{Scheme}
 use Rattle.bsv_attr.specs.declared.fault.AttrFault.{AttrFault}
 use Rattle.bsv_attr.specs.declared.fault.AttrFault.TheVariants.{NoImplicit, FireWhenEnabled}
 use Rattle.bsv_attr.specs.Implicit.{are_implicit, IsFirstTrue, NoneTrue}
-use Rattle.bsv_attr.specs.Marks.{IsMarked}
+use Rattle.bsv_schedule.specs.relating.Marks.{IsMarked}
 use Rattle.bsv_attr.specs.Stopping.{NoneStops, IsFirstStopper}
 
 -- where n is marked with `no_implicit_conditions`, nothing of it is implicit

@@ -1,19 +1,15 @@
 -- The implicit conditions of an element (Bluespec reference guide, "Implicit conditions"): the conditions of methods of
 -- modules, and calls of methods of primitives that have a guard.
-use Rattle.std.specs.Prelude.{◌≡◌, ℕ, ◌<◌, Bool, true, List, [], ◌++◌, map, slice_get, Some, is_some}
+use Rattle.std.specs.Prelude.{◌≡◌, ℕ, ◌<◌, Bool, true, List, [], ◌++◌, map, slice_get, Some}
 use Rattle.bsv_design.specs.declared.kind.Kind.{Kind}
 use Rattle.bsv_design.specs.Guards.{is_guarded}
 use Rattle.bsv_design.specs.Relations.{no_answers, sites_of}
 use Rattle.bsv_design.specs.Schemes.{Scheme, filled, ports_of}
-use Rattle.bsv_design.specs.Traces.{Site, Demand, kind_at}
+use Rattle.bsv_design.specs.Traces.{Site, Demand, has_name, kind_at}
 
 -- the conditions of an element are the same in every run, but for whether they hold
 abbrev pub demands_of : Scheme → ℕ → List Demand
 demands_of S n = (S.trace n no_answers (filled (ports_of (slice_get S.elements n)) [])).demands
-
--- it is that of a method of a module, which alone has a name
-abbrev pub has_name : Demand → Bool
-has_name x = is_some x.name
 
 abbrev pub has_guard : List Kind → Site → Bool
 has_guard ks c = is_guarded (kind_at ks c.target) c.target.method

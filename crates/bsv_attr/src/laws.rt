@@ -1,7 +1,7 @@
 ghost use Rattle.std.specs.Prelude.{◌≡◌, ◌↔◌, ℕ, Result};
 ghost use Rattle.bsv_attr.specs.declared.fault.AttrFault.{AttrFault};
 ghost use Rattle.bsv_attr.specs.Asserting.{IsAccepted, IsAnswer, NamesImplicit, NamesStopper};
-ghost use Rattle.bsv_attr.specs.Obeying.{Obeys};
+ghost use Rattle.bsv_clock.specs.Obeying.{Obeys};
 ghost use Rattle.bsv_schedule.specs.relating.Elements.{relating};
 ghost use Rattle.bsv_attr.specs.Stopping.{ListStops};
 ghost use Rattle.bsv_design.specs.declared.schedule.Schedule.{Schedule};

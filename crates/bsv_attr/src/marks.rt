@@ -1,5 +1,5 @@
 ghost use Rattle.std.specs.Prelude.{◌↔◌, IsTrue};
-ghost use Rattle.bsv_attr.specs.Marks.{IsMarked};
+ghost use Rattle.bsv_schedule.specs.relating.Marks.{IsMarked};
 
 use bsv_design::Assert;
 

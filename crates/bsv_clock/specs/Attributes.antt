@@ -4,7 +4,7 @@ use Rattle.bsv_prim.specs.declared.part.Part.{Part}
 use Rattle.bsv_design.specs.declared.tree.Attribute.TheVariants as attribute
 use Rattle.bsv_design.specs.Schemes.{Scheme, Asking}
 use Rattle.bsv_graph.specs.Orders.{In}
-use Rattle.bsv_attr.specs.Marks.{IsMarked, IsPaired}
+use Rattle.bsv_schedule.specs.relating.Marks.{IsMarked, IsPaired}
 use Rattle.bsv_clock.specs.Clocks.{is_candidate}
 
 pub record ObeysInClock (aggressive : Bool) (S : Scheme) (q : Asking) (s : List Part) (fired : List ℕ) : Type 0 where

@@ -1,6 +1,6 @@
 ghost use Rattle.std.specs.Prelude.{◌≡◌, ℕ, Bool, List};
 ghost use Rattle.bsv_bits.specs.Words.{Bits};
-ghost use Rattle.bsv_attr.specs.Obeying.{Obeys};
+ghost use Rattle.bsv_clock.specs.Obeying.{Obeys};
 ghost use Rattle.bsv_design.specs.Seen.{blueprint};
 ghost use Rattle.bsv_design.specs.declared.design.Design.{Design as TheDesign};
 ghost use Rattle.bsv_design.specs.Schemes.{Scheme, Asking, AreAlike, design_scheme};

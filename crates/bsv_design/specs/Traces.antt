@@ -1,6 +1,6 @@
 -- What an element does, with a word for each call of a value method: its trace. It is the same thing of an element as it
 -- stands in the text and of its flat body (Bluespec reference guide, "Rules", "Implicit conditions").
-use Rattle.std.specs.Prelude.{ℕ, zero, suc, ◌+◌, Bool, true, false, List, [], ◌∷◌, ◌++◌, map, codes, slice_get, Option, Some, None, option_map}
+use Rattle.std.specs.Prelude.{ℕ, zero, suc, ◌+◌, Bool, true, false, List, [], ◌∷◌, ◌++◌, map, codes, slice_get, Option, Some, None, option_map, is_some}
 use Rattle.bsv_bits.specs.Words.{Bits}
 use Rattle.bsv_types.specs.declared.modules.Method.{Method}
 use Rattle.bsv_types.specs.declared.modules.Module.{Module}
@@ -35,6 +35,10 @@ pub record Demand : Type 0 where
   pub name : Option (List ℕ)
   pub holds : Bool
   pub taken : Bool
+
+-- it is the condition of a user method, which alone has a name
+abbrev pub has_name : Demand → Bool
+has_name x = is_some x.name
 
 -- the calls and the conditions in text order, and what the element gives
 pub record Trace : Type 0 where

@@ -40,7 +40,7 @@ use Rattle.bsv_schedule.specs.declared.urging.fault.UrgencyFault.{UrgencyFault}
 use Rattle.bsv_schedule.specs.declared.urging.fault.UrgencyFault.TheVariants as urgency
 use Rattle.bsv_attr.specs.Asserting.{IsAccepted, NamesImplicit, NamesStopper}
 use Rattle.bsv_attr.specs.Implicit.{demands_of}
-use Rattle.bsv_attr.specs.Obeying.{Obeys}
+use Rattle.bsv_clock.specs.Obeying.{Obeys}
 use Rattle.bsv_attr.proofs.Alike as marks
 use Rattle.bsv_attr.proofs.Attributes.{obeys}
 use Rattle.bsv_schedule.proofs.OrderLaws.{ordering_before, urging_stands}

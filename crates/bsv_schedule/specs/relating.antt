@@ -5,3 +5,4 @@ pub mod Relations
 pub mod Related
 pub mod Grouping
 pub mod Uses
+pub mod Marks

@@ -4,11 +4,10 @@ use Rattle.std.specs.Prelude.{◌≡◌, ℕ, Bool, true, false, not, List, filt
 use Rattle.bsv_design.specs.declared.schedule.Schedule.{Schedule}
 use Rattle.bsv_design.specs.declared.tree.Attribute.TheVariants as attribute
 use Rattle.bsv_design.specs.Schemes.{Scheme, Asking, Look, ready, seen, all_hold}
-use Rattle.bsv_design.specs.Traces.{Demand}
+use Rattle.bsv_design.specs.Traces.{Demand, has_name}
 use Rattle.bsv_graph.specs.Orders.{In, StandsBefore}
 use Rattle.bsv_schedule.specs.stopping.Firing.{NoMemberStops, OthersAreStopped}
-use Rattle.bsv_attr.specs.Implicit.{has_name}
-use Rattle.bsv_attr.specs.Marks.{IsMarked, IsPaired}
+use Rattle.bsv_schedule.specs.relating.Marks.{IsMarked, IsPaired}
 
 -- the conditions that are the element's own, and of no method of a module
 abbrev pub own : List Demand → List Demand
