@@ -1,3 +1,4 @@
 pub mod Depths
 pub mod Names
+pub mod Packages
 pub mod Spans

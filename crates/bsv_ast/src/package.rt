@@ -1,4 +1,5 @@
 ghost use Rattle.std.specs.Prelude.{◌≡◌};
+ghost use Rattle.bsv_ast.specs.Packages.{items_of};
 ghost use Rattle.bsv_ast.specs.Spans.{typedef_span, item_span, package_span};
 
 use crate::modules::{Body, Module, Param};
@@ -81,6 +82,17 @@ pub enum Package {
     Named(Span, Ident, Items<Item>),
     /// `{ item }`
     Bare(Span, Items<Item>),
+}
+
+impl Package {
+    /// What the package defines and imports.
+    pub fn items(&self) -> &Items<Item>
+        ensures { result.now ≡ items_of self.now }
+    {
+        match self {
+            Package::Named(_, _, items) | Package::Bare(_, items) => items,
+        }
+    }
 }
 
 impl Typedef {

@@ -1,4 +1,5 @@
 pub mod Constants
+pub mod DigitValues
 pub mod Operators
 pub mod Signed
 pub mod Words

@@ -20,7 +20,7 @@ use Rattle.bsv_types.specs.Methods.{param_kinds}
 use Rattle.bsv_types.specs.Names.{distinct}
 use Rattle.bsv_types.specs.Modules as rules
 use Rattle.bsv_types.specs.Programs.{call_of}
-use Rattle.bsv_names.specs.PackageEvents.{items_of}
+use Rattle.bsv_ast.specs.Packages.{items_of}
 use Rattle.bsv_statements.specs.Bodies.{Or, ◌>=>◌, at}
 use Rattle.bsv_typing.proofs.Bound.{some_is}
 use Rattle.bsv_statements.proofs.RightCalls.{ok_is, went, there_is}

@@ -27,7 +27,7 @@ use Rattle.bsv_types.specs.Expressions.{World, one, label_count}
 use Rattle.bsv_types.specs.Modules as rules
 use Rattle.bsv_types.specs.Programs.{each_at, enum_right, struct_right, interface_right, method_header_right, shapes_right, names_right, begins_empty, all_countable, call_of, function_right, is_right}
 use Rattle.bsv_types.proofs.Same.{both}
-use Rattle.bsv_names.specs.PackageEvents.{items_of}
+use Rattle.bsv_ast.specs.Packages.{items_of}
 use Rattle.bsv_context.specs.Env.{in_reach, is_typed_value}
 use Rattle.bsv_typing.specs.Laws.{slot_right, FitsWorld}
 use Rattle.bsv_statements.specs.Bodies.{Or, ◌>=>◌}

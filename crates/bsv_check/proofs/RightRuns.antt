@@ -5,7 +5,7 @@ use Rattle.bsv_ast.specs.declared.modules.Module.{Module as WrittenModule}
 use Rattle.bsv_ast.specs.declared.package.Item.{Item}
 use Rattle.bsv_ast.specs.declared.package.Item.TheVariants as item
 use Rattle.bsv_ast.specs.declared.package.Package.{Package}
-use Rattle.bsv_names.specs.PackageEvents.{items_of}
+use Rattle.bsv_ast.specs.Packages.{items_of}
 use Rattle.bsv_statements.specs.Bodies.{Or}
 use Rattle.bsv_statements.proofs.RightCalls.{ok_is, went, there_is}
 use Rattle.bsv_modules.specs.Programs.{Program, added, function_entry, with_function, module_entry, with_module}

@@ -10,7 +10,8 @@ use Rattle.bsv_ast.specs.declared.package.Package.{Package}
 use Rattle.bsv_scopes.specs.Scopes.{Entries, is_listed, found, with_new}
 use Rattle.bsv_names.specs.declared.place.Place.{Place}
 use Rattle.bsv_names.specs.Faults.{in_package}
-use Rattle.bsv_names.specs.PackageEvents.{items_of, item_events}
+use Rattle.bsv_ast.specs.Packages.{items_of}
+use Rattle.bsv_names.specs.PackageEvents.{item_events}
 use Rattle.bsv_names.specs.Untyped.{Untyped, all_typed, with_untyped, with_functions, item_leans, header_leans, with_params}
 use Rattle.bsv_types.specs.Kinds.{Kind}
 use Rattle.bsv_types.specs.Methods.{value}

@@ -10,7 +10,7 @@ use Rattle.bsv_types.specs.declared.definitions.Struct.{Struct}
 use Rattle.bsv_types.specs.declared.definitions.Interface.{Interface}
 use Rattle.bsv_types.specs.declared.definitions.Function.{Function}
 use Rattle.bsv_types.specs.declared.modules.Module.{Module}
-use Rattle.bsv_names.specs.PackageEvents.{items_of}
+use Rattle.bsv_ast.specs.Packages.{items_of}
 use Rattle.bsv_names.specs.Faults.{first_twice, first_unknown}
 use Rattle.bsv_names.specs.Attributes.{first_bad_attribute}
 use Rattle.bsv_names.specs.declared.place.Place.{Place}

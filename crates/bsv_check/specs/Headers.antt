@@ -3,7 +3,7 @@ use Rattle.std.specs.Prelude.{ℕ, Bool, List, [], ◌∷◌, Result, Ok, Err}
 use Rattle.bsv_ast.specs.declared.package.Item.{Item}
 use Rattle.bsv_ast.specs.declared.package.Item.TheVariants as item
 use Rattle.bsv_ast.specs.declared.package.Package.{Package}
-use Rattle.bsv_names.specs.PackageEvents.{items_of}
+use Rattle.bsv_ast.specs.Packages.{items_of}
 use Rattle.bsv_names.specs.Faults.{in_package}
 use Rattle.bsv_names.specs.declared.place.Place.{Place}
 use Rattle.bsv_statements.specs.Bodies.{Or}

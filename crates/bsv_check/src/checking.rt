@@ -10,7 +10,7 @@ ghost use Rattle.bsv_check.specs.Seen.{Answers, GivesPlace, blame_of, Refuses, S
 use crate::blame::{Blame, earlier};
 use crate::counted::is_counted;
 use crate::fault::CheckFault;
-use crate::headings::{Headings, items_of, read_headings};
+use crate::headings::{Headings, read_headings};
 use crate::judged::judge_packages;
 use crate::law::programs_are_right;
 use bsv_ast::{Function as WrittenFunction, Item, Module as WrittenModule, Package};
@@ -141,7 +141,7 @@ fn add_package(
         (spec.package_step (program_of program.old) number «package».now (done_of done.old)) }
     ensures kept { program_of program.new ≡ program_of program.old }
 {
-    match add_items(alloc, program, done, items_of(package)) {
+    match add_items(alloc, program, done, package.items().as_slice()) {
         Ok(()) => Ok(()),
         Err(BodyFail::Memory) => Err(PlaceFail::Memory),
         Err(BodyFail::At(span)) => Err(PlaceFail::At(Place {

@@ -7,7 +7,6 @@ ghost use Rattle.bsv_check.specs.Headers as spec;
 ghost use Rattle.bsv_modules.specs.Programs as programs;
 ghost use Rattle.bsv_modules.specs.Seen.{KeptAt, program_of, seen_by, types_of};
 ghost use Rattle.bsv_check.specs.Seen.{blame_of};
-ghost use Rattle.bsv_names.specs.PackageEvents as listed;
 
 use crate::blame::Blame;
 use bsv_ast::{Item, Package};
@@ -24,15 +23,6 @@ use std::alloc::Global;
 pub(crate) struct Headings {
     pub(crate) program: Program,
     pub(crate) blame: Blame,
-}
-
-/// The items of a package.
-pub(crate) fn items_of(package: &Package) -> &[Item]
-    ensures { result.now ≡ listed.items_of «package».now }
-{
-    match package {
-        Package::Named(_, _, items) | Package::Bare(_, items) => items.as_slice(),
-    }
 }
 
 /// `Empty`, which has no methods.
@@ -138,7 +128,7 @@ fn all_types(
     let mut number: u32 = 0;
     let mut rest = packages;
     while let Some((package, after)) = rest.split_first() {
-        add_types(alloc, number, context, blame, items_of(package))?;
+        add_types(alloc, number, context, blame, package.items().as_slice())?;
         number = number.checked_add(1).ok_or(OutOfMemory)?;
         rest = after;
     }
@@ -221,7 +211,7 @@ fn all_headings(
     let mut number: u32 = 0;
     let mut rest = packages;
     while let Some((package, after)) = rest.split_first() {
-        add_headings(alloc, number, program, blame, items_of(package))?;
+        add_headings(alloc, number, program, blame, package.items().as_slice())?;
         number = number.checked_add(1).ok_or(OutOfMemory)?;
         rest = after;
     }

@@ -10,7 +10,6 @@ ghost use Rattle.bsv_check.specs.Seen.{GivesPlace, blame_of};
 
 use crate::blame::Blame;
 use crate::checking::PlaceFail;
-use crate::headings::items_of;
 use crate::judged_modules::{ModuleJudge, judge_body};
 use bsv_ast::{Function as WrittenFunction, Item, Module as WrittenModule, Package};
 use bsv_bits::{Name, OutOfMemory};
@@ -207,7 +206,7 @@ fn judge_package(
         (spec.package_judged (program_of program.old) (blame_of blame.now) number «package».now) }
     ensures kept { program_of program.new ≡ program_of program.old }
 {
-    match judge_items(alloc, program, blame, items_of(package)) {
+    match judge_items(alloc, program, blame, package.items().as_slice()) {
         Ok(()) => Ok(()),
         Err(BodyFail::Memory) => Err(PlaceFail::Memory),
         Err(BodyFail::At(span)) => Err(PlaceFail::At(Place {

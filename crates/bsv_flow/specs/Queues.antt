@@ -5,7 +5,7 @@ use Rattle.std.specs.Str.{bytes_eq}
 use Rattle.bsv_ast.specs.declared.package.Item.{Item}
 use Rattle.bsv_ast.specs.declared.package.Item.TheVariants as item
 use Rattle.bsv_ast.specs.declared.package.Package.{Package}
-use Rattle.bsv_ast.specs.declared.package.Package.TheVariants as whole
+use Rattle.bsv_ast.specs.Packages.{items_of}
 
 abbrev pub is_slash : ℕ → Bool
 is_slash b = b == 47
@@ -39,10 +39,6 @@ with_item first queue (item.Module s x) = queue
 abbrev pub with_items : List ℕ → List (List ℕ) → List Item → List (List ℕ)
 with_items first queue [] = queue
 with_items first queue (x ∷ xs) = with_items first (with_item first queue x) xs
-
-abbrev pub items_of : Package → List Item
-items_of (whole.Named s name items) = items
-items_of (whole.Bare s items) = items
 
 -- the files with those that the package imports
 abbrev pub with_imports : List ℕ → List (List ℕ) → Package → List (List ℕ)

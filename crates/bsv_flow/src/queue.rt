@@ -82,15 +82,6 @@ fn with_item(
     Ok(with_file(queue, file)?)
 }
 
-/// The items of a package.
-fn items_of(whole: &Package) -> &Items<Item>
-    ensures { result.now ≡ spec.items_of whole.now }
-{
-    match whole {
-        Package::Named(_, _, items) | Package::Bare(_, items) => items,
-    }
-}
-
 /// The limit that imports pass which name one package too many.
 fn too_many(alloc: Global) -> CompileFault
     ensures refused { (r : TheRefusal) → result ≡ Refused r
@@ -119,7 +110,7 @@ pub(crate) fn with_imports(
     ensures own { (name : List ℕ) → result ≡ Err (ReadFault name) → ⊥ }
 {
     let mut queue = queue;
-    for item in items_of(whole).as_slice() {
+    for item in whole.items().as_slice() {
         queue = with_item(alloc, first, queue, item)?;
         if queue.len() > MAX_PACKAGES {
             return Err(too_many(alloc));

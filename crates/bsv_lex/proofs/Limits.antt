@@ -7,7 +7,8 @@ use Rattle.std.proofs.lemmas.Bool.Decides.{nat_tests}
 use Rattle.bsv_ast.specs.declared.text.Base.{Base}
 use Rattle.bsv_ast.specs.declared.text.Literal.{Literal}
 use Rattle.bsv_lex.specs.Bytes.{is_decimal, first_is}
-use Rattle.bsv_lex.specs.Numbers.{base_of, radix, radix_of, value_of, unsized, sized, is_digits, with_size, based, in_parts, literal, IsFitting}
+use Rattle.bsv_bits.specs.DigitValues.{value_of}
+use Rattle.bsv_lex.specs.Numbers.{base_of, radix, radix_of, unsized, sized, is_digits, with_size, based, in_parts, literal, IsFitting}
 
 abbrev pub Fits : Option Literal → Type 0
 Fits o = IfSome o (λ number. IsFitting number.size number.value)

@@ -1,10 +1,11 @@
 -- What a number says: its value, its base and its size (Bluespec reference guide, "Integer literals").
-use Rattle.std.specs.Prelude.{ℕ, ◌+◌, ◌-◌, ◌*◌, ◌^◌, ◌<◌, ◌≤◌, Bool, ◌&&◌, ◌||◌, ◌==◌, nat_le, nat_lt, if◌then◌else◌, List, [], ◌∷◌, take, drop, Option, Some, None}
+use Rattle.std.specs.Prelude.{ℕ, ◌^◌, ◌<◌, ◌≤◌, Bool, ◌&&◌, ◌||◌, ◌==◌, nat_le, nat_lt, if◌then◌else◌, List, [], ◌∷◌, take, drop, Option, Some, None}
 use Rattle.std.specs.Char.{is_ascii_digit, is_ascii_hexdigit}
 use Rattle.std.specs.List.{list_all, prefix_len}
 use Rattle.bsv_ast.specs.declared.text.Base.{Base}
 use Rattle.bsv_ast.specs.declared.text.Base.TheVariants.{Binary, Octal, Decimal, Hexadecimal}
 use Rattle.bsv_ast.specs.declared.text.Literal.{Literal}
+use Rattle.bsv_bits.specs.DigitValues.{value_of}
 use Rattle.bsv_lex.specs.Bytes.{is_decimal, first_is}
 
 -- the base that a letter names, in either case
@@ -38,23 +39,6 @@ is_digit_of Hexadecimal b = is_ascii_hexdigit b
 -- a digit of the base or `_`
 abbrev pub continues : Base → ℕ → Bool
 continues base b = is_digit_of base b || b == 95
-
--- the value of a digit, a letter in either case
-abbrev pub digit_value : ℕ → ℕ
-digit_value b = if nat_le b 57 then b - 48 else (if nat_le b 70 then b - 55 else b - 87)
-
--- a number with one more digit behind it, where `_` counts for nothing
-abbrev pub with_digit : ℕ → ℕ → ℕ → ℕ
-with_digit base number b = if b == 95 then number else number * base + digit_value b
-
--- a number with more digits behind it
-abbrev pub value_from : ℕ → ℕ → List ℕ → ℕ
-value_from base number [] = number
-value_from base number (b ∷ digits) = value_from base (with_digit base number b) digits
-
--- the number that digits are
-unfoldable pub value_of : ℕ → List ℕ → ℕ
-value_of base digits = value_from base 0 digits
 
 -- without a size, a value is below 2^128
 abbrev pub unsized : Option Base → ℕ → Option Literal

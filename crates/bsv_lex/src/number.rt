@@ -1,9 +1,11 @@
 ghost use Rattle.std.specs.Prelude.{◌≡◌, ◌^◌, ◌≤◌, ◌&&◌, length, nat_lt, nat_le, if◌then◌else◌, IfSome};
 ghost use Rattle.std.specs.List.{list_all, prefix_len};
+ghost use Rattle.bsv_bits.specs.DigitValues as digits_spec;
 ghost use Rattle.bsv_lex.specs.Bytes as bytes_spec;
 ghost use Rattle.bsv_lex.specs.Numbers as spec;
 
 use bsv_ast::{Base, Literal};
+use bsv_bits::value_of;
 
 /// The base that a letter names, in either case.
 pub(crate) fn base_of(letter: u8) -> Option<Base>
@@ -61,52 +63,6 @@ pub(crate) fn decimal_len(bytes: &[u8]) -> usize
     bytes.iter().take_while(|b| is_decimal(**b)).count()
 }
 
-/// The value of a digit, a letter in either case.
-fn digit_value(b: u8) -> u128
-    ensures { result ≡ spec.digit_value b }
-{
-    if b <= b'9' {
-        u128::from(b.saturating_sub(b'0'))
-    } else if b <= b'F' {
-        u128::from(b.saturating_sub(b'A' - 10))
-    } else {
-        u128::from(b.saturating_sub(b'a' - 10))
-    }
-}
-
-/// A number with one more digit behind it, where that is below 2^128.
-fn with_digit(base: u128, number: u128, b: u8) -> Option<u128>
-    requires { base ≤ 16 }
-    ensures { let more = spec.with_digit base number b in result
-        ≡ (if nat_lt more (2 ^ 128) then Some more else None) }
-{
-    if b == b'_' {
-        Some(number)
-    } else {
-        number.checked_mul(base)?.checked_add(digit_value(b))
-    }
-}
-
-/// The number that digits are, where that is below 2^128.
-#[tactic(auto, unfolding(crate::specs::Numbers::value_of))]
-fn value_of(base: u128, digits: &[u8]) -> Option<u128>
-    requires some { 1 ≤ base }
-    requires most { base ≤ 16 }
-    ensures { let value = spec.value_of base digits.now in result
-        ≡ (if nat_lt value (2 ^ 128) then Some value else None) }
-{
-    let mut value = 0;
-    let mut rest = digits;
-    while let [b, more @ ..] = rest {
-        match with_digit(base, value, *b) {
-            None => return None,
-            Some(number) => value = number,
-        }
-        rest = more;
-    }
-    Some(value)
-}
-
 /// Whether a value has at most so many bits.
 fn is_below(value: u128, size: u32) -> bool
     requires { size ≤ 128 }
@@ -137,7 +93,7 @@ fn is_digits(base: Base, digits: &[u8]) -> bool
 }
 
 fn unsized_literal(base: Option<Base>, digits: &[u8]) -> Option<Literal>
-    ensures { result ≡ spec.unsized base (spec.value_of (spec.radix_of base) digits.now) }
+    ensures { result ≡ spec.unsized base (digits_spec.value_of (spec.radix_of base) digits.now) }
 {
     let value = value_of(base.map_or(10, radix), digits)?;
     Some(Literal {
@@ -149,7 +105,7 @@ fn unsized_literal(base: Option<Base>, digits: &[u8]) -> Option<Literal>
 
 /// A size in decimal, where it is 1 to 128.
 fn size_of(digits: &[u8]) -> Option<u32>
-    ensures { let size = spec.value_of 10 digits.now in result
+    ensures { let size = digits_spec.value_of 10 digits.now in result
         ≡ (if nat_le 1 size && nat_le size 128 then Some size else None) }
 {
     let size = value_of(10, digits)?;
@@ -178,8 +134,8 @@ fn fitting(size: u32, base: Base, value: u128) -> Option<Literal>
 }
 
 fn sized_literal(size: &[u8], base: Base, digits: &[u8]) -> Option<Literal>
-    ensures { result ≡ spec.sized base (spec.value_of 10 size.now)
-        (spec.value_of (spec.radix base) digits.now) }
+    ensures { result ≡ spec.sized base (digits_spec.value_of 10 size.now)
+        (digits_spec.value_of (spec.radix base) digits.now) }
 {
     let Some(size) = size_of(size) else {
         return None;

@@ -11,7 +11,7 @@ use Rattle.bsv_ast.specs.declared.package.Function.{Function}
 use Rattle.bsv_ast.specs.declared.package.Item.{Item}
 use Rattle.bsv_ast.specs.declared.package.Item.TheVariants as item
 use Rattle.bsv_ast.specs.declared.package.Package.{Package}
-use Rattle.bsv_ast.specs.declared.package.Package.TheVariants as whole
+use Rattle.bsv_ast.specs.Packages.{items_of}
 use Rattle.bsv_scopes.specs.declared.definitions.Space.TheVariants.{Types, Labels, Functions, Modules}
 use Rattle.bsv_names.specs.declared.event.Event.{Event}
 use Rattle.bsv_names.specs.Events.{defined, variable, joined, scope}
@@ -61,10 +61,6 @@ item_events (item.Typedef s x) = typedef_events x
 item_events (item.Interface s x) = interface_events x
 item_events (item.Function s x) = function_events x
 item_events (item.Module s x) = module_events x
-
-abbrev pub items_of : Package → List Item
-items_of (whole.Named s name items) = items
-items_of (whole.Bare s items) = items
 
 abbrev pub package_events : Package → List Event
 package_events p = joined (map item_events (items_of p))

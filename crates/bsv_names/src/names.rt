@@ -10,7 +10,7 @@ ghost use Rattle.bsv_names.specs.Unknown.{used_unknown, after_packages};
 ghost use Rattle.bsv_names.specs.Unknown as unknown_spec;
 
 use crate::event::Event;
-use crate::package_events::{item_events, items_of};
+use crate::package_events::item_events;
 use crate::place::Place;
 use bsv_ast::{Package, Span};
 use bsv_bits::{Name, OutOfMemory};
@@ -163,7 +163,7 @@ impl Names {
             ≡ after_all (known self.old) (package_events «package».now)) }
     {
         let mut first = None;
-        let mut rest = items_of(package).as_slice();
+        let mut rest = package.items().as_slice();
         while let Some((item, after)) = rest.split_first() {
             let events = item_events(alloc, item)?;
             let fault = self.over_events(alloc, pass, events.as_slice())?;

@@ -4,9 +4,7 @@ ghost use Rattle.bsv_names.specs.PackageEvents as spec;
 use crate::event::{Event, define, define_variable};
 use crate::expression_events::type_events;
 use crate::module_events::{body_events, module_stmts_events, param_types, param_variables};
-use bsv_ast::{
-    Field, Function, Ident, Interface, Item, Items, MethodHeader, Module, Package, Typedef,
-};
+use bsv_ast::{Field, Function, Ident, Interface, Item, Items, MethodHeader, Module, Typedef};
 use bsv_bits::OutOfMemory;
 use bsv_scopes::Space;
 use std::alloc::Global;
@@ -169,13 +167,4 @@ pub(crate) fn item_events(alloc: Global, item: &Item) -> Result<Items<Event>, Ou
         Item::Module(_, module) => module_events(alloc, module, &mut found)?,
     }
     Ok(found)
-}
-
-/// What a package defines.
-pub(crate) fn items_of(package: &Package) -> &Items<Item>
-    ensures { result.now ≡ spec.items_of «package».now }
-{
-    match package {
-        Package::Named(_, _, items) | Package::Bare(_, items) => items,
-    }
 }

@@ -5,7 +5,7 @@ use Rattle.std.proofs.lemmas.Bool.Decides.{nat_tests}
 use Rattle.std.specs.Prelude.{IsSome, IfSome}
 use Rattle.bsv_bits.specs.Words.{Bits, IsWord}
 use Rattle.bsv_trace.specs.declared.number.Base.{Base}
-use Rattle.bsv_trace.specs.Numbers.{value_of}
+use Rattle.bsv_bits.specs.DigitValues.{value_of}
 use Rattle.bsv_trace.specs.Reading.{fitting, radix, word_of}
 
 abbrev word : ℕ → ℕ → Bits

@@ -11,4 +11,3 @@ pub mod QueueTexts
 pub mod Readable
 pub mod Sound
 pub mod Turns
-pub mod Values

@@ -12,7 +12,8 @@ use Rattle.bsv_design.specs.Schemes.{Asking, Outline, ports_of}
 use Rattle.bsv_trace.specs.declared.number.Base.{Base}
 use Rattle.bsv_trace.specs.declared.number.Base.TheVariants as base
 use Rattle.bsv_trace.specs.Lines.{IsArgument, AreArguments, MethodCall, IsCall, AreCalls, in_name, asked_with, asked_with_all}
-use Rattle.bsv_trace.specs.Numbers.{IsNumber, decimal, hexadecimal, value_of}
+use Rattle.bsv_bits.specs.DigitValues.{value_of}
+use Rattle.bsv_trace.specs.Numbers.{IsNumber, decimal, hexadecimal}
 use Rattle.bsv_trace.specs.Reading as spec
 use Rattle.bsv_trace.specs.Reading.{HasPlaces, radix, is_digit, fitting, word_of, with_rest, digits, argument}
 use Rattle.bsv_trace.proofs.Places.{words_at, length_args, with_call}

@@ -12,7 +12,7 @@ use Rattle.bsv_design.specs.Widths.{port_fits}
 use Rattle.bsv_trace.specs.declared.number.Base.{Base}
 use Rattle.bsv_trace.specs.declared.number.Base.TheVariants as base
 use Rattle.bsv_trace.specs.Lines.{in_name, asked_with}
-use Rattle.bsv_trace.specs.Numbers.{value_of}
+use Rattle.bsv_bits.specs.DigitValues.{value_of}
 
 -- ---- answers
 

@@ -1,9 +1,8 @@
-ghost use Rattle.std.specs.Prelude.{◌≡◌, ◌+◌, ◌*◌, ◌^◌, ◌≤◌, length, nat_lt, if◌then◌else◌};
+ghost use Rattle.std.specs.Prelude.{◌≡◌, ◌≤◌, length};
 ghost use Rattle.std.specs.List.{prefix_len};
-ghost use Rattle.bsv_trace.specs.Numbers as numbers;
 ghost use Rattle.bsv_trace.specs.Reading as spec;
 
-use bsv_bits::Word;
+use bsv_bits::{Word, value_of};
 
 /// How the digits of an argument are read.
 #[derive(Clone, Copy)]
@@ -40,48 +39,6 @@ fn digits_len(base: Base, bytes: &[u8]) -> usize
     ensures within { result ≤ length bytes.now }
 {
     bytes.iter().take_while(|b| base.has_digit(**b)).count()
-}
-
-/// The value of a digit, a letter in either case.
-fn digit_value(b: u8) -> u128
-    ensures { result ≡ numbers.digit_value b }
-{
-    if b <= b'9' {
-        u128::from(b.saturating_sub(b'0'))
-    } else if b <= b'F' {
-        u128::from(b.saturating_sub(b'A' - 10))
-    } else {
-        u128::from(b.saturating_sub(b'a' - 10))
-    }
-}
-
-/// A number with one more digit behind it, where that is below 2^128.
-fn with_digit(radix: u128, number: u128, b: u8) -> Option<u128>
-    requires { radix ≤ 16 }
-    ensures { let more = number * radix + numbers.digit_value b in result
-        ≡ (if nat_lt more (2 ^ 128) then Some more else None) }
-{
-    number.checked_mul(radix)?.checked_add(digit_value(b))
-}
-
-/// The number that digits are, where that is below 2^128.
-#[tactic(auto, unfolding(crate::specs::Numbers::value_of))]
-fn value_of(radix: u128, digits: &[u8]) -> Option<u128>
-    requires some { 1 ≤ radix }
-    requires most { radix ≤ 16 }
-    ensures { let value = numbers.value_of radix digits.now in result
-        ≡ (if nat_lt value (2 ^ 128) then Some value else None) }
-{
-    let mut value = 0;
-    let mut rest = digits;
-    while let [b, more @ ..] = rest {
-        match with_digit(radix, value, *b) {
-            None => return None,
-            Some(number) => value = number,
-        }
-        rest = more;
-    }
-    Some(value)
 }
 
 /// The word of so many bits with this value, where they can hold it.

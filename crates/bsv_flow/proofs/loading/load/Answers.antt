@@ -4,7 +4,7 @@ use Rattle.bsv_flow.specs.declared.refusal.CompileFault.{CompileFault}
 use Rattle.bsv_flow.specs.declared.refusal.CompileFault.TheVariants as fault
 use Rattle.bsv_flow.specs.Loads.{Loads, Refuses}
 use Rattle.std.proofs.lemmas.Option.{slice_get_within}
-use Rattle.bsv_flow.specs.Queues.{items_of}
+use Rattle.bsv_ast.specs.Packages.{items_of}
 use Rattle.bsv_flow.specs.Sources.{read_limit}
 use Rattle.bsv_flow.specs.Yields.{Yields}
 use Rattle.bsv_flow.proofs.Decided.{next_sources}

@@ -1,5 +1,6 @@
 use Rattle.std.proofs.Common.{◌≡◌, None, subst}
-use Rattle.bsv_lex.specs.Numbers.{sized, value_of}
+use Rattle.bsv_bits.specs.DigitValues.{value_of}
+use Rattle.bsv_lex.specs.Numbers.{sized}
 use Rattle.bsv_lex.proofs.Values.{sized-none}
 use Rattle.bsv_lex.proofs.number.sized_literal.Goals as goal
 

@@ -1,5 +1,5 @@
-use Rattle.bsv_trace.proofs.Values.{value_of-end, value_of-none}
-use Rattle.bsv_trace.proofs.number.value_of.Goals as goal
+use Rattle.bsv_bits.proofs.DigitValues.{value_of-end, value_of-none}
+use Rattle.bsv_bits.proofs.digit_values.value_of.Goals as goal
 
 pub returns : goal.returns
 returns c = value_of-end c.args.radix c.loop-rest.value c.args.digits.now c.loop-rest.rest.now c.in_default.len_below c.loop-rest.invariant.0 c.loop-rest.invariant.1

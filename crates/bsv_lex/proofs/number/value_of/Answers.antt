@@ -1,8 +1,0 @@
-use Rattle.bsv_lex.proofs.Values.{value_of-end, value_of-none}
-use Rattle.bsv_lex.proofs.number.value_of.Goals as goal
-
-pub returns : goal.returns
-returns c = value_of-end c.args.base c.loop-rest.value c.args.digits.now c.loop-rest.rest.now c.in_default.len_below c.loop-rest.invariant.0 c.loop-rest.invariant.1
-
-pub returns-in-None : goal.returns-in-None
-returns-in-None c = value_of-none c.args.base c.loop-rest.value c.args.digits.now c.loop-rest.rest.now c.with_digit.result c.requires.some c.in-len1-up.len_at_least c.loop-rest.invariant.0 c.with_digit.ensures c.in-None.is

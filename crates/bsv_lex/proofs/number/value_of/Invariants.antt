@@ -1,9 +1,0 @@
-use Rattle.std.proofs.Common.{◌≡◌, ◌<◌, ◌^◌, length}
-use Rattle.bsv_lex.specs.Numbers.{value_from}
-use Rattle.bsv_lex.proofs.number.value_of.Given as goal
-
-abbrev pub invariant-loop-rest : goal.invariant-loop-rest
-invariant-loop-rest l = (value_from l.base 0 l.digits ≡ value_from l.base l.value l.rest) × (l.value < 2 ^ 128)
-
-abbrev pub decreases-loop-rest : goal.decreases-loop-rest
-decreases-loop-rest l = length l.rest
