@@ -17,7 +17,7 @@ use Rattle.bsv_body.specs.declared.state.State.{State}
 use Rattle.bsv_body.specs.Bodies.{Shows, AreSites, AreNeeds, IsResult, IsBody}
 use Rattle.bsv_body.specs.Flat as nodes
 use Rattle.bsv_body.specs.Flat.{Flat, Alternative, Spot, flat, alternative, choice, step_flat, choice_flat, arm_flat, in_turn, put, stand}
-use Rattle.bsv_body.specs.Nodes.{values}
+use Rattle.bsv_design.specs.Bodies.{words_behind}
 use Rattle.bsv_body.specs.Opening.{no_nodes, arguments_from, opened, given}
 use Rattle.bsv_body.proofs.Words.{keeps_all, operand_worth, stand_more}
 use Rattle.bsv_body.proofs.StepsSame.{Holds, words, Follows, Matches, AllMatch, let_same, need_same, act_same, read_same, in_turn_same, sites_within, needs_within}
@@ -148,7 +148,7 @@ module _ (r : Results) (arguments : List Bits) (full : List Call) where
       (arguments_begun rest (front ++ w ∷ []) (stand (node.Argument (length front)) s) again (stand_begun (length front) s front w h word))
 
   opened_begun : (count : ℕ) → length arguments ≡ count → Begun (opened count) arguments
-  unfolding opened values
+  unfolding opened words_behind
   opened_begun count long =
       subst (λ n. Begun (arguments_from 0 n (put (node.Constant (bit false)) (put (node.Constant (bit true)) no_nodes))) arguments) long
       (arguments_begun arguments [] (put (node.Constant (bit false)) (put (node.Constant (bit true)) no_nodes)) refl

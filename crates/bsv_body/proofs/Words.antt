@@ -1,5 +1,5 @@
 -- Nodes and the words that they have.
-use Rattle.std.proofs.Common.{◌≡◌, ◌∙◌, ℕ, zero, suc, ◌+◌, List, [], ◌∷◌, ◌++◌, length, map, take, Option, Some, None, refl, sym, ap, ap₂, subst, arith, append_assoc, append-nil, length-append}
+use Rattle.std.proofs.Common.{◌≡◌, ◌∙◌, ℕ, zero, suc, ◌+◌, List, [], ◌∷◌, ◌++◌, length, map, take, Option, Some, None, refl, sym, ap, ap₂, subst, arith, append_assoc, append-nil}
 use Rattle.std.specs.Prelude.{false, slice_get}
 use Rattle.bsv_bits.specs.Words.{Bits, bit, word_not}
 use Rattle.bsv_design.specs.declared.node.Node.{Node}
@@ -10,13 +10,14 @@ use Rattle.bsv_design.specs.declared.steps.Compute.{Compute}
 use Rattle.bsv_design.specs.declared.steps.Compute.TheVariants as computed
 use Rattle.bsv_design.specs.Bodies.{at}
 use Rattle.bsv_design.specs.Computing as computing
+use Rattle.bsv_design.proofs.Bodies.{words_long, words_one}
 use Rattle.bsv_design.specs.Running as steps
 use Rattle.bsv_design.specs.Running.{Results, or_zero, word_of, words_of}
 use Rattle.bsv_body.specs.declared.calls.Call.{Call}
 use Rattle.bsv_body.specs.declared.state.State.{State}
 use Rattle.bsv_body.specs.Bodies.{Shows}
 use Rattle.bsv_body.specs.Flat.{put, stand, found, operand, operands_from, operands, compute}
-use Rattle.bsv_body.specs.Nodes.{node_word, values}
+use Rattle.bsv_body.specs.Nodes.{node_word, of_methods, values}
 
 -- what is known of nodes stays so
 abbrev pub Within : List Bits → List Bits → Type 0
@@ -77,24 +78,14 @@ module _ (r : Results) (arguments : List Bits) (full : List Call) where
   abbrev pub word_at : List Bits → Node → Bits
   word_at vs x = node_word r arguments full vs x
 
-  one_more : (vs : List Bits) (ns : List Node) (x : Node) → values r arguments full vs (ns ++ x ∷ []) ≡ values r arguments full vs ns ++ word_at (values r arguments full vs ns) x ∷ []
-  unfolding values
-  one_more vs [] x = refl
-  one_more vs (n ∷ ns) x = one_more (vs ++ word_at vs n ∷ []) ns x
-
-  as_long : (vs : List Bits) (ns : List Node) → length (values r arguments full vs ns) ≡ length vs + length ns
-  unfolding values
-  as_long vs [] = omega arith
-  as_long vs (n ∷ ns) = omega (arith, as_long (vs ++ word_at vs n ∷ []) ns, length-append vs (word_at vs n ∷ []))
-
   -- one more node
   pub put_within : (x : Node) (s : State) → Within (seen s) (seen (put x s))
-  put_within x s k w e = ap (λ vs. slice_get vs k) (one_more [] s.nodes x) ∙ got_left (seen s) _ k w e
+  put_within x s k w e = ap (λ vs. slice_get vs k) (words_one (of_methods r) arguments full [] s.nodes x) ∙ got_left (seen s) _ k w e
 
   pub put_word : (x : Node) (s : State) → slice_get (seen (put x s)) (length s.nodes) ≡ Some (word_at (seen s) x)
   put_word x s =
-      ap (λ vs. slice_get vs (length s.nodes)) (one_more [] s.nodes x)
-      ∙ (let e : length s.nodes ≡ length (seen s) = omega (arith, as_long [] s.nodes) in ap (slice_get (seen s ++ word_at (seen s) x ∷ [])) e)
+      ap (λ vs. slice_get vs (length s.nodes)) (words_one (of_methods r) arguments full [] s.nodes x)
+      ∙ (let e : length s.nodes ≡ length (seen s) = omega (arith, words_long (of_methods r) arguments full [] s.nodes) in ap (slice_get (seen s ++ word_at (seen s) x ∷ [])) e)
       ∙ got_end (seen s) _
 
   -- what operands change: nodes alone

@@ -8,4 +8,4 @@ pub mod Values
 pub mod Events
 pub mod Runs
 pub mod Attributes
-pub mod Carrying
+pub mod Hardware

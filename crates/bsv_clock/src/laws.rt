@@ -11,7 +11,7 @@ ghost use Rattle.bsv_graph.specs.Elements.{relating};
 ghost use Rattle.bsv_graph.specs.Relating.{Agrees};
 ghost use Rattle.bsv_prim.specs.declared.part.Part.{Part};
 ghost use Rattle.bsv_clock.specs.Attributes.{ObeysInClock};
-ghost use Rattle.bsv_clock.specs.Carrying.{Carries, Cell, Given};
+ghost use Rattle.bsv_clock.specs.Hardware.{Carries, Cell, Given};
 ghost use Rattle.bsv_clock.specs.Clocks.{IsClock};
 ghost use Rattle.bsv_clock.specs.Events.{Happens, TellAlike, results_in_turn, results_under};
 ghost use Rattle.bsv_clock.specs.Feeding.{IsFed};

@@ -4,7 +4,7 @@
 //! `specs/Events.antt` (what is told of it), `specs/Runs.antt` (whole runs). What the laws speak of beside:
 //! `specs/Grounds.antt` (what belongs together), `specs/Steadiness.antt`, `specs/Settling.antt` (the clock as what each
 //! element does), `specs/Feeding.antt` (what the parts are given), `specs/Values.antt` (value methods),
-//! `specs/Attributes.antt` (what attributes come to in a clock) and `specs/Carrying.antt` (hardware whose
+//! `specs/Attributes.antt` (what attributes come to in a clock) and `specs/Hardware.antt` (hardware whose
 //! words tell a clock).
 #![tactic(auto)]
 

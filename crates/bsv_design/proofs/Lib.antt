@@ -2,3 +2,4 @@ mod Numbered
 mod Meeting
 pub mod Asked
 pub mod Named
+pub mod Bodies

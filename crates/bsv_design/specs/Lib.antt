@@ -26,3 +26,4 @@ pub mod Relations
 pub mod Serial
 pub mod Guards
 pub mod Seen
+pub mod Rooms

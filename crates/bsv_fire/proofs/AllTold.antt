@@ -5,10 +5,11 @@ use Rattle.bsv_net.specs.declared.node.NetNode.{NetNode}
 use Rattle.bsv_net.proofs.Grows.{Grows}
 use Rattle.bsv_fire.specs.Grounds.{Ground}
 use Rattle.bsv_fire.specs.Growing.{grown, none_placed}
-use Rattle.bsv_fire.proofs.Frame.{Scene, IsGround, Tells}
+use Rattle.bsv_ports.proofs.Scene.{Scene}
+use Rattle.bsv_fire.proofs.Frame.{IsGround, Tells}
 use Rattle.bsv_fire.proofs.Grown.{PiecesTold, all_told}
 use Rattle.bsv_fire.proofs.PiecesTold as pieces
-use Rattle.bsv_fire.proofs.PortTold.{port_told}
+use Rattle.bsv_ports.proofs.PortTold.{port_told}
 use Rattle.bsv_fire.proofs.PortsPlaced.{PortsTold}
 use Rattle.bsv_fire.proofs.Wired.{wired}
 
@@ -20,7 +21,7 @@ pieces_told z g ground ports n sees = record {
 }
 
 pub ports_told : (z : Scene) (g : Ground) → IsGround z g → PortsTold z g
-ports_told z g ground = port_told z g.spots ground.spots g.base.none ground.none
+ports_told z g ground = port_told z g.call_sites ground.call_sites g.base.none ground.none
 
 pub net_told : (z : Scene) (g : Ground) → IsGround z g → (first : List NetNode)
     → Grows (grown g (none_placed (kinds_of z.b) (length z.b.elements) first) z.made.urgency).nodes z.full

@@ -13,7 +13,7 @@ use Rattle.bsv_design.specs.declared.element.Port.{Port}
 use Rattle.bsv_design.specs.declared.kind.Kind.{Kind}
 use Rattle.bsv_design.specs.declared.node.Node.{Node}
 use Rattle.bsv_design.specs.declared.node.Node.TheVariants as node
-use Rattle.bsv_design.specs.Bodies.{Answers, answer, at, node_word, target, values, words}
+use Rattle.bsv_design.specs.Bodies.{Answers, answer, at, node_word, target, values, words, words_behind}
 use Rattle.bsv_design.specs.Computing as computing
 use Rattle.bsv_design.specs.Kinds.{kind_table}
 use Rattle.bsv_design.specs.Schemes.{design_scheme, given, kinds_of, calls_of}
@@ -29,10 +29,11 @@ use Rattle.bsv_net.specs.Placing.{add, node_at}
 use Rattle.bsv_net.proofs.Grows.{Grows, added_there, grows_trans}
 use Rattle.bsv_net.proofs.Operands.{is_below}
 use Rattle.bsv_fire.specs.Bodies.{Ports, body, body_node, result, result_of}
-use Rattle.bsv_fire.specs.Firing.{arity_of}
+use Rattle.bsv_ports.specs.Ports.{arity_of}
 use Rattle.bsv_fire.specs.Grounds.{Base, Ground}
 use Rattle.bsv_fire.proofs.BodiesGrow.{body_grows}
-use Rattle.bsv_fire.proofs.Frame.{Scene, S, IsGround}
+use Rattle.bsv_ports.proofs.Scene.{Scene, S}
+use Rattle.bsv_fire.proofs.Frame.{IsGround}
 use Rattle.bsv_fire.proofs.Wiring.{IsWired}
 
 -- ---- places
@@ -122,7 +123,7 @@ module _ (inputs registers : List Bits) (V : Values) (full : List NetNode) (widt
 
     pub nodes_mean : (xs : List Node) (us ends places : List ℕ) (ns : List NetNode) → length places ≡ length us → widths_from arguments ks cs us xs ≡ Some ends → Grows (body g ports start cs places ns xs).nodes full
         → map V (body g ports start cs places ns xs).places ≡ values r ws cs (map V places) xs
-    unfolding body values widths_from
+    unfolding body words_behind widths_from
     nodes_mean [] us ends places ns long e grows = refl
     nodes_mean (x ∷ xs) us ends places ns long e grows =
         let c = chained (node_width arguments ks cs us x) (λ w. widths_from arguments ks cs (us ++ w ∷ []) xs) ends e in

@@ -21,19 +21,20 @@ use Rattle.bsv_clock.proofs.Stopping.{stops_true, stops_within}
 use Rattle.bsv_net.specs.declared.node.Site.{Site as NetSite}
 use Rattle.bsv_net.specs.Placing.{Placed, node_at}
 use Rattle.bsv_net.proofs.Grows.{Grows, grows_trans}
-use Rattle.bsv_fire.specs.Bodies.{or_none, site, sites}
-use Rattle.bsv_fire.specs.Firing.{arity_of}
+use Rattle.bsv_ports.specs.CallSites.{or_none}
+use Rattle.bsv_fire.specs.Bodies.{site, sites}
+use Rattle.bsv_ports.specs.Ports.{arity_of, PlacedAll}
 use Rattle.bsv_fire.specs.Grounds.{Ground}
-use Rattle.bsv_fire.specs.Growing.{Blocked, Growing, all_blocked, at_nodes, element_body, element_fire, element_ready, or_nobody, placed}
-use Rattle.bsv_fire.specs.Ports.{PlacedAll}
-use Rattle.bsv_fire.proofs.Blocking.{TellsStop, all_blocked_long, all_blocked_told}
+use Rattle.bsv_fire.specs.Growing.{Stopping, Growing, all_stopped, at_nodes, element_body, element_fire, element_ready, or_nobody, placed}
+use Rattle.bsv_fire.proofs.Stopping.{TellsStop, all_stopped_long, all_stopped_told}
 use Rattle.bsv_fire.proofs.Bodies.{body_told}
 use Rattle.bsv_fire.proofs.FireTold.{fire_told, fires_where, once, stands_below}
-use Rattle.bsv_fire.proofs.Frame.{Scene, S, does, looks, IsGround, Tells, TellsElement, TellsFiring, TellsSite}
+use Rattle.bsv_ports.proofs.Scene.{Scene, S, does, looks, TellsFiring, TellsSite}
+use Rattle.bsv_fire.proofs.Frame.{IsGround, Tells, TellsElement}
 use Rattle.bsv_fire.proofs.Front.{any_append, not_yet, or_false}
 use Rattle.bsv_fire.proofs.Ready.{ready_opens, ready_told}
 use Rattle.bsv_fire.proofs.Setting.{length-set, node_elsewhere, node_there, set_elsewhere, set_there}
-use Rattle.bsv_fire.proofs.Steps.{all_blocked_grows, fire_grows, ready_grows}
+use Rattle.bsv_fire.proofs.Steps.{all_stopped_grows, fire_grows, ready_grows}
 use Rattle.bsv_fire.proofs.Traces.{arguments_stand, call_is_fit, calls_told, fits, own_words, same_as_wired, sites_are, value_is, word_told, words_have}
 use Rattle.bsv_fire.proofs.Wiring.{IsWired}
 
@@ -58,11 +59,11 @@ module _ (z : Scene) (g : Ground) (ground : IsGround z g) (stand rest : List ℕ
   abbrev stops : List ℕ
   stops = or_none (slice_get g.stops n)
 
-  abbrev blocked : Blocked
-  blocked = all_blocked fired.place fired.nodes x.blocks stops
+  abbrev stopping : Stopping
+  stopping = all_stopped fired.place fired.nodes x.stoppers stops
 
   fired_grows : Grows fired.nodes z.full
-  fired_grows = grows_trans (all_blocked_grows fired.place fired.nodes x.blocks stops) grows
+  fired_grows = grows_trans (all_stopped_grows fired.place fired.nodes x.stoppers stops) grows
 
   readied_grows : Grows readied.nodes z.full
   readied_grows = grows_trans (fire_grows g with_readied n e readied.place) fired_grows
@@ -80,7 +81,7 @@ module _ (z : Scene) (g : Ground) (ground : IsGround z g) (stand rest : List ℕ
 
   fired_told : z.V fired.place ≡ bit (is_some (does z n))
   fired_told =
-      fire_told z stand rest n split g ground e is readied.nodes (or_nobody (slice_get x.blocks n)) readied.place readied_told (tells.free n) (tells.blocked n) fired_grows
+      fire_told z stand rest n split g ground e is readied.nodes (or_nobody (slice_get x.stoppers n)) readied.place readied_told (tells.free n) (tells.stopped_is n) fired_grows
 
   -- where it is ready, its nodes have the words of its flat body under the look of the clock
   places_own : ready false (S z) z.q n (looks z) ≡ true → map z.V bodied.places ≡ own_words z n e is
@@ -286,24 +287,24 @@ module _ (z : Scene) (g : Ground) (ground : IsGround z g) (stand rest : List ℕ
       both_false true b e = absurd (let f : ⊥ = cc in f)
       both_false false b e = (refl, e)
 
-  stop_told : (m : ℕ) → m < length z.b.elements → TellsStop z.V (or_nobody (slice_get blocked.blocks m)) (any_stops (stand ++ n ∷ []) m) (any_stopped (stand ++ n ∷ []) m)
+  stop_told : (m : ℕ) → m < length z.b.elements → TellsStop z.V (or_nobody (slice_get stopping.stoppers m)) (any_stops (stand ++ n ∷ []) m) (any_stopped (stand ++ n ∷ []) m)
   stop_told m l =
-      let o = or_nobody (slice_get blocked.blocks m) in
-      let before : TellsStop z.V (or_nobody (slice_get x.blocks m)) (any_stops stand m) (any_stopped stand m) =
-      record { free = tells.free m; quiet = λ h. none_any_fires stand m (tells.free m h); blocked = tells.blocked m } in
-      let now = all_blocked_told z.inputs z.registers z.V z.full z.widths z.solved fired.place (is_some (does z n)) fired_told stops fired.nodes x.blocks m (any_stops stand m) (any_stopped stand m)
-      (subst (λ (k : ℕ). m < k) (sym tells.long_blocks) l) before grows in
+      let o = or_nobody (slice_get stopping.stoppers m) in
+      let before : TellsStop z.V (or_nobody (slice_get x.stoppers m)) (any_stops stand m) (any_stopped stand m) =
+      record { free = tells.free m; quiet = λ h. none_any_fires stand m (tells.free m h); stopped_is = tells.stopped_is m } in
+      let now = all_stopped_told z.inputs z.registers z.V z.full z.widths z.solved fired.place (is_some (does z n)) fired_told stops fired.nodes x.stoppers m (any_stops stand m) (any_stopped stand m)
+      (subst (λ (k : ℕ). m < k) (sym tells.long_stoppers) l) before grows in
       subst (λ (b : Bool). TellsStop z.V o b (any_stopped (stand ++ n ∷ []) m)) (ap (λ (b : Bool). any_stops stand m || b) (same_stops m) ∙ any_one_more (λ f. stops_in z.made f m))
       (subst (λ (b : Bool). TellsStop z.V o (any_stops stand m || is_in stops m) b)
       (ap (λ (b : Bool). any_stopped stand m || (fires (does z) n && b)) (same_stops m) ∙ any_one_more (λ f. fires (does z) f && stops_in z.made f m)) now)
 
-  free : (m : ℕ) → or_nobody (slice_get blocked.blocks m) ≡ None → any_stops (stand ++ n ∷ []) m ≡ false
+  free : (m : ℕ) → or_nobody (slice_get stopping.stoppers m) ≡ None → any_stops (stand ++ n ∷ []) m ≡ false
   free m h = elim (cases_lt m (length z.b.elements)) [ inl l ↦ (stop_told m l).free h | inr l ↦ none_any (stand ++ n ∷ []) m l ]
 
-  still_blocked : (m k : ℕ) → or_nobody (slice_get blocked.blocks m) ≡ Some k → z.V k ≡ bit (any_stopped (stand ++ n ∷ []) m)
-  still_blocked m k h = elim (cases_lt m (length z.b.elements)) [
-    | inl l ↦ (stop_told m l).blocked k h
-    | inr l ↦ (let past = slice_get_past blocked.blocks m (let a = all_blocked_long fired.place fired.nodes x.blocks stops in omega (arith, a, l, tells.long_blocks)) in
+  still_stopped : (m k : ℕ) → or_nobody (slice_get stopping.stoppers m) ≡ Some k → z.V k ≡ bit (any_stopped (stand ++ n ∷ []) m)
+  still_stopped m k h = elim (cases_lt m (length z.b.elements)) [
+    | inl l ↦ (stop_told m l).stopped_is k h
+    | inr l ↦ (let past = slice_get_past stopping.stoppers m (let a = all_stopped_long fired.place fired.nodes x.stoppers stops in omega (arith, a, l, tells.long_stoppers)) in
         let none : None ≡ Some k = ap or_nobody (sym past) ∙ h in absurd (let f : ⊥ = cc in f))
   ]
 
@@ -313,12 +314,12 @@ module _ (z : Scene) (g : Ground) (ground : IsGround z g) (stand rest : List ℕ
     elements = elements;
     firing = firing;
     long = length-set x.fires n fired.place ∙ tells.long;
-    long_blocks = all_blocked_long fired.place fired.nodes x.blocks stops ∙ tells.long_blocks;
+    long_stoppers = all_stopped_long fired.place fired.nodes x.stoppers stops ∙ tells.long_stoppers;
     long_readies = length-set x.readies n readied.place ∙ tells.long_readies;
     long_results = length-set x.results n (option_map (node_at bodied.places) e.result) ∙ tells.long_results;
     long_sites = length-set x.sites n (sites bodied.places e.calls) ∙ tells.long_sites;
     free = free;
-    blocked = still_blocked;
+    stopped_is = still_stopped;
     rooms = tells.rooms;
     ports = tells.ports;
   }

@@ -22,14 +22,15 @@ use Rattle.bsv_net.specs.declared.node.NetNode.TheVariants as net
 use Rattle.bsv_bits.specs.declared.operator.Operator.TheVariants.{And}
 use Rattle.bsv_fire.specs.Grounds.{Ground}
 use Rattle.bsv_fire.specs.Growing.{asked_and, unless}
-use Rattle.bsv_fire.proofs.Frame.{Scene, S, does, looks, IsGround}
+use Rattle.bsv_ports.proofs.Scene.{Scene, S, does, looks}
+use Rattle.bsv_fire.proofs.Frame.{IsGround}
 use Rattle.bsv_fire.proofs.Front.{any_in_front, in_front}
 
 pub unless_grows : (p : Placed) (o : Option ℕ) → Grows p.nodes (unless p o).nodes
 unless_grows p None = grows_refl p.nodes
-unless_grows p (Some block) =
-    let q = negated p.nodes block in
-    grows_trans (grows_add p.nodes (net.Not block)) (grows_add q.nodes (net.Two And p.place q.place))
+unless_grows p (Some stopper) =
+    let q = negated p.nodes stopper in
+    grows_trans (grows_add p.nodes (net.Not stopper)) (grows_add q.nodes (net.Two And p.place q.place))
 
 module _ (g : Ground) where
   pub asked_and_grows : (ns : List NetNode) (n : ℕ) (e : Element) (readied : ℕ) → Grows ns (asked_and g ns n e readied).nodes
@@ -117,16 +118,16 @@ module _ (z : Scene) (placed rest : List ℕ) (n : ℕ) (split : z.made.urgency 
 
     unless_told : (p : Placed) (o : Option ℕ) (a stopped : Bool) → z.V p.place ≡ bit a → (o ≡ None → stopped ≡ false) → ((k : ℕ) → o ≡ Some k → z.V k ≡ bit stopped) → Grows (unless p o).nodes z.full
         → z.V (unless p o).place ≡ bit (a && not stopped)
-    unless_told p None a stopped told free blocked grows = told ∙ ap bit (whole a ∙ ap (λ (b : Bool). a && not b) (sym (free refl)))
+    unless_told p None a stopped told free stopped_is grows = told ∙ ap bit (whole a ∙ ap (λ (b : Bool). a && not b) (sym (free refl)))
       where
         whole : (a : Bool) → a ≡ (a && true)
         whole true = refl
         whole false = refl
-    unless_told p (Some k) a stopped told free blocked grows =
+    unless_told p (Some k) a stopped told free stopped_is grows =
         let q = negated p.nodes k in
         let inner = grows_trans (grows_add q.nodes (net.Two And p.place q.place)) grows in
         both_means z.inputs z.registers z.V z.full z.widths z.solved q.nodes p.place q.place a (not stopped) grows told
-        (negated_means z.inputs z.registers z.V z.full z.widths z.solved p.nodes k stopped inner (blocked k refl))
+        (negated_means z.inputs z.registers z.V z.full z.widths z.solved p.nodes k stopped inner (stopped_is k refl))
 
     -- what is known of those that stop it
     pub fire_told : (ns : List NetNode) (o : Option ℕ) (readied : ℕ) → z.V readied ≡ bit (ready false (S z) z.q n (looks z))
@@ -134,8 +135,8 @@ module _ (z : Scene) (placed rest : List ℕ) (n : ℕ) (split : z.made.urgency 
         → ((k : ℕ) → o ≡ Some k → z.V k ≡ bit (list_any (λ f. fires (does z) f && stops_in z.made f n) placed))
         → Grows (unless (asked_and g ns n e readied) o).nodes z.full
         → z.V (unless (asked_and g ns n e readied) o).place ≡ bit (is_some (does z n))
-    fire_told ns o readied told free blocked grows =
+    fire_told ns o readied told free stopped_is grows =
         unless_told (asked_and g ns n e readied) o (may_fire (S z) z.q n && ready false (S z) z.q n (looks z)) (is_stopped z.made (does z) n)
         (asked_told ns readied (ready false (S z) z.q n (looks z)) told (grows_trans (unless_grows (asked_and g ns n e readied) o) grows))
-        (λ h. stopped_by_none (free h)) (λ k h. blocked k h ∙ ap bit (sym stopped_in_front)) grows
+        (λ h. stopped_by_none (free h)) (λ k h. stopped_is k h ∙ ap bit (sym stopped_in_front)) grows
         ∙ ap bit (sym (fires_where z n))

@@ -7,7 +7,6 @@ use Rattle.std.proofs.lemmas.Option.{slice_get_past}
 use Rattle.bsv_bits.specs.Words.{Bits, bit}
 use Rattle.bsv_prim.specs.Table.{word_at}
 use Rattle.bsv_prim.specs.declared.part.Part.{Part}
-use Rattle.bsv_prim.specs.declared.primitive.RegisterInfo.{RegisterInfo}
 use Rattle.bsv_design.specs.declared.element.Element.{Element}
 use Rattle.bsv_design.specs.declared.schedule.Need.{Need}
 use Rattle.bsv_design.specs.declared.schedule.Schedule.{Schedule}
@@ -25,7 +24,7 @@ use Rattle.bsv_clock.proofs.Clocks.{clock_fed}
 use Rattle.bsv_clock.proofs.Steadily.{steady_scheme}
 use Rattle.bsv_design.specs.declared.kind.Kind.{Kind}
 use Rattle.bsv_guard.proofs.Lists.{mapped_at}
-use Rattle.bsv_clock.specs.Carrying.{TellsElements, cell, cells_of, cell_widths, inputs_of}
+use Rattle.bsv_clock.specs.Hardware.{TellsElements, cells_of, cell_widths, inputs_of}
 use Rattle.bsv_clock.specs.Clocks.{IsClock, is_in}
 use Rattle.bsv_clock.specs.Grounds.{BelongTogether, Fit, IsLawful, IsScheduleOf}
 use Rattle.bsv_clock.specs.Looks.{clock_look}
@@ -36,12 +35,15 @@ use Rattle.bsv_net.specs.Circuits.{IsCircuit, register_widths, words}
 use Rattle.bsv_net.specs.Placing.{node_at}
 use Rattle.bsv_net.proofs.Solution.{satisfies}
 use Rattle.bsv_fire.specs.Circuits.{IsFireCircuit, net}
+use Rattle.bsv_net.specs.Hardware.{given_at}
 use Rattle.bsv_fire.specs.Firing as firing
 use Rattle.bsv_fire.specs.Growing.{Growing}
-use Rattle.bsv_fire.specs.Bodies.{or_none}
-use Rattle.bsv_fire.proofs.Frame.{Scene, looks, Tells}
+use Rattle.bsv_ports.specs.CallSites.{or_none}
+use Rattle.bsv_ports.proofs.Scene.{Scene, looks}
+use Rattle.bsv_fire.proofs.Frame.{Tells}
 use Rattle.bsv_fire.proofs.Structure.{some_same}
-use Rattle.bsv_fire.proofs.Whole.{fires_is, fired_fires, fired_below, look_is, inputs_have}
+use Rattle.bsv_net.proofs.WidthsFit.{cells_have, inputs_have}
+use Rattle.bsv_fire.proofs.Whole.{fires_is, fired_fires, fired_below, look_is}
 
 -- ---- lists
 
@@ -52,10 +54,6 @@ node_there (x ∷ ns) (suc n) l = node_there ns n (omega arith)
 
 word_of_node : (vs : List Bits) (ns : List ℕ) (n : ℕ) → n < length ns → slice_get (map (at vs) ns) n ≡ Some (at vs (node_at ns n))
 word_of_node vs ns n l = mapped_at (at vs) ns n (node_at ns n) (node_there ns n l)
-
-pub cells_have : (rs : List RegisterInfo) → cell_widths (map cell rs) ≡ register_widths rs
-cells_have [] = refl
-cells_have (r ∷ rs) = ap (λ (ws : List ℕ). r.width ∷ ws) (cells_have rs)
 
 pub same_words : (V : ℕ → Bits) (ns : List ℕ) (ws : List Bits) → length ns ≡ length ws → ((k : ℕ) → k < length ws → V (node_at ns k) ≡ word_at ws k) → map V ns ≡ ws
 same_words V [] [] l h = refl
@@ -149,7 +147,7 @@ module _ (b : Blueprint) (right : IsDesign b) (needs : List (List Need)) (made :
         (mapped_at (λ o. unwrap_or o (length x.nodes)) x.results n (Some found.0) found.1)
         ∙ ap (λ (u : Bits). Some u) found.2)
 
-    pub tells_elements : TellsElements false T q s fired (firing.given_at c vs)
+    pub tells_elements : TellsElements false T q s fired (given_at c vs)
     tells_elements = record {
       fires = fire_word;
       readies = ready_word;

@@ -22,17 +22,19 @@ use Rattle.bsv_design.specs.States.{part_at}
 use Rattle.bsv_graph.specs.Edges.{numbers_below}
 use Rattle.bsv_guard.proofs.Given.{given_arguments}
 use Rattle.bsv_guard.proofs.Lists.{mapped_at}
-use Rattle.bsv_clock.specs.Carrying.{Shows, cells_in, cells_of, inputs_from, inputs_of, input_widths_of}
+use Rattle.bsv_clock.specs.Hardware.{Shows, cells_in, cells_of, inputs_from, inputs_of, input_widths_of}
 use Rattle.bsv_clock.specs.Clocks.{is_asked}
 use Rattle.bsv_net.specs.declared.node.NetNode.{NetNode}
 use Rattle.bsv_net.specs.declared.node.NetNode.TheVariants as net
 use Rattle.bsv_net.specs.Placing.{node_at}
 use Rattle.bsv_net.proofs.Grows.{Grows, kept}
 use Rattle.bsv_fire.specs.Circuits as circuits
-use Rattle.bsv_fire.specs.Grounds.{Ground, first_nodes}
-use Rattle.bsv_fire.proofs.FirstNodes.{MethodsFirst, argument_at, asked_at, inputs_before, part_shown, register_start, registers_before, start_of, word_behind}
-use Rattle.bsv_fire.proofs.Frame.{Scene, S, IsGround}
-use Rattle.bsv_fire.proofs.Numbers.{count_below, got_before, got_behind, number_at}
+use Rattle.bsv_ports.specs.Starts.{first_nodes}
+use Rattle.bsv_fire.specs.Grounds.{Ground}
+use Rattle.bsv_ports.proofs.FirstNodes.{MethodsFirst, argument_at, asked_at, inputs_before, part_shown, register_start, registers_before, start_of, word_behind}
+use Rattle.bsv_ports.proofs.Scene.{Scene, S}
+use Rattle.bsv_fire.proofs.Frame.{IsGround}
+use Rattle.bsv_net.proofs.Numbers.{count_below, got_before, got_behind, number_at}
 
 -- ---- which node stands where
 
@@ -217,7 +219,7 @@ module _ (z : Scene) (needs : List (List Need)) (are : needs ≡ needs_of (kinds
     elements = refl;
     needs = are;
     stops = refl;
-    spots = refl;
+    call_sites = refl;
     shown = shown_told;
     arguments = λ n e there k l. arguments_told n e there k l (is_rule e.role) refl;
     asked = λ n e there rule.

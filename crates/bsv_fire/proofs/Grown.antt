@@ -14,12 +14,14 @@ use Rattle.bsv_net.specs.declared.node.Site.{Site as NetSite}
 use Rattle.bsv_net.specs.declared.wires.MethodPort.{MethodPort}
 use Rattle.bsv_net.specs.AtHand.{placed}
 use Rattle.bsv_net.proofs.Grows.{Grows, grows_trans}
-use Rattle.bsv_fire.specs.Bodies.{Ports, or_none}
+use Rattle.bsv_ports.specs.CallSites.{or_none}
+use Rattle.bsv_fire.specs.Bodies.{Ports}
 use Rattle.bsv_fire.specs.Grounds.{Ground}
 use Rattle.bsv_fire.specs.Growing.{Growing, grown, no_ports, none_placed, or_nobody, with_element, with_number, with_ports}
 use Rattle.bsv_fire.proofs.Element.{element_told}
 use Rattle.bsv_fire.proofs.FireTold.{stands_below}
-use Rattle.bsv_fire.proofs.Frame.{Scene, S, IsGround, Tells, placed_port}
+use Rattle.bsv_ports.proofs.Scene.{Scene, S}
+use Rattle.bsv_fire.proofs.Frame.{IsGround, Tells, placed_port}
 use Rattle.bsv_fire.proofs.Setting.{in_replicate, replicate_long, there_is}
 use Rattle.bsv_fire.proofs.PortsPlaced.{PortsTold, seen_placed}
 use Rattle.bsv_fire.proofs.Steps.{element_grows, grown_grows}
@@ -34,12 +36,12 @@ none_told z ns grows = record {
   elements = λ n i. absurd i;
   firing = record { fire = λ n i. absurd i; calls = λ n i. absurd i; told = λ n i. absurd i; others = λ n o. none (slice_get (replicate count []) n) (λ ss e. in_replicate count n [] ss e) };
   long = replicate_long count 0;
-  long_blocks = replicate_long count None;
+  long_stoppers = replicate_long count None;
   long_readies = replicate_long count 0;
   long_results = replicate_long count None;
   long_sites = replicate_long count [];
   free = λ n e. refl;
-  blocked = λ n k e. absurd (nobody (slice_get (replicate count None) n) k (λ o f. in_replicate count n None o f) e);
+  stopped_is = λ n k e. absurd (nobody (slice_get (replicate count None) n) k (λ o f. in_replicate count n None o f) e);
   rooms = rooms;
   ports = λ i m k p there e. absurd (nothing i m p e);
 }

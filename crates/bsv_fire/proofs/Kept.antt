@@ -13,7 +13,7 @@ use Rattle.bsv_net.specs.Circuits.{IsCircuit}
 use Rattle.bsv_net.proofs.Grows.{Grows, grows_refl}
 use Rattle.bsv_fire.specs.Circuits.{IsFireCircuit, ground, net, inputs, count}
 use Rattle.bsv_fire.specs.Firing.{Fires}
-use Rattle.bsv_fire.specs.Grounds.{first_nodes}
+use Rattle.bsv_ports.specs.Starts.{first_nodes}
 use Rattle.bsv_fire.specs.Growing.{none_placed}
 use Rattle.bsv_fire.proofs.AllTold.{net_told}
 use Rattle.bsv_fire.proofs.Firings.{scene}

@@ -1,5 +1,3 @@
-pub mod Numbers
-pub mod FirstNodes
 pub mod Frame
 pub mod GroundTold
 pub mod Whole
@@ -7,13 +5,9 @@ pub mod Settings
 pub mod Structure
 pub mod Firings
 pub mod Promise
-pub mod Latest
 pub mod PieceSignals
 pub mod Wired
 pub mod PiecesTold
-pub mod PortGrowth
-pub mod SpotsTold
-pub mod PortTold
 pub mod Wiring
 pub mod BodiesGrow
 pub mod Bodies
@@ -25,11 +19,10 @@ pub mod FireTold
 pub mod Steps
 pub mod Setting
 pub mod PortsPlaced
-pub mod Blocking
+pub mod Stopping
 pub mod Element
 pub mod Grown
 pub mod AllTold
 pub mod Kept
 pub mod Onward
-pub mod SpotsFound
 pub mod Pieces

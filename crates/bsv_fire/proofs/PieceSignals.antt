@@ -13,7 +13,7 @@ use Rattle.bsv_prim.specs.Signals.{Signals, is_one, word_of}
 use Rattle.bsv_prim.specs.Speaks.{SpeaksOf}
 use Rattle.bsv_prim.specs.Table.{Table, Call, CallFits, word_at}
 use Rattle.bsv_prim.specs.Widths.{HasWidth}
-use Rattle.bsv_fire.proofs.Latest.{latest_seen, latest_unseen}
+use Rattle.bsv_ports.proofs.Latest.{latest_seen, latest_unseen}
 
 if_one : (c d a p b q : Bits) → c ≡ d → a ≡ p → b ≡ q → (if is_one c then a else b) ≡ (if is_one d then p else q)
 if_one c d a p b q e f g = ap₂ (λ (x y : Bits). if is_one x then y else b) e f ∙ ap (λ (y : Bits). if is_one d then p else y) g

@@ -31,10 +31,12 @@ use Rattle.bsv_net.specs.Placing.{Placed, node_at, piece}
 use Rattle.bsv_net.proofs.Grows.{Grows}
 use Rattle.bsv_net.proofs.PieceMeans.{Carries, piece_means}
 use Rattle.bsv_fire.specs.Bodies.{Ports, guard, result, wires_of}
-use Rattle.bsv_fire.specs.Firing.{arity_of}
+use Rattle.bsv_ports.specs.Ports.{arity_of}
 use Rattle.bsv_fire.specs.Grounds.{Base, Ground}
-use Rattle.bsv_fire.proofs.Frame.{Scene, S, does, looks, IsGround, TellsPort, last_call, placed_port}
+use Rattle.bsv_ports.proofs.Scene.{Scene, S, does, looks, TellsPort, last_call}
+use Rattle.bsv_fire.proofs.Frame.{IsGround, placed_port}
 use Rattle.bsv_fire.proofs.PieceSignals.{TellsSeen, guard_means, result_means}
+use Rattle.bsv_ports.proofs.CallSitesTold.{node_word}
 use Rattle.bsv_fire.proofs.Wired.{SeesPorts, wired, wired_in, wired_signals}
 
 -- ---- bits and nodes
@@ -45,11 +47,6 @@ is_one_bit false = refl
 
 bit_again : (w : Bits) (b : Bool) → w ≡ bit b → w ≡ bit (is_one w)
 bit_again w b e = e ∙ sym (ap (λ (x : Bits). bit (is_one x)) e ∙ ap bit (is_one_bit b))
-
-pub node_word : (V : ℕ → Bits) (ns : List ℕ) (k : ℕ) → k < length ns → V (node_at ns k) ≡ word_at (map V ns) k
-node_word V [] k l = absurd (omega arith)
-node_word V (n ∷ ns) zero l = refl
-node_word V (n ∷ ns) (suc k) l = node_word V ns k (omega arith)
 
 pub emptied_at : (ks : List Kind) (ps : List Part) → FitsKinds ks ps → (i : ℕ) (k : Kind) → slice_get ks i ≡ Some k → part_at (emptied ks ps) i ≡ (kind_table k).emptied (part_at ps i)
 emptied_at [] ps h i k e = absurd (let n : ⊥ = cc in n)

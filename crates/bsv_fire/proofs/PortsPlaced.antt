@@ -24,14 +24,16 @@ use Rattle.bsv_net.specs.declared.node.Site.{Site as NetSite}
 use Rattle.bsv_net.specs.declared.wires.MethodPort.{MethodPort}
 use Rattle.bsv_net.specs.AtHand.{placed}
 use Rattle.bsv_net.proofs.Grows.{Grows, grows_trans}
-use Rattle.bsv_fire.specs.Bodies.{Ports, or_none}
+use Rattle.bsv_ports.specs.CallSites.{or_none}
+use Rattle.bsv_fire.specs.Bodies.{Ports}
 use Rattle.bsv_fire.specs.Grounds.{Ground}
 use Rattle.bsv_fire.specs.Growing.{Growing, is_open, with_method, with_port, with_ports, with_seen, with_seen_in}
-use Rattle.bsv_fire.specs.Ports.{PlacedPort, port}
+use Rattle.bsv_ports.specs.Ports.{PlacedPort, port}
 use Rattle.bsv_fire.proofs.Bodies.{use_of}
 use Rattle.bsv_fire.proofs.FireTold.{more_urgent, stands_below}
-use Rattle.bsv_fire.proofs.Frame.{Scene, S, IsGround, Tells, TellsFiring, TellsPort, last_call, placed_port}
-use Rattle.bsv_fire.proofs.Numbers.{number_at}
+use Rattle.bsv_ports.proofs.Scene.{Scene, S, TellsFiring, TellsPort, last_call}
+use Rattle.bsv_fire.proofs.Frame.{IsGround, Tells, placed_port}
+use Rattle.bsv_net.proofs.Numbers.{number_at}
 use Rattle.bsv_fire.proofs.Setting.{length-set, set_elsewhere, set_there, there_is}
 use Rattle.bsv_fire.proofs.Steps.{one_seen, with_ports_grows, with_seen_grows}
 use Rattle.bsv_fire.proofs.Wired.{SeesPorts}
@@ -130,8 +132,8 @@ PortsTold z g =
     (firing : List ℕ) (sites : List (List NetSite)) (stand : List ℕ) → TellsFiring z firing sites stand
     → (i m : ℕ) (k : Kind) → slice_get (kinds_of z.b) i ≡ Some k → m < (kind_table k).methods
     → ((n : ℕ) → IsUse (S z) n (record { part = i; method = m }) → In stand n)
-    → (ns : List NetNode) → Grows (port (kind_table k) g.base.none firing sites m ns (or_none (slice_get g.spots i))).nodes z.full
-    → TellsPort z.V ((kind_table k).arity m) (last_call z i m) (port (kind_table k) g.base.none firing sites m ns (or_none (slice_get g.spots i))).port
+    → (ns : List NetNode) → Grows (port (kind_table k) g.base.none firing sites m ns (or_none (slice_get g.call_sites i))).nodes z.full
+    → TellsPort z.V ((kind_table k).arity m) (last_call z i m) (port (kind_table k) g.base.none firing sites m ns (or_none (slice_get g.call_sites i))).port
 
 module _ (z : Scene) (g : Ground) (told : PortsTold z g) (stand : List ℕ) where
   -- the net still tells of the same elements, and each method that was placed stays
@@ -168,7 +170,7 @@ module _ (z : Scene) (g : Ground) (told : PortsTold z g) (stand : List ℕ) wher
       within = let e = (t.rooms i k there).2 in omega (arith, e, l)
 
       abbrev own : PlacedPort
-      own = port (kind_table k) g.base.none x.fires x.sites m x.nodes (or_none (slice_get g.spots i))
+      own = port (kind_table k) g.base.none x.fires x.sites m x.nodes (or_none (slice_get g.call_sites i))
 
       one_added : is_open x.ports i m ≡ true → Grows own.nodes z.full → Added x (with_port x i m own)
       one_added free grows = record {
@@ -177,12 +179,12 @@ module _ (z : Scene) (g : Ground) (told : PortsTold z g) (stand : List ℕ) wher
           elements = λ n e. record { readies = (t.elements n e).readies; result = (t.elements n e).result };
           firing = t.firing;
           long = t.long;
-          long_blocks = t.long_blocks;
+          long_stoppers = t.long_stoppers;
           long_readies = t.long_readies;
           long_results = t.long_results;
           long_sites = t.long_sites;
           free = t.free;
-          blocked = t.blocked;
+          stopped_is = t.stopped_is;
           rooms = rooms;
           ports = ports;
         };

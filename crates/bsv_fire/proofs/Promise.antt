@@ -30,7 +30,7 @@ use Rattle.bsv_graph.specs.Edges.{numbers_below}
 use Rattle.bsv_graph.specs.Orders.{In}
 use Rattle.bsv_guard.specs.Fitting.{HaveWidths}
 use Rattle.bsv_guard.proofs.Lists.{mapped_at, item_of, holds_at_all}
-use Rattle.bsv_clock.specs.Carrying.{Shows, cell, cells_of, cell_widths, inputs_of, input_widths}
+use Rattle.bsv_clock.specs.Hardware.{Shows, cell, cells_of, cell_widths, inputs_of, input_widths}
 use Rattle.bsv_clock.specs.Clocks.{IsClock}
 use Rattle.bsv_clock.specs.Grounds.{Fit, IsLawful, IsScheduleOf, KeepsRules}
 use Rattle.bsv_clock.proofs.Belonging.{lawful_design}
@@ -43,15 +43,18 @@ use Rattle.bsv_net.specs.Circuits.{IsCircuit, register_widths, words}
 use Rattle.bsv_net.specs.Placing.{node_at, or_first}
 use Rattle.bsv_net.proofs.Grows.{Grows, kept}
 use Rattle.bsv_net.proofs.Solution.{satisfies, same_length}
-use Rattle.bsv_fire.specs.Bodies.{or_none, site, sites}
+use Rattle.bsv_ports.specs.CallSites.{or_none}
+use Rattle.bsv_fire.specs.Bodies.{site, sites}
 use Rattle.bsv_fire.specs.Circuits.{IsFireCircuit, net, inputs, count}
-use Rattle.bsv_fire.specs.Firing.{Fires, TellsFiring, arity_of, sites_of}
-use Rattle.bsv_fire.specs.Grounds.{first_nodes}
-use Rattle.bsv_fire.proofs.FirstNodes.{word_is_at}
-use Rattle.bsv_fire.proofs.Firings.{scene, tells_firing, cells_have, same_words}
+use Rattle.bsv_ports.specs.Ports.{arity_of}
+use Rattle.bsv_fire.specs.Firing.{Fires, TellsFiring, sites_of}
+use Rattle.bsv_ports.specs.Starts.{first_nodes}
+use Rattle.bsv_ports.proofs.FirstNodes.{word_is_at}
+use Rattle.bsv_net.proofs.WidthsFit.{cells_have}
+use Rattle.bsv_fire.proofs.Firings.{scene, tells_firing, same_words}
 use Rattle.bsv_fire.proofs.Frame.{Tells}
 use Rattle.bsv_fire.proofs.GroundTold.{register_there}
-use Rattle.bsv_fire.proofs.Numbers.{count_below, number_at}
+use Rattle.bsv_net.proofs.Numbers.{count_below, number_at}
 use Rattle.bsv_fire.proofs.Structure.{Holds, some_same}
 
 bits_set : IsSet Bits

@@ -21,12 +21,14 @@ use Rattle.bsv_net.specs.declared.node.NetNode.{NetNode}
 use Rattle.bsv_net.specs.Placing.{Placed}
 use Rattle.bsv_net.proofs.Grows.{Grows, grows_trans}
 use Rattle.bsv_fire.specs.Bodies as placing
-use Rattle.bsv_fire.specs.Bodies.{Ports, all_of, guards, or_none, truths}
+use Rattle.bsv_ports.specs.CallSites.{or_none}
+use Rattle.bsv_fire.specs.Bodies.{Ports, all_of, guards, truths}
 use Rattle.bsv_fire.specs.Grounds.{Ground}
 use Rattle.bsv_fire.proofs.Bits.{all_true, all_of_means}
 use Rattle.bsv_fire.proofs.Bodies.{use_of}
 use Rattle.bsv_fire.proofs.BodiesGrow.{all_of_grows, guards_grow}
-use Rattle.bsv_fire.proofs.Frame.{Scene, S, looks, IsGround}
+use Rattle.bsv_ports.proofs.Scene.{Scene, S, looks}
+use Rattle.bsv_fire.proofs.Frame.{IsGround}
 use Rattle.bsv_fire.proofs.Traces.{EachIsOpen, ks, own_words, fits, words_have, condition_is_fit, sites_are, demands_are, same_as_wired, truths_told}
 use Rattle.bsv_fire.proofs.Wiring.{IsWired}
 

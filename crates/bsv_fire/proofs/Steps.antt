@@ -11,24 +11,25 @@ use Rattle.bsv_net.specs.declared.node.NetNode.{NetNode}
 use Rattle.bsv_net.specs.declared.node.NetNode.TheVariants as net
 use Rattle.bsv_net.specs.Placing.{node_at}
 use Rattle.bsv_net.proofs.Grows.{Grows, grows_refl, grows_trans, grows_add}
-use Rattle.bsv_fire.specs.Bodies.{guards, or_none, truths}
+use Rattle.bsv_ports.specs.CallSites.{or_none}
+use Rattle.bsv_fire.specs.Bodies.{guards, truths}
 use Rattle.bsv_fire.specs.Grounds.{Ground}
-use Rattle.bsv_fire.specs.Growing.{Growing, all_blocked, asked_and, at_nodes, blocked_by, element_body, element_fire, element_ready, grown, is_open, or_nobody, placed, with_element, with_method, with_number, with_port, with_ports, with_seen, with_seen_in}
-use Rattle.bsv_fire.specs.Ports.{port}
+use Rattle.bsv_fire.specs.Growing.{Growing, all_stopped, asked_and, at_nodes, with_stopper, element_body, element_fire, element_ready, grown, is_open, or_nobody, placed, with_element, with_method, with_number, with_port, with_ports, with_seen, with_seen_in}
+use Rattle.bsv_ports.specs.Ports.{port}
 use Rattle.bsv_fire.proofs.BodiesGrow.{all_of_grows, body_grows, guards_grow}
 use Rattle.bsv_fire.proofs.FireTold.{asked_and_grows, unless_grows}
-use Rattle.bsv_fire.proofs.PortGrowth.{port_grows}
+use Rattle.bsv_ports.proofs.PortGrowth.{port_grows}
 
-pub blocked_by_grows : (fire : ℕ) (ns : List NetNode) (o : Option ℕ) → Grows ns (blocked_by fire ns o).nodes
-blocked_by_grows fire ns None = grows_refl ns
-blocked_by_grows fire ns (Some block) = grows_add ns (net.Two Or block fire)
+pub with_stopper_grows : (fire : ℕ) (ns : List NetNode) (o : Option ℕ) → Grows ns (with_stopper fire ns o).nodes
+with_stopper_grows fire ns None = grows_refl ns
+with_stopper_grows fire ns (Some stopper) = grows_add ns (net.Two Or stopper fire)
 
-pub all_blocked_grows : (fire : ℕ) (ns : List NetNode) (blocks : List (Option ℕ)) (ks : List ℕ) → Grows ns (all_blocked fire ns blocks ks).nodes
-unfolding all_blocked
-all_blocked_grows fire ns blocks [] = grows_refl ns
-all_blocked_grows fire ns blocks (n ∷ more) =
-    let p = blocked_by fire ns (or_nobody (slice_get blocks n)) in
-    grows_trans (blocked_by_grows fire ns (or_nobody (slice_get blocks n))) (all_blocked_grows fire p.nodes (slice_set blocks n (Some p.place)) more)
+pub all_stopped_grows : (fire : ℕ) (ns : List NetNode) (stoppers : List (Option ℕ)) (ks : List ℕ) → Grows ns (all_stopped fire ns stoppers ks).nodes
+unfolding all_stopped
+all_stopped_grows fire ns stoppers [] = grows_refl ns
+all_stopped_grows fire ns stoppers (n ∷ more) =
+    let p = with_stopper fire ns (or_nobody (slice_get stoppers n)) in
+    grows_trans (with_stopper_grows fire ns (or_nobody (slice_get stoppers n))) (all_stopped_grows fire p.nodes (slice_set stoppers n (Some p.place)) more)
 
 module _ (g : Ground) where
   -- ---- methods that are seen
@@ -36,8 +37,8 @@ module _ (g : Ground) where
   pub with_method_grows : (k : Kind) (i m : ℕ) (x : Growing) → Grows x.nodes (with_method g k i m x).nodes
   with_method_grows k i m x = of (is_open x.ports i m)
     where
-      of : (b : Bool) → Grows x.nodes (cond b (with_port x i m (port (kind_table k) g.base.none x.fires x.sites m x.nodes (or_none (slice_get g.spots i)))) x).nodes
-      of true = port_grows (kind_table k) g.base.none x.fires x.sites m x.nodes (or_none (slice_get g.spots i))
+      of : (b : Bool) → Grows x.nodes (cond b (with_port x i m (port (kind_table k) g.base.none x.fires x.sites m x.nodes (or_none (slice_get g.call_sites i)))) x).nodes
+      of true = port_grows (kind_table k) g.base.none x.fires x.sites m x.nodes (or_none (slice_get g.call_sites i))
       of false = grows_refl x.nodes
 
   abbrev pub one_seen : Kind → ℕ → ℕ → Growing → ℕ → Growing
@@ -80,7 +81,7 @@ module _ (g : Ground) where
 
   pub fire_grows : (x : Growing) (n : ℕ) (e : Element) (readied : ℕ) → Grows x.nodes (element_fire g x n e readied).nodes
   fire_grows x n e readied =
-      grows_trans (asked_and_grows g x.nodes n e readied) (unless_grows (asked_and g x.nodes n e readied) (or_nobody (slice_get x.blocks n)))
+      grows_trans (asked_and_grows g x.nodes n e readied) (unless_grows (asked_and g x.nodes n e readied) (or_nobody (slice_get x.stoppers n)))
 
   pub element_grows : (x : Growing) (n : ℕ) (e : Element) → Grows x.nodes (placed g x n e).nodes
   element_grows x n e =
@@ -91,7 +92,7 @@ module _ (g : Ground) where
       let f = element_fire g w n e r.place in
       grows_trans (body_grows g.base x.ports (node_at g.inputs n) e.calls [] x.nodes e.nodes)
       (grows_trans (ready_grows y n e b.places)
-      (grows_trans (fire_grows w n e r.place) (all_blocked_grows f.place f.nodes x.blocks (or_none (slice_get g.stops n)))))
+      (grows_trans (fire_grows w n e r.place) (all_stopped_grows f.place f.nodes x.stoppers (or_none (slice_get g.stops n)))))
 
   pub with_element_grows : (x : Growing) (n : ℕ) (e : Element) → Grows x.nodes (with_element g x n e).nodes
   unfolding with_element

@@ -12,9 +12,10 @@ use Rattle.bsv_graph.specs.Orders.{In}
 use Rattle.bsv_net.specs.declared.node.NetNode.{NetNode}
 use Rattle.bsv_net.specs.declared.node.Site.{Site}
 use Rattle.bsv_net.specs.Placing.{node_at}
-use Rattle.bsv_fire.specs.Bodies.{or_none, sites}
+use Rattle.bsv_ports.specs.CallSites.{or_none}
+use Rattle.bsv_fire.specs.Bodies.{sites}
 use Rattle.bsv_fire.specs.Grounds.{Ground}
-use Rattle.bsv_fire.specs.Ports.{port}
+use Rattle.bsv_ports.specs.Ports.{port}
 use Rattle.bsv_fire.specs.Growing.{Growing, element_body, is_open, with_port, with_method, with_seen, with_seen_in, with_ports, with_element, with_number, grown, none_placed}
 use Rattle.bsv_fire.proofs.Settings.{length-set, set_there, set_elsewhere, long_replicate}
 
@@ -43,7 +44,7 @@ hold_if false y x h = same_again x
 module _ (g : Ground) where
   method_holds : (k : Kind) (i m : ℕ) (x : Growing) → HoldSame (with_method g k i m x) x
   method_holds k i m x =
-      hold_if (is_open x.ports i m) (with_port x i m (port (kind_table k) g.base.none x.fires x.sites m x.nodes (or_none (slice_get g.spots i)))) x
+      hold_if (is_open x.ports i m) (with_port x i m (port (kind_table k) g.base.none x.fires x.sites m x.nodes (or_none (slice_get g.call_sites i)))) x
       (record { fires = refl; readies = refl; results = refl; sites = refl })
 
   seen_if : (k : Kind) (i m : ℕ) (x : Growing) (b : Bool) → HoldSame (cond b (with_method g k i m x) x) x

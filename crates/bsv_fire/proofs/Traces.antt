@@ -34,11 +34,11 @@ use Rattle.bsv_net.specs.Equations.{Values}
 use Rattle.bsv_net.specs.Placing.{node_at}
 use Rattle.bsv_net.proofs.Solution.{same_length}
 use Rattle.bsv_fire.specs.Bodies.{Ports, site, sites, truths}
-use Rattle.bsv_fire.specs.Firing.{arity_of}
+use Rattle.bsv_ports.specs.Ports.{arity_of}
 use Rattle.bsv_fire.specs.Grounds.{Ground}
 use Rattle.bsv_fire.proofs.Bodies.{all_at_places, args_many, at_places, use_of}
-use Rattle.bsv_fire.proofs.FirstNodes.{word_is_at}
-use Rattle.bsv_fire.proofs.Frame.{Scene, S, looks, TellsSite}
+use Rattle.bsv_ports.proofs.FirstNodes.{word_is_at}
+use Rattle.bsv_ports.proofs.Scene.{Scene, S, looks, TellsSite}
 use Rattle.bsv_fire.proofs.Wiring.{IsWired}
 
 -- ---- words of one bit

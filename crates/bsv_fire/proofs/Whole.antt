@@ -1,17 +1,11 @@
 -- A circuit in which all elements stand tells what happens in each clock.
-use Rattle.std.proofs.Common.{◌≡◌, ◌∙◌, ◌<◌, ◌+◌, ℕ, suc, Bool, true, false, List, [], ◌∷◌, ◌++◌, Some, is_some, refl, sym, ap, subst, arith, length, map, filter}
-use Rattle.std.specs.Prelude.{slice_get, cond}
-use Rattle.bsv_bits.specs.Words.{Bits, bit}
+use Rattle.std.proofs.Common.{◌≡◌, ◌∙◌, ◌<◌, ℕ, Bool, true, false, List, is_some, refl, sym, ap, subst, length, filter}
 use Rattle.bsv_prim.specs.declared.part.Part.{Part}
-use Rattle.bsv_design.specs.declared.element.Port.{Port}
 use Rattle.bsv_design.specs.declared.schedule.Schedule.{Schedule}
-use Rattle.bsv_design.specs.Roles.{is_rule}
-use Rattle.bsv_design.specs.Schemes.{Scheme, Outline, Asking, given}
-use Rattle.bsv_design.specs.States.{AreWordsOf, emptied}
+use Rattle.bsv_design.specs.Schemes.{Scheme, Asking}
+use Rattle.bsv_design.specs.States.{emptied}
 use Rattle.bsv_graph.specs.Orders.{In}
-use Rattle.bsv_guard.specs.Fitting.{HaveWidths}
-use Rattle.bsv_clock.specs.Carrying.{inputs_from, input_widths_of}
-use Rattle.bsv_clock.specs.Clocks.{IsClock, is_in, is_asked}
+use Rattle.bsv_clock.specs.Clocks.{IsClock, is_in}
 use Rattle.bsv_clock.specs.Grounds.{BelongTogether}
 use Rattle.bsv_clock.specs.Looks.{clock_look, look_after, calls_in_turn}
 use Rattle.bsv_clock.specs.Settling.{Doing, the_clock, look_of, fired_in, fires, end_of}
@@ -21,33 +15,6 @@ use Rattle.bsv_clock.specs.Steadiness.{IsSteady}
 use Rattle.bsv_clock.proofs.Steadily.{steady_scheme}
 use Rattle.bsv_clock.proofs.Stopping.{execution_order}
 use Rattle.std.proofs.lemmas.Bool.{both_ways}
-use Rattle.bsv_net.proofs.Solution.{have_both}
-use Rattle.bsv_prim.specs.Table.{IsWordOf}
-
--- ---- the words of the inputs have their widths
-
-bit_fits : (b : Bool) → IsWordOf 1 (bit b)
-bit_fits true = record { word = record { some = omega arith; most = omega arith; below = omega arith }; same_width = refl }
-bit_fits false = record { word = record { some = omega arith; most = omega arith; below = omega arith }; same_width = refl }
-
-words_have : (ps : List Port) (ws : List Bits) → AreWordsOf ps ws → HaveWidths (map (λ p. p.width) ps) ws
-words_have [] [] h = tt
-words_have [] (w ∷ ws) h = absurd h
-words_have (p ∷ ps) [] h = absurd h
-words_have (p ∷ ps) (w ∷ ws) h = (h.0, words_have ps ws h.1)
-
-pub inputs_have : (T : Scheme) (q : Asking) (n : ℕ) (os : List Outline) → ((j : ℕ) (o : Outline) → slice_get os j ≡ Some o → AreWordsOf o.ports (given T q (n + j)))
-    → HaveWidths (input_widths_of os) (inputs_from T q n os)
-inputs_have T q n [] fit = tt
-inputs_have T q n (o ∷ os) fit =
-    of (is_rule o.role)
-    (inputs_have T q (n + 1) os (λ j p there. subst (λ k. AreWordsOf p.ports (given T q k)) (omega arith) (fit (suc j) p there)))
-    (words_have o.ports (given T q n) (subst (λ k. AreWordsOf o.ports (given T q k)) (omega arith) (fit 0 o refl)))
-  where
-    of : (b : Bool) → HaveWidths (input_widths_of os) (inputs_from T q (n + 1) os) → HaveWidths (map (λ p. p.width) o.ports) (given T q n)
-        → HaveWidths (cond b [] (map (λ p. p.width) o.ports ++ (1 ∷ input_widths_of os))) (cond b [] (given T q n ++ (bit (is_asked q n) ∷ inputs_from T q (n + 1) os)))
-    of true rest first = tt
-    of false rest first = have_both (map (λ p. p.width) o.ports) (given T q n) (1 ∷ input_widths_of os) (bit (is_asked q n) ∷ inputs_from T q (n + 1) os) first (bit_fits (is_asked q n), rest)
 
 -- ---- the clock is that of what each element does
 

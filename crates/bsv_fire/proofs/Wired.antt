@@ -16,7 +16,8 @@ use Rattle.bsv_net.specs.Placing.{node_at}
 use Rattle.bsv_fire.specs.Bodies.{Ports}
 use Rattle.bsv_fire.specs.Grounds.{Base}
 use Rattle.bsv_fire.specs.Growing.{Growing}
-use Rattle.bsv_fire.proofs.Frame.{Scene, S, Tells, TellsPort, last_call, placed_port}
+use Rattle.bsv_ports.proofs.Scene.{Scene, S, TellsPort, last_call}
+use Rattle.bsv_fire.proofs.Frame.{Tells, placed_port}
 
 -- the nodes of each method that this one sees are placed, and tell its last call
 pub record SeesPorts (z : Scene) (ports : Ports) (t : Target) : Type 0 where

@@ -9,9 +9,9 @@ use Rattle.bsv_guard.specs.Fitting.{IsFitCall}
 use Rattle.bsv_net.specs.declared.node.NetNode.{NetNode}
 use Rattle.bsv_net.proofs.Grows.{Grows}
 use Rattle.bsv_fire.specs.Bodies.{Ports, guard, result}
-use Rattle.bsv_fire.specs.Firing.{arity_of}
+use Rattle.bsv_ports.specs.Ports.{arity_of}
 use Rattle.bsv_fire.specs.Grounds.{Base}
-use Rattle.bsv_fire.proofs.Frame.{Scene, S, looks}
+use Rattle.bsv_ports.proofs.Scene.{Scene, S, looks}
 
 -- The guard of each method that the element uses is told, and its result is what these answers say; where the method is open,
 -- that is what it gives in the look of the clock.

@@ -20,7 +20,7 @@ ground g = record {
   elements = g.design.now.elements;
   needs = g.guards.now.needs;
   stops = g.schedule.now.stops;
-  spots = g.spots.now;
+  call_sites = g.call_sites.now;
   inputs = g.inputs.now;
 }
 
@@ -28,7 +28,7 @@ abbrev pub draft : Draft → Growing
 draft d = record {
   nodes = d.nodes;
   ports = d.ports.items;
-  blocks = d.blocks.items;
+  stoppers = d.stoppers.items;
   fires = d.fires.items;
   readies = d.readies.items;
   results = d.results.items;

@@ -14,16 +14,13 @@ use Rattle.bsv_net.specs.declared.node.Site.{Site}
 use Rattle.bsv_net.specs.declared.wires.MethodPort.{MethodPort}
 use Rattle.bsv_net.specs.AtHand.{wires_with}
 use Rattle.bsv_net.specs.Placing.{Placed, Wires, add, both, node_at, piece}
+use Rattle.bsv_ports.specs.CallSites.{or_none}
 use Rattle.bsv_fire.specs.Grounds.{Base}
-use Rattle.bsv_fire.specs.Ports.{PlacedAll}
+use Rattle.bsv_ports.specs.Ports.{PlacedAll}
 
 -- of each part, of each of its methods, its nodes where they are placed
 abbrev pub Ports : Type 0
 Ports = List (List (Option MethodPort))
-
-abbrev pub or_none : {X : Type 0} → Option (List X) → List X
-or_none None = []
-or_none (Some xs) = xs
 
 module _ (g : Base) (ports : Ports) where
   -- where the pieces of a part find them

@@ -5,11 +5,12 @@ use Rattle.bsv_design.specs.declared.schedule.Schedule.{Schedule}
 use Rattle.bsv_design.specs.Designs.{Blueprint}
 use Rattle.bsv_design.specs.Schemes.{kinds_of, outline}
 use Rattle.bsv_graph.specs.Edges.{numbers_below}
-use Rattle.bsv_clock.specs.Carrying.{cell, cells_of, input_widths_of}
+use Rattle.bsv_clock.specs.Hardware.{cell, cells_of, input_widths_of}
 use Rattle.bsv_net.specs.declared.circuit.Circuit.{Circuit}
-use Rattle.bsv_fire.specs.Grounds.{Ground, first_nodes, input_starts, register_starts}
+use Rattle.bsv_ports.specs.Starts.{first_nodes, input_starts, register_starts}
+use Rattle.bsv_fire.specs.Grounds.{Ground}
 use Rattle.bsv_fire.specs.Growing.{Growing, grown, none_placed}
-use Rattle.bsv_fire.specs.Spots.{all_spots}
+use Rattle.bsv_ports.specs.CallSites.{all_call_sites}
 
 module _ (b : Blueprint) (needs : List (List Need)) (made : Schedule) where
   abbrev pub inputs : List ℕ
@@ -30,7 +31,7 @@ module _ (b : Blueprint) (needs : List (List Need)) (made : Schedule) where
     elements = b.elements;
     needs = needs;
     stops = made.stops;
-    spots = all_spots (kinds_of b) b.elements made.execution;
+    call_sites = all_call_sites (kinds_of b) b.elements made.execution;
     inputs = input_starts 0 b.elements;
   }
 

@@ -1,44 +1,26 @@
 -- What is promised of a net that tells what fires: it carries the scheme but for the next words, which keep every register,
 -- and its sites tell the calls of the elements that fire.
-use Rattle.std.specs.Prelude.{◌≡◌, ◌<◌, ℕ, Bool, true, false, List, map, length, slice_get, Option, Some, None}
+use Rattle.std.specs.Prelude.{◌≡◌, ◌<◌, ℕ, Bool, true, List, map, length, slice_get, Some}
 use Rattle.bsv_bits.specs.Words.{Bits, bit}
 use Rattle.bsv_prim.specs.declared.part.Part.{Part}
 use Rattle.bsv_design.specs.declared.schedule.Schedule.{Schedule}
-use Rattle.bsv_design.specs.declared.kind.Kind.{Kind}
 use Rattle.bsv_design.specs.Bodies.{Target, at}
-use Rattle.bsv_design.specs.Kinds.{kind_table}
-use Rattle.bsv_design.specs.Roles.{gives_value}
-use Rattle.bsv_design.specs.Schemes.{Scheme, Outline, Asking, seen}
+use Rattle.bsv_design.specs.Schemes.{Scheme, Asking, seen}
 use Rattle.bsv_design.specs.Traces.{Site, kind_at}
 use Rattle.bsv_graph.specs.Orders.{In}
 use Rattle.bsv_guard.specs.Fitting.{HaveWidths}
-use Rattle.bsv_clock.specs.Carrying.{Given, Shows, TellsElements, cell, cells_of, cell_widths, inputs_of, input_widths}
+use Rattle.bsv_clock.specs.Hardware.{Shows, TellsElements, cell, cells_of, cell_widths, inputs_of, input_widths}
 use Rattle.bsv_clock.specs.Clocks.{IsClock}
 use Rattle.bsv_clock.specs.Grounds.{Fit}
 use Rattle.bsv_clock.specs.Looks.{clock_look}
 use Rattle.bsv_net.specs.declared.circuit.Circuit.{Circuit}
 use Rattle.bsv_net.specs.declared.node.Site.{Site as NetSite}
 use Rattle.bsv_net.specs.Circuits.{words}
-use Rattle.bsv_fire.specs.Bodies.{or_none}
-
--- the words that a circuit gives, where its nodes have these
-abbrev pub given_at : Circuit → List Bits → Given
-given_at c vs = record {
-  fires = map (at vs) c.fires;
-  readies = map (at vs) c.readies;
-  results = map (at vs) c.results;
-  nexts = map (at vs) c.nexts;
-}
-
--- and where its registers and its inputs have these
-abbrev pub gives : Circuit → List Bits → List Bits → Given
-gives c registers inputs = given_at c (words c.nodes inputs registers)
+use Rattle.bsv_net.specs.Hardware.{NamesNoResult, gives, given_at}
+use Rattle.bsv_ports.specs.CallSites.{or_none}
+use Rattle.bsv_ports.specs.Ports.{arity_of}
 
 -- ---- calls
-
-abbrev pub arity_of : Option Kind → ℕ → ℕ
-arity_of None m = 0
-arity_of (Some k) m = (kind_table k).arity m
 
 -- the nodes of the calls of an element
 abbrev pub sites_of : Circuit → ℕ → List NetSite
@@ -65,8 +47,7 @@ pub record Fires (aggressive : Bool) (S : Scheme) (made : Schedule) (c : Circuit
   pub count : length c.fires ≡ length S.elements
   pub count_sites : length c.sites ≡ length S.elements
   -- what gives nothing names no node
-  pub no_result : (n : ℕ) (o : Outline) → slice_get S.elements n ≡ Some o → gives_value o.role ≡ false
-      → slice_get c.results n ≡ Some (length c.nodes)
+  pub no_result : NamesNoResult S c
   -- there are nodes for each call of each element, one for each of its arguments
   pub calls : (n : ℕ) → n < length S.elements → length (sites_of c n) ≡ length (S.uses n)
   pub arguments : (n k : ℕ) (t : Target) (y : NetSite) → slice_get (S.uses n) k ≡ Some t

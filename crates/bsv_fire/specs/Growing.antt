@@ -11,9 +11,10 @@ use Rattle.bsv_net.specs.declared.node.NetNode.{NetNode}
 use Rattle.bsv_net.specs.declared.node.Site.{Site}
 use Rattle.bsv_net.specs.declared.wires.MethodPort.{MethodPort}
 use Rattle.bsv_net.specs.Placing.{Placed, both, either, negated, node_at}
-use Rattle.bsv_fire.specs.Bodies.{Ports, or_none, guards, body, all_of, sites, truths}
+use Rattle.bsv_ports.specs.CallSites.{or_none}
+use Rattle.bsv_fire.specs.Bodies.{Ports, guards, body, all_of, sites, truths}
 use Rattle.bsv_fire.specs.Grounds.{Ground}
-use Rattle.bsv_fire.specs.Ports.{PlacedAll, PlacedPort, port}
+use Rattle.bsv_ports.specs.Ports.{PlacedAll, PlacedPort, port}
 
 -- the net so far
 pub record Growing : Type 0 where
@@ -21,7 +22,7 @@ pub record Growing : Type 0 where
   -- the methods that are seen, of each part
   pub ports : Ports
   -- of each element the bit that is 1 where one that fires stops it, if there is one
-  pub blocks : List (Option ℕ)
+  pub stoppers : List (Option ℕ)
   -- of each element the nodes that tell whether it fires, whether it is ready, and what it gives; and those of its calls
   pub fires : List ℕ
   pub readies : List ℕ
@@ -41,7 +42,7 @@ abbrev pub with_port : Growing → ℕ → ℕ → PlacedPort → Growing
 with_port x i m p = record {
   nodes = p.nodes;
   ports = slice_set x.ports i (slice_set (or_none (slice_get x.ports i)) m (Some p.port));
-  blocks = x.blocks;
+  stoppers = x.stoppers;
   fires = x.fires;
   readies = x.readies;
   results = x.results;
@@ -53,7 +54,7 @@ abbrev pub at_nodes : Growing → List NetNode → Growing
 at_nodes x ns = record {
   nodes = ns;
   ports = x.ports;
-  blocks = x.blocks;
+  stoppers = x.stoppers;
   fires = x.fires;
   readies = x.readies;
   results = x.results;
@@ -65,7 +66,7 @@ at_nodes x ns = record {
 -- where the first one is 1 and the other one, if there is one, is not
 abbrev pub unless : Placed → Option ℕ → Placed
 unless p None = p
-unless p (Some block) = of (negated p.nodes block) where
+unless p (Some stopper) = of (negated p.nodes stopper) where
   of : Placed → Placed
   of q = both q.nodes p.place q.place
 
@@ -74,19 +75,19 @@ or_nobody None = None
 or_nobody (Some o) = o
 
 -- an element whose firing this node tells stops one that these stop so far
-abbrev pub blocked_by : ℕ → List NetNode → Option ℕ → Placed
-blocked_by fire ns None = record { nodes = ns; place = fire }
-blocked_by fire ns (Some block) = either ns block fire
+abbrev pub with_stopper : ℕ → List NetNode → Option ℕ → Placed
+with_stopper fire ns None = record { nodes = ns; place = fire }
+with_stopper fire ns (Some stopper) = either ns stopper fire
 
-pub record Blocked : Type 0 where
+pub record Stopping : Type 0 where
   pub nodes : List NetNode
-  pub blocks : List (Option ℕ)
+  pub stoppers : List (Option ℕ)
 
-unfoldable pub all_blocked : ℕ → List NetNode → List (Option ℕ) → List ℕ → Blocked
-all_blocked fire ns blocks [] = record { nodes = ns; blocks = blocks }
-all_blocked fire ns blocks (n ∷ more) =
-    all_blocked fire (blocked_by fire ns (or_nobody (slice_get blocks n))).nodes
-    (slice_set blocks n (Some (blocked_by fire ns (or_nobody (slice_get blocks n))).place)) more
+unfoldable pub all_stopped : ℕ → List NetNode → List (Option ℕ) → List ℕ → Stopping
+all_stopped fire ns stoppers [] = record { nodes = ns; stoppers = stoppers }
+all_stopped fire ns stoppers (n ∷ more) =
+    all_stopped fire (with_stopper fire ns (or_nobody (slice_get stoppers n))).nodes
+    (slice_set stoppers n (Some (with_stopper fire ns (or_nobody (slice_get stoppers n))).place)) more
 
 module _ (g : Ground) where
   -- ---- methods that are seen
@@ -95,7 +96,7 @@ module _ (g : Ground) where
   abbrev pub with_method : Kind → ℕ → ℕ → Growing → Growing
   with_method k i m x =
       cond (is_open x.ports i m)
-      (with_port x i m (port (kind_table k) g.base.none x.fires x.sites m x.nodes (or_none (slice_get g.spots i)))) x
+      (with_port x i m (port (kind_table k) g.base.none x.fires x.sites m x.nodes (or_none (slice_get g.call_sites i)))) x
 
   -- those of these methods that this one sees
   unfoldable pub with_seen : Kind → ℕ → ℕ → Growing → List ℕ → Growing
@@ -131,16 +132,16 @@ module _ (g : Ground) where
 
   -- the bit that is 1 where it fires: it is asked, or a rule, and ready, and no one that fires stops it
   abbrev pub element_fire : Growing → ℕ → Element → ℕ → Placed
-  element_fire x n e ready = unless (asked_and x.nodes n e ready) (or_nobody (slice_get x.blocks n))
+  element_fire x n e ready = unless (asked_and x.nodes n e ready) (or_nobody (slice_get x.stoppers n))
 
   -- what the net tells of it is kept, for those behind it
   abbrev pub kept : Growing → ℕ → Element → List ℕ → ℕ → ℕ → Growing
-  kept x n e places ready fire = of (all_blocked fire x.nodes x.blocks (or_none (slice_get g.stops n))) where
-    of : Blocked → Growing
+  kept x n e places ready fire = of (all_stopped fire x.nodes x.stoppers (or_none (slice_get g.stops n))) where
+    of : Stopping → Growing
     of z = record {
       nodes = z.nodes;
       ports = x.ports;
-      blocks = z.blocks;
+      stoppers = z.stoppers;
       fires = slice_set x.fires n fire;
       readies = slice_set x.readies n ready;
       results = slice_set x.results n (option_map (node_at places) e.result);
@@ -183,7 +184,7 @@ abbrev pub none_placed : List Kind → ℕ → List NetNode → Growing
 none_placed ks count ns = record {
   nodes = ns;
   ports = no_ports ks;
-  blocks = replicate count None;
+  stoppers = replicate count None;
   fires = replicate count 0;
   readies = replicate count 0;
   results = replicate count None;

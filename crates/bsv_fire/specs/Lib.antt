@@ -1,6 +1,4 @@
-pub mod Spots
 pub mod Grounds
-pub mod Ports
 pub mod Bodies
 pub mod Growing
 pub mod Circuits

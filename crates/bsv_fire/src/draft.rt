@@ -15,7 +15,7 @@ pub struct Draft {
     /// Of each part, of each of its methods, its nodes where they are placed.
     pub ports: Vec<Items<Option<MethodPort>>>,
     /// Of each element the node that is 1 where one that fires stops it, if there is one.
-    pub blocks: Vec<Option<u32>>,
+    pub stoppers: Vec<Option<u32>>,
     /// Of each element the node that is 1 where it fires.
     pub fires: Vec<u32>,
     /// Of each element the node that is 1 where it is ready.
@@ -76,7 +76,7 @@ impl Draft {
         Ok(Draft {
             nodes,
             ports: no_ports(alloc, parts)?,
-            blocks: vec![in alloc; None; elements]?,
+            stoppers: vec![in alloc; None; elements]?,
             fires: vec![in alloc; 0u32; elements]?,
             readies: vec![in alloc; 0u32; elements]?,
             results: vec![in alloc; None; elements]?,

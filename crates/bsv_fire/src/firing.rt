@@ -2,7 +2,7 @@ ghost use Rattle.std.specs.Prelude.{◌≡◌, ◌+◌, IfOk, false, length, map
 ghost use Rattle.bsv_graph.specs.Edges.{numbers_below};
 ghost use Rattle.bsv_fire.specs.AtHand as hand;
 ghost use Rattle.bsv_fire.specs.Circuits as spec;
-ghost use Rattle.bsv_clock.specs.Carrying.{cells_of, input_widths_of};
+ghost use Rattle.bsv_clock.specs.Hardware.{cells_of, input_widths_of};
 ghost use Rattle.bsv_clock.specs.Grounds.{IsScheduleOf, KeepsRules};
 ghost use Rattle.bsv_design.specs.Guards.{needs_of};
 ghost use Rattle.bsv_design.specs.Schemes.{design_scheme, kinds_of, outline};
@@ -11,12 +11,13 @@ ghost use Rattle.bsv_fire.specs.Firing.{Fires};
 ghost use Rattle.bsv_net.specs.AtHand.{circuit};
 
 use crate::draft::Draft;
-use crate::ground::{first_nodes, input_starts, inputs_of, register_starts, registers_of};
 use crate::growing::Growing;
-use crate::spots::all_spots;
 use bsv_bits::OutOfMemory;
 use bsv_design::{Design, Guards, Schedule};
 use bsv_net::{Circuit, Net};
+use bsv_ports::{
+    all_call_sites, first_nodes, input_starts, inputs_of, register_starts, registers_of,
+};
 use sqlite_items::Items;
 use std::alloc::Global;
 
@@ -65,7 +66,7 @@ fn whole_draft(
     let Some(none) = inputs.checked_add(registers) else {
         return Err(OutOfMemory);
     };
-    let spots = all_spots(alloc, parts, elements, schedule.execution.as_slice())?;
+    let call_sites = all_call_sites(alloc, parts, elements, schedule.execution.as_slice())?;
     let input_starts = input_starts(alloc, elements)?;
     let register_starts = register_starts(alloc, inputs, parts)?;
     let nodes = first_nodes(alloc, inputs, registers)?;
@@ -75,7 +76,7 @@ fn whole_draft(
         design,
         guards,
         schedule,
-        spots: &spots,
+        call_sites: &call_sites,
         inputs: &input_starts,
         registers: &register_starts,
         none,

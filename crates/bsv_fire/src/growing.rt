@@ -1,17 +1,16 @@
 ghost use Rattle.std.specs.Prelude.{◌≡◌, ◌<◌, ◌+◌, IfOk, OnOk, IsTrue, Some};
 ghost use Rattle.std.specs.Prelude.{length, slice_get, slice_set, option_map};
 ghost use Rattle.bsv_design.specs.Kinds.{kind_table};
-ghost use Rattle.bsv_fire.specs.Bodies.{or_none};
+ghost use Rattle.bsv_ports.specs.CallSites.{or_none};
 ghost use Rattle.bsv_fire.specs.Growing as spec;
 ghost use Rattle.bsv_net.specs.Placing as placing;
 
 use crate::body::{Pieces, all_of, push_truths, sites};
 use crate::draft::Draft;
-use crate::ports::{Firing, port};
-use crate::spots::Spot;
 use bsv_bits::OutOfMemory;
 use bsv_design::{Call, Design, Element, Guards, Kind, Need, Schedule};
 use bsv_net::{MethodPort, NetNode, both, either, negated, node_at};
+use bsv_ports::{CallSite, Firing, port};
 use bsv_prim::Primitive;
 use sqlite_items::{Items, at};
 use std::alloc::Global;
@@ -24,7 +23,7 @@ pub struct Growing<'a> {
     pub guards: &'a Guards,
     pub schedule: &'a Schedule,
     /// Of each part the call sites of methods that act.
-    pub spots: &'a [Items<Spot>],
+    pub call_sites: &'a [Items<CallSite>],
     /// Of each element the node of its first input.
     pub inputs: &'a [u32],
     /// Of each part the node of its first register.
@@ -41,26 +40,30 @@ struct Telling {
 }
 
 /// The bit that is 1 where that one is and the other one, if there is one, is not.
-fn unless(nodes: &mut Items<NetNode>, bit: u32, block: Option<u32>) -> Result<u32, OutOfMemory>
+fn unless(nodes: &mut Items<NetNode>, bit: u32, stopper: Option<u32>) -> Result<u32, OutOfMemory>
     ensures nodes { OnOk result (nodes.new
-        ≡ (spec.unless (record { nodes = nodes.old; place = bit }) block).nodes) }
+        ≡ (spec.unless (record { nodes = nodes.old; place = bit }) stopper).nodes) }
     ensures place { IfOk result (λ n. n
-        ≡ (spec.unless (record { nodes = nodes.old; place = bit }) block).place) }
+        ≡ (spec.unless (record { nodes = nodes.old; place = bit }) stopper).place) }
 {
-    let Some(block) = block else {
+    let Some(stopper) = stopper else {
         return Ok(bit);
     };
-    let free = negated(nodes, block)?;
+    let free = negated(nodes, stopper)?;
     both(nodes, bit, free)
 }
 
 /// The node of an element that fires stands for those that stop another one, beside that one if there is one.
-fn blocked_by(nodes: &mut Items<NetNode>, fire: u32, block: Option<u32>) -> Result<u32, OutOfMemory>
-    ensures nodes { OnOk result (nodes.new ≡ (spec.blocked_by fire nodes.old block).nodes) }
-    ensures place { IfOk result (λ n. n ≡ (spec.blocked_by fire nodes.old block).place) }
+fn with_stopper(
+    nodes: &mut Items<NetNode>,
+    fire: u32,
+    stopper: Option<u32>,
+) -> Result<u32, OutOfMemory>
+    ensures nodes { OnOk result (nodes.new ≡ (spec.with_stopper fire nodes.old stopper).nodes) }
+    ensures place { IfOk result (λ n. n ≡ (spec.with_stopper fire nodes.old stopper).place) }
 {
-    match block {
-        Some(block) => either(nodes, block, fire),
+    match stopper {
+        Some(stopper) => either(nodes, stopper, fire),
         None => Ok(fire),
     }
 }
@@ -76,23 +79,23 @@ fn held(found: &[Option<u32>], number: u32) -> Option<u32>
 }
 
 /// The element whose firing this node tells stops each of these.
-#[tactic(auto, unfolding(crate::specs::Growing::all_blocked))]
-fn block_all(
+#[tactic(auto, unfolding(crate::specs::Growing::all_stopped))]
+fn stop_all(
     nodes: &mut Items<NetNode>,
-    blocks: &mut [Option<u32>],
+    stoppers: &mut [Option<u32>],
     fire: u32,
     stopped: &[u32],
 ) -> Result<(), OutOfMemory>
     ensures nodes { OnOk result (nodes.new
-        ≡ (spec.all_blocked fire nodes.old blocks.old stopped.now).nodes) }
-    ensures blocks { OnOk result (blocks.new
-        ≡ (spec.all_blocked fire nodes.old blocks.old stopped.now).blocks) }
+        ≡ (spec.all_stopped fire nodes.old stoppers.old stopped.now).nodes) }
+    ensures stoppers { OnOk result (stoppers.new
+        ≡ (spec.all_stopped fire nodes.old stoppers.old stopped.now).stoppers) }
 {
     let mut rest = stopped;
     while let Some((number, after)) = rest.split_first() {
-        let place = blocked_by(nodes, fire, held(blocks, *number))?;
-        if (*number as usize) < blocks.len() {
-            blocks[*number as usize] = Some(place);
+        let place = with_stopper(nodes, fire, held(stoppers, *number))?;
+        if (*number as usize) < stoppers.len() {
+            stoppers[*number as usize] = Some(place);
         }
         rest = after;
     }
@@ -140,11 +143,11 @@ impl<'a> Growing<'a> {
         }
     }
 
-    fn spots_on(self, part: u32) -> &'a [Spot]
-        ensures { result.now ≡ or_none (slice_get (hand.ground self.entry).spots part) }
+    fn call_sites_on(self, part: u32) -> &'a [CallSite]
+        ensures { result.now ≡ or_none (slice_get (hand.ground self.entry).call_sites part) }
     {
-        match at(self.spots, part as usize) {
-            Some(spots) => spots.as_slice(),
+        match at(self.call_sites, part as usize) {
+            Some(call_sites) => call_sites.as_slice(),
             None => &[],
         }
     }
@@ -186,9 +189,11 @@ impl<'a> Growing<'a> {
             fires: draft.fires.as_slice(),
             sites: draft.sites.as_slice(),
         };
-        let spots = self.spots_on(part);
+        let call_sites = self.call_sites_on(part);
         let nodes = &mut draft.nodes;
-        let found = port(self.alloc, nodes, kind, method, firing, spots, self.none)?;
+        let found = port(
+            self.alloc, nodes, kind, method, firing, call_sites, self.none,
+        )?;
         draft.ports[part as usize].set(method as usize, Some(found));
         Ok(())
     }
@@ -329,9 +334,9 @@ impl<'a> Growing<'a> {
         ensures place { IfOk result (λ n. n ≡ (spec.element_fire (hand.ground self.entry)
             (hand.draft draft.old) number element.now ready).place) }
     {
-        let block = held(draft.blocks.as_slice(), number);
+        let stopper = held(draft.stoppers.as_slice(), number);
         let bit = self.place_asked(&mut draft.nodes, number, element, ready)?;
-        unless(&mut draft.nodes, bit, block)
+        unless(&mut draft.nodes, bit, stopper)
     }
 
     /// What the net tells of an element is kept, for those behind it.
@@ -347,9 +352,9 @@ impl<'a> Growing<'a> {
             (hand.draft draft.old) number element.now places.now telling.ready telling.fire) }
     {
         let stopped = self.stopped_by(number);
-        block_all(
+        stop_all(
             &mut draft.nodes,
-            draft.blocks.as_mut_slice(),
+            draft.stoppers.as_mut_slice(),
             telling.fire,
             stopped,
         )?;

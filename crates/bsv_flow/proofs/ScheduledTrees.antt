@@ -45,15 +45,11 @@ use Rattle.bsv_attr.proofs.Alike as marks
 use Rattle.bsv_attr.proofs.Attributes.{obeys}
 use Rattle.bsv_graph.proofs.OrderedLemmas.{ordering_before, urging_stands}
 use Rattle.bsv_graph.proofs.RelationsLemmas.{agrees_design}
-use Rattle.bsv_clock.specs.Carrying.{cell}
 use Rattle.bsv_clock.specs.Grounds.{IsScheduleOf, KeepsRules}
 use Rattle.bsv_clock.proofs.Belonging as belonging
-use Rattle.bsv_clock.proofs.CarriedAlike.{carried_to}
 use Rattle.bsv_net.specs.declared.net.Net.{Net}
-use Rattle.bsv_net.specs.AtHand.{circuit}
-use Rattle.bsv_fire.specs.Firing.{gives}
-use Rattle.bsv_mux.specs.Hardware.{NetCarries}
-use Rattle.bsv_mux.specs.Results.{KeepsResults}
+use Rattle.bsv_net.specs.Hardware.{NetCarries}
+use Rattle.bsv_net.proofs.Hardware.{net_carried_to}
 use Rattle.bsv_vtext.specs.declared.modules.VModule.{VModule}
 use Rattle.bsv_vtext.specs.AtHand.{contents}
 use Rattle.bsv_flow.specs.declared.refusal.CompileFault.{CompileFault}
@@ -354,9 +350,9 @@ schedule_there d made execution urgency e u executes urges stops =
 
 pub compiled_of : (h : Hierarchy) (d : Design) (g : Guards) (s : Schedule) (n : Net) (v : VModule) → AreAlike (tree_scheme h) (design_scheme (blueprint d))
     → top_name h ≡ Some d.name → d.parts ≡ parts_among h.instances → g.needs ≡ needs_of (kinds_of (blueprint d)) d.elements
-    → AreLifted (blueprint d) g.needs → NetCarries false (design_scheme (blueprint d)) s n → KeepsResults (design_scheme (blueprint d)) (circuit n)
+    → AreLifted (blueprint d) g.needs → NetCarries false (design_scheme (blueprint d)) s n
     → IsVerilogOf h s (contents v) → IsCompiledOf h (record { design = d; guards = g; schedule = s; net = n; verilog = v })
-compiled_of h d g s n v alike name parts needs lifted carries no_result verilog =
+compiled_of h d g s n v alike name parts needs lifted carries verilog =
     let S = tree_scheme h in
     let T = design_scheme (blueprint d) in
     record {
@@ -365,8 +361,7 @@ compiled_of h d g s n v alike name parts needs lifted carries no_result verilog 
       parts = parts;
       needs = needs;
       lifted = lifted;
-      carries = carried_to false T S s (same.alike_back S T alike) (map cell n.registers) n.inputs (gives (circuit n)) carries;
-      no_result = λ k o at. no_result k o (subst (λ (os : List Outline). slice_get os k ≡ Some o) alike.elements at);
+      carries = net_carried_to false S T s n alike carries;
       verilog = verilog;
     }
 

@@ -10,17 +10,15 @@ use Rattle.bsv_design.specs.Sources.{parts_among}
 use Rattle.bsv_design.specs.Trees.{Hierarchy}
 use Rattle.bsv_guard.proofs.Alike.{alike_back}
 use Rattle.bsv_inline.specs.Flattening.{top_name}
-use Rattle.bsv_clock.specs.Carrying.{cell, cells_of}
+use Rattle.bsv_clock.specs.Hardware.{cell, cells_of}
 use Rattle.bsv_clock.specs.Grounds.{IsLawful, IsScheduleOf, KeepsRules}
 use Rattle.bsv_clock.proofs.Belonging as belonging
-use Rattle.bsv_clock.proofs.CarriedAlike.{carried_to}
 use Rattle.bsv_net.specs.declared.net.Net.{Net}
-use Rattle.bsv_net.specs.AtHand.{circuit}
-use Rattle.bsv_fire.specs.Firing.{gives}
-use Rattle.bsv_mux.specs.Hardware.{NetCarries}
+use Rattle.bsv_net.specs.Hardware.{NetCarries, WordsCarry}
+use Rattle.bsv_net.proofs.Hardware.{net_carried_to}
 use Rattle.bsv_vtext.specs.declared.modules.VModule.{VModule}
 use Rattle.bsv_vtext.specs.AtHand.{contents}
-use Rattle.bsv_vgen.specs.Carrying.{ModuleCarries}
+use Rattle.bsv_vgen.specs.Hardware.{ModuleCarries}
 use Rattle.bsv_vgen.specs.Interfaces.{IsModuleOf}
 use Rattle.bsv_vgen.specs.Resetting.{BeginsOpen, Resets}
 use Rattle.bsv_vgen.specs.Runs.{RunsAs}
@@ -30,7 +28,7 @@ use Rattle.bsv_flow.specs.Schedulings.{IsVerilogOf}
 pub registers_there : (d : Design) (made : Schedule) (n : Net) → NetCarries false (design_scheme (blueprint d)) made n
     → map cell n.registers ≡ cells_of (kinds_of (blueprint d))
 unfolding design_scheme
-registers_there d made n carries = carries.registers
+registers_there d made n carries = carries.words.registers
 
 module _ (h : Hierarchy) (d : Design) (made : Schedule) (n : Net) (v : VModule) (alike : AreAlike (tree_scheme h) (design_scheme (blueprint d))) where
   abbrev S : Scheme
@@ -57,13 +55,13 @@ module _ (h : Hierarchy) (d : Design) (made : Schedule) (n : Net) (v : VModule) 
   scheduled there = belonging.schedule_alike T S back made there
 
   net_carries : NetCarries false T made n → NetCarries false S made n
-  net_carries net = carried_to false T S made back (map cell n.registers) n.inputs (gives (circuit n)) net
+  net_carries net = net_carried_to false S T made n alike net
 
   pub verilog_there : top_name h ≡ Some d.name → d.parts ≡ parts_among h.instances → KeepsRules T → IsScheduleOf T made → NetCarries false T made n
       → IsModuleOf d.name d.parts (map outline d.elements) (contents v)
-      → ((aggressive : Bool) (S : Scheme) (made_by : Schedule) → AreAlike S T → IsLawful S → IsScheduleOf S made_by → NetCarries aggressive S made_by n
+      → ((aggressive : Bool) (S : Scheme) (made_by : Schedule) → AreAlike S T → IsLawful S → IsScheduleOf S made_by → WordsCarry aggressive S made_by n
       → ModuleCarries aggressive S made_by (contents v))
-      → ((aggressive : Bool) (S : Scheme) (made_by : Schedule) → AreAlike S T → IsLawful S → IsScheduleOf S made_by → NetCarries aggressive S made_by n
+      → ((aggressive : Bool) (S : Scheme) (made_by : Schedule) → AreAlike S T → IsLawful S → IsScheduleOf S made_by → WordsCarry aggressive S made_by n
       → RunsAs aggressive S made_by (contents v))
       → BeginsOpen (kinds_of (blueprint d)) (contents v) → Resets (kinds_of (blueprint d)) (contents v) → IsVerilogOf h made (contents v)
   verilog_there name parts rules there net is carries runs begins resets = record {
@@ -72,8 +70,8 @@ module _ (h : Hierarchy) (d : Design) (made : Schedule) (n : Net) (v : VModule) 
     top = name;
     is = subst (λ (ps : List NamedPart). IsModuleOf d.name ps S.elements (contents v)) parts
         (subst (λ (os : List Outline). IsModuleOf d.name d.parts os (contents v)) elements_same is);
-    carries = carries false S made alike (lawful rules) (scheduled there) (net_carries net);
-    runs = runs false S made alike (lawful rules) (scheduled there) (net_carries net);
+    carries = carries false S made alike (lawful rules) (scheduled there) (net_carries net).words;
+    runs = runs false S made alike (lawful rules) (scheduled there) (net_carries net).words;
     begins = subst (λ (ks : List Kind). BeginsOpen ks (contents v)) kinds_same begins;
     resets = subst (λ (ks : List Kind). Resets ks (contents v)) kinds_same resets;
   }

@@ -30,13 +30,11 @@ use Rattle.bsv_attr.specs.Asserting.{IsAccepted, NamesImplicit, NamesStopper}
 use Rattle.bsv_attr.specs.Implicit.{demands_of}
 use Rattle.bsv_guard.specs.Lifted.{AreLifted}
 use Rattle.bsv_inline.specs.Flattening.{top_name}
-use Rattle.bsv_net.specs.AtHand.{circuit}
-use Rattle.bsv_mux.specs.Hardware.{NetCarries}
-use Rattle.bsv_mux.specs.Results.{KeepsResults}
+use Rattle.bsv_net.specs.Hardware.{NetCarries}
 use Rattle.bsv_vtext.specs.AtHand.{contents}
 use Rattle.bsv_vtext.specs.Modules.{IsModule}
 use Rattle.bsv_vtext.specs.Signals.{Contents}
-use Rattle.bsv_vgen.specs.Carrying.{ModuleCarries}
+use Rattle.bsv_vgen.specs.Hardware.{ModuleCarries}
 use Rattle.bsv_vgen.specs.Interfaces.{IsModuleOf}
 use Rattle.bsv_vgen.specs.Resetting.{BeginsOpen, Resets}
 use Rattle.bsv_vgen.specs.Runs.{RunsAs}
@@ -186,7 +184,5 @@ pub record IsCompiledOf (h : Hierarchy) (c : Compiled) : Type 0 where
   pub parts : c.design.parts ≡ parts_among h.instances
   pub needs : c.guards.needs ≡ needs_of (kinds_of (blueprint c.design)) c.design.elements
   pub lifted : AreLifted (blueprint c.design) c.guards.needs
-  -- the net carries the tree, and what gives nothing names no node of it
   pub carries : NetCarries false (tree_scheme h) c.schedule c.net
-  pub no_result : KeepsResults (tree_scheme h) (circuit c.net)
   pub verilog : IsVerilogOf h c.schedule (contents c.verilog)

@@ -11,9 +11,7 @@ ghost use Rattle.bsv_graph.specs.ExecutionOrders.{Executes};
 ghost use Rattle.bsv_graph.specs.Relating.{feed_edges};
 ghost use Rattle.bsv_graph.specs.UrgencyOrders.{Urges};
 ghost use Rattle.bsv_graph.specs.Walks.{IsAcyclic};
-ghost use Rattle.bsv_mux.specs.Hardware.{NetCarries};
-ghost use Rattle.bsv_mux.specs.Results.{KeepsResults};
-ghost use Rattle.bsv_net.specs.AtHand.{circuit};
+ghost use Rattle.bsv_net.specs.Hardware.{NetCarries};
 ghost use Rattle.bsv_flow.specs.Breaches as breaches;
 ghost use Rattle.bsv_flow.specs.Running.{CanRun};
 ghost use Rattle.bsv_flow.specs.Schedulings as spec;
@@ -271,10 +269,8 @@ fn net_of(
     requires needs { guards.now.needs
         ≡ needs_of (kinds_of (blueprint design.now)) design.now.elements }
     requires schedule { IsScheduleOf (design_scheme (blueprint design.now)) schedule.now }
-    ensures carries { IfOk result (λ net.
-        NetCarries false (design_scheme (blueprint design.now)) schedule.now net) }
-    ensures no_result { IfOk result (λ net.
-        KeepsResults (design_scheme (blueprint design.now)) (circuit net)) }
+    ensures { IfOk result
+        (NetCarries false (design_scheme (blueprint design.now)) schedule.now) }
 {
     let net = add_fire(alloc, design, guards, schedule)?;
     add_next(alloc, design, schedule, net)

@@ -10,7 +10,7 @@ use Rattle.bsv_design.specs.declared.element.Port.{Port}
 use Rattle.bsv_design.specs.declared.kind.Kind.{Kind}
 use Rattle.bsv_design.specs.declared.node.Node.{Node}
 use Rattle.bsv_design.specs.declared.node.Node.TheVariants as node
-use Rattle.bsv_design.specs.Bodies.{target, Answers, at, answer, node_word, values}
+use Rattle.bsv_design.specs.Bodies.{target, Answers, at, answer, node_word, values, words_behind}
 use Rattle.bsv_design.specs.Kinds.{kind_table}
 use Rattle.bsv_design.specs.Running.{or_zero}
 use Rattle.bsv_design.specs.States.{AreWordsOf}
@@ -165,7 +165,7 @@ module _ (ks : List Kind) (ports : List Port) (cs : List Call) (ws : List Bits) 
       sign_extend_fits (at vs a) width v x.word (ap (λ p. extend_width (Some p) width) x.same_width ∙ ap (λ p. extend_width p width) (sym is.1) ∙ e)
 
   words_from : (ns : List Node) (us ends : List ℕ) (vs : List Bits) → HaveWidths us vs → widths_from ports ks cs us ns ≡ Some ends → HaveWidths ends (values r ws cs vs ns)
-  unfolding values widths_from
+  unfolding words_behind widths_from
   words_from [] us ends vs have e = let same : us ≡ ends = cc in subst (λ (ms : List ℕ). HaveWidths ms vs) same have
   words_from (x ∷ ns) us ends vs have e =
       let c = chained (node_width ports ks cs us x) (λ w. widths_from ports ks cs (us ++ w ∷ []) ns) ends e in

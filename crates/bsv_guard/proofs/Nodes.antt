@@ -1,5 +1,5 @@
 -- The words of a flat body rest on the answers to its own calls alone.
-use Rattle.std.proofs.Common.{◌≡◌, ◌∙◌, ℕ, zero, suc, ◌+◌, ◌<◌, Bool, true, false, not, ◌&&◌, List, [], ◌∷◌, ◌++◌, length, map, Option, Some, None, refl, sym, ap, ap₂, subst, arith, append_assoc, append-nil, length-append}
+use Rattle.std.proofs.Common.{◌≡◌, ◌∙◌, ℕ, zero, suc, ◌+◌, ◌<◌, Bool, true, false, not, ◌&&◌, List, [], ◌∷◌, ◌++◌, length, map, Option, Some, None, refl, sym, ap, ap₂, subst, arith, length-append}
 use Rattle.std.specs.Prelude.{slice_get, nat_lt}
 use Rattle.std.specs.List.{AllByRecursion}
 use Rattle.std.proofs.lemmas.Bool.{and_parts, not-true}
@@ -10,8 +10,9 @@ use Rattle.bsv_design.specs.declared.element.Port.{Port}
 use Rattle.bsv_design.specs.declared.kind.Kind.{Kind}
 use Rattle.bsv_design.specs.declared.node.Node.{Node}
 use Rattle.bsv_design.specs.declared.node.Node.TheVariants as node
-use Rattle.bsv_design.specs.Bodies.{target, Answers, at, answer, node_word, values}
+use Rattle.bsv_design.specs.Bodies.{target, Answers, at, answer, node_word, of_parts, values, words_behind}
 use Rattle.bsv_design.specs.Kinds.{kind_table}
+use Rattle.bsv_design.proofs.Bodies.{words_grown}
 use Rattle.bsv_design.specs.Running.{or_zero}
 use Rattle.bsv_design.specs.Traces.{acts, kind_at}
 use Rattle.bsv_design.specs.Widths.{has_width, if_width, args_fit, method_fits, gives_word, result_width, if_some, node_width, widths_from}
@@ -61,11 +62,7 @@ module _ (ks : List Kind) (ports : List Port) (cs : List Call) (ws : List Bits) 
   next_word r vs x = node_word r ws cs vs x
 
   pub grown : (r : Answers) (vs : List Bits) (ns : List Node) → (more : List Bits) × (values r ws cs vs ns ≡ vs ++ more)
-  unfolding values
-  grown r vs [] = ([], sym (append-nil vs))
-  grown r vs (x ∷ ns) =
-      let g = grown r (vs ++ next_word r vs x ∷ []) ns in
-      (next_word r vs x ∷ g.0, g.1 ∙ append_assoc vs (next_word r vs x ∷ []) g.0)
+  grown r vs ns = words_grown (of_parts r) ws cs vs ns
 
   -- the answers are the same for each call that gives a value, where these are the words of the body
   abbrev AgreeAt : Answers → Answers → List Bits → Type 0
@@ -105,7 +102,7 @@ module _ (ks : List Kind) (ports : List Port) (cs : List Call) (ws : List Bits) 
 
   same_from : (q r : Answers) (all : List Bits) → AgreeAt q r all → (ns : List Node) (vs : List Bits) (us ends : List ℕ) → values q ws cs vs ns ≡ all → length vs ≡ length us → widths_from ports ks cs us ns ≡ Some ends
       → values q ws cs vs ns ≡ values r ws cs vs ns
-  unfolding values widths_from
+  unfolding words_behind widths_from
   same_from q r all h [] vs us ends is long e = refl
   same_from q r all h (x ∷ ns) vs us ends is long e =
       let c = chained (node_width ports ks cs us x) (λ w. widths_from ports ks cs (us ++ w ∷ []) ns) ends e in

@@ -79,7 +79,7 @@ module _ (is : List Instance) (r : Answers) (arguments : List Bits) (calls : Lis
   word_same ws (node.SignExtend a width) = refl
 
   values_same : (ws : List Bits) (xs : List Node) → bodies.values r arguments parts ws xs ≡ nodes.values own arguments calls ws xs
-  unfolding bodies.values nodes.values
+  unfolding bodies.words_behind
   values_same ws [] = refl
   values_same ws (x ∷ xs) =
       ap (λ (w : Bits). bodies.values r arguments parts (ws ++ w ∷ []) xs) (word_same ws x)

@@ -4,7 +4,7 @@ use Rattle.bsv_design.specs.declared.design.Design.{Design}
 use Rattle.bsv_design.specs.Schemes.{kinds_of}
 use Rattle.bsv_design.specs.Seen.{asking, blueprint}
 use Rattle.bsv_design.specs.States.{AskingFits, FitsKinds}
-use Rattle.bsv_serial.specs.Rooms.{HasRoom}
+use Rattle.bsv_design.specs.Rooms.{HasRoom}
 use Rattle.bsv_lockstep.specs.declared.clocks.Run.{Run}
 
 -- a run fits the design

@@ -28,7 +28,7 @@ use Rattle.bsv_graph.specs.Orders.{In}
 use Rattle.bsv_guard.specs.ElementLaws.{IsUse}
 use Rattle.bsv_guard.specs.Fitting.{HaveWidths}
 use Rattle.bsv_guard.proofs.Lists.{mapped_at}
-use Rattle.bsv_clock.specs.Carrying.{Cell, Given, Shows, TellsElements, TellsClock, Carries, cell, cells_of, cell_widths, inputs_of, input_widths}
+use Rattle.bsv_clock.specs.Hardware.{Cell, Given, Shows, TellsElements, TellsClock, Carries, cell, cells_of, cell_widths, inputs_of, input_widths}
 use Rattle.bsv_clock.specs.Clocks.{IsClock, is_in}
 use Rattle.bsv_clock.specs.Grounds.{BelongTogether, Fit, IsLawful, IsScheduleOf, KeepsRules}
 use Rattle.bsv_clock.specs.Looks.{clock_look}
@@ -39,27 +39,30 @@ use Rattle.bsv_clock.proofs.Members.{in_kept}
 use Rattle.bsv_clock.proofs.Steadily.{steady_scheme}
 use Rattle.bsv_clock.proofs.Stopping.{execution_order}
 use Rattle.bsv_net.specs.declared.circuit.Circuit.{Circuit}
+use Rattle.bsv_net.specs.declared.net.Net.{Net}
 use Rattle.bsv_net.specs.declared.node.NetNode.{NetNode}
 use Rattle.bsv_net.specs.declared.node.NetNode.TheVariants as net
 use Rattle.bsv_net.specs.declared.node.Site.{Site as NetSite}
+use Rattle.bsv_net.specs.AtHand.{circuit}
 use Rattle.bsv_net.specs.Circuits.{IsCircuit, register_widths, words}
 use Rattle.bsv_net.specs.Placing.{node_at}
 use Rattle.bsv_net.proofs.Grows.{Grows, grows_trans, kept}
 use Rattle.bsv_net.proofs.Solution.{satisfies, same_length, words_have}
-use Rattle.bsv_fire.specs.Bodies.{or_none}
+use Rattle.bsv_ports.specs.CallSites.{or_none, all_call_sites}
+use Rattle.bsv_ports.specs.Ports.{arity_of}
 use Rattle.bsv_fire.specs.Firing as firing
-use Rattle.bsv_fire.specs.Firing.{Fires, gives, given_at}
-use Rattle.bsv_fire.specs.Grounds.{register_starts}
-use Rattle.bsv_fire.specs.Spots.{all_spots}
-use Rattle.bsv_fire.proofs.FirstNodes.{part_shown, register_start, registers_before, word_behind}
-use Rattle.bsv_fire.proofs.Firings.{cells_have, node_there}
-use Rattle.bsv_fire.proofs.Frame.{Scene, does, looks, TellsFiring, TellsSite}
+use Rattle.bsv_fire.specs.Firing.{Fires}
+use Rattle.bsv_net.specs.Hardware.{NamesNoResult, NetCarries, gives, given_at}
+use Rattle.bsv_ports.specs.Starts.{register_starts}
+use Rattle.bsv_ports.proofs.FirstNodes.{part_shown, register_start, registers_before, word_behind}
+use Rattle.bsv_net.proofs.WidthsFit.{cells_have, inputs_have}
+use Rattle.bsv_fire.proofs.Firings.{node_there}
+use Rattle.bsv_ports.proofs.Scene.{Scene, does, looks, TellsFiring, TellsSite}
 use Rattle.bsv_fire.proofs.GroundTold.{registers_within}
-use Rattle.bsv_fire.proofs.Numbers.{count_below, got_before, got_behind, number_at}
+use Rattle.bsv_net.proofs.Numbers.{count_below, got_before, got_behind, number_at}
 use Rattle.bsv_fire.proofs.Structure.{some_same}
-use Rattle.bsv_fire.proofs.Whole.{after_is, fired_is, fires_is, inputs_have, look_is}
+use Rattle.bsv_fire.proofs.Whole.{after_is, fired_is, fires_is, look_is}
 use Rattle.bsv_mux.specs.Nexts.{IsNextCircuit, Told, next_words, renamed, told, with_registers}
-use Rattle.bsv_mux.specs.Results.{KeepsResults}
 use Rattle.bsv_mux.proofs.NextsTold.{NextsTold, nexts_grow, nexts_told, words_are}
 use Rattle.bsv_mux.proofs.Older.{Named, named, results_renamed, words_grown, words_long}
 
@@ -155,7 +158,7 @@ module _ (b : Blueprint) (right : IsDesign b) (made : Schedule) (lawful : IsLawf
   unfolding next_words
   grown_registers =
       subst (λ (ns : List NetNode). Grows (with_registers c.nodes count) ns) (sym is.nodes)
-      (nexts_grow x (register_starts (length c.nodes) (kinds_of b)) (all_spots (kinds_of b) b.elements made.execution) 0 (with_registers c.nodes count) [] (kinds_of b))
+      (nexts_grow x (register_starts (length c.nodes) (kinds_of b)) (all_call_sites (kinds_of b) b.elements made.execution) 0 (with_registers c.nodes count) [] (kinds_of b))
 
   grown_nodes : Grows c.nodes e.nodes
   grown_nodes = grows_trans (record { more = behind c.nodes count; is = refl }) grown_registers
@@ -203,7 +206,7 @@ module _ (b : Blueprint) (right : IsDesign b) (made : Schedule) (lawful : IsLawf
         ∙ ap bit (fires_is T made q s together fired after clock n l)
 
     calls_told : (n : ℕ) → In made.execution n → (k : ℕ) (t : Target) → slice_get (T.uses n) k ≡ Some t
-        → (y : NetSite) × (slice_get (or_none (slice_get c.sites n)) k ≡ Some y) × (length y.args ≡ firing.arity_of (kind_at T.kinds t) t.method)
+        → (y : NetSite) × (slice_get (or_none (slice_get c.sites n)) k ≡ Some y) × (length y.args ≡ arity_of (kind_at T.kinds t) t.method)
     calls_told n i k t used =
         let found = there_is (firing.sites_of c n) k (omega (arith, promise.calls n (below n i), slice_get_within (T.uses n) k t used)) in
         (found.0, found.1, promise.arguments n k t found.0 used found.1)
@@ -273,11 +276,11 @@ module _ (b : Blueprint) (right : IsDesign b) (made : Schedule) (lawful : IsLawf
     ends_fit = (clock_fed false T made q s together (steady_scheme false T lawful)).end_fits
 
     all_told : NextsTold scene x zero_bit made.execution firing_told (λ n i m u. each_use n i m u (cases_lt n (length T.elements)))
-        (all_spots (kinds_of b) b.elements made.execution) refl (register_starts (length c.nodes) (kinds_of b)) shown_told [] (kinds_of b) (end_of T made s (does scene)) (next_words b made c)
+        (all_call_sites (kinds_of b) b.elements made.execution) refl (register_starts (length c.nodes) (kinds_of b)) shown_told [] (kinds_of b) (end_of T made s (does scene)) (next_words b made c)
     unfolding next_words
     all_told =
         nexts_told scene x zero_bit made.execution firing_told (λ n i m u. each_use n i m u (cases_lt n (length T.elements)))
-        (all_spots (kinds_of b) b.elements made.execution) refl (register_starts (length c.nodes) (kinds_of b)) shown_told (kinds_of b) (end_of T made s (does scene)) ends_fit 0
+        (all_call_sites (kinds_of b) b.elements made.execution) refl (register_starts (length c.nodes) (kinds_of b)) shown_told (kinds_of b) (end_of T made s (does scene)) ends_fit 0
         (λ j. ap (slice_get (kinds_of b)) (omega arith)) (λ j. ap (part_at (end_of T made s (does scene))) (omega arith)) (with_registers c.nodes count) []
         (subst (λ (ns : List NetNode). Grows ns e.nodes) is.nodes (record { more = []; is = sym (append-nil e.nodes) }))
 
@@ -363,16 +366,16 @@ module _ (d : Design) (made : Schedule) (rules : KeepsRules (design_scheme (blue
   cells_kept : map cell e.registers ≡ cells_of U.kinds
   cells_kept = ap (map cell) is.registers ∙ promise.registers
 
-  pub carries : Carries false U made (map cell e.registers) e.inputs (gives e)
-  carries = record {
+  words_carry : Carries false U made (map cell e.registers) e.inputs (gives e)
+  words_carry = record {
     registers = cells_kept;
     inputs = is.inputs ∙ promise.inputs;
     clock = λ q s ws fired after fit have shows clock.
         clock_of q s ws fired after fit (subst (λ (cs : List Cell). HaveWidths (cell_widths cs) ws) cells_kept have) shows clock;
   }
 
-  pub keeps_results : KeepsResults U e
-  keeps_results n o at_o gives_none =
+  names_no_result : NamesNoResult U e
+  names_no_result n o at_o gives_none =
       ap (λ (ns : List ℕ). slice_get ns n) is.results
       ∙ (mapped_at (renamed (length c.nodes) (length (next_words (blueprint d) made c).nodes)) c.results n (length c.nodes) (promise.no_result n o at_o gives_none)
       ∙ (ap (λ (t : Bool). Some (if t then length c.nodes else length (next_words (blueprint d) made c).nodes)) (never (length c.nodes))
@@ -384,3 +387,11 @@ module _ (d : Design) (made : Schedule) (rules : KeepsRules (design_scheme (blue
           of : (t : Bool) → nat_lt k k ≡ t → t ≡ false
           of true h = absurd (let l = ltb-true k k h in omega arith)
           of false h = refl
+
+pub net_carries : (d : Design) (made : Schedule) → KeepsRules (design_scheme (blueprint d)) → IsScheduleOf (design_scheme (blueprint d)) made
+    → (c : Circuit) → ∥ IsCircuit c ∥₁ → Fires false (design_scheme (blueprint d)) made c
+    → (n : Net) → IsNextCircuit (blueprint d) made c (circuit n) → NetCarries false (design_scheme (blueprint d)) made n
+net_carries d made rules scheduled c before promise n is = record {
+  words = words_carry d made rules scheduled c before promise (circuit n) is n.right;
+  no_result = names_no_result d made rules scheduled c before promise (circuit n) is n.right;
+}

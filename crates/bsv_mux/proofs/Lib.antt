@@ -1,4 +1,3 @@
-pub mod ShownRegisters
 pub mod Older
 pub mod PartNext
 pub mod NextsTold

@@ -14,7 +14,7 @@ use Rattle.bsv_design.specs.States.{FitsKinds, part_at}
 use Rattle.bsv_graph.specs.Edges.{numbers_below}
 use Rattle.bsv_graph.specs.Orders.{In}
 use Rattle.bsv_guard.specs.ElementLaws.{IsUse}
-use Rattle.bsv_clock.specs.Carrying.{Shows}
+use Rattle.bsv_clock.specs.Hardware.{Shows}
 use Rattle.bsv_clock.specs.Settling.{end_of}
 use Rattle.bsv_net.specs.declared.node.NetNode.{NetNode}
 use Rattle.bsv_net.specs.declared.wires.MethodPort.{MethodPort}
@@ -22,17 +22,16 @@ use Rattle.bsv_net.specs.AtHand.{wires_with, placed, called_in, args_in}
 use Rattle.bsv_net.specs.Placing.{Wires, node_at, piece}
 use Rattle.bsv_net.proofs.Grows.{Grows, grows_refl, grows_trans, piece_grows}
 use Rattle.bsv_net.proofs.PieceMeans.{Carries, piece_means, speaks_of_all}
-use Rattle.bsv_fire.specs.declared.spots.Spot.{Spot}
-use Rattle.bsv_fire.specs.Bodies.{or_none}
-use Rattle.bsv_fire.specs.Ports.{PlacedAll, port}
-use Rattle.bsv_fire.specs.Spots.{all_spots}
-use Rattle.bsv_fire.proofs.Frame.{Scene, S, does, last_call, TellsFiring, TellsPort}
-use Rattle.bsv_fire.proofs.PortGrowth.{port_grows}
-use Rattle.bsv_fire.proofs.PortTold.{port_told}
+use Rattle.bsv_ports.specs.declared.call_sites.CallSite.{CallSite}
+use Rattle.bsv_ports.specs.CallSites.{or_none, all_call_sites}
+use Rattle.bsv_ports.specs.Ports.{PlacedAll, port}
+use Rattle.bsv_ports.proofs.Scene.{Scene, S, does, last_call, TellsFiring, TellsPort}
+use Rattle.bsv_ports.proofs.PortGrowth.{port_grows}
+use Rattle.bsv_ports.proofs.PortTold.{port_told}
 use Rattle.bsv_mux.specs.Nexts as nexts
 use Rattle.bsv_mux.specs.Nexts.{Told, PlacedPorts}
 use Rattle.bsv_mux.proofs.PartNext.{next_signals, next_shows, or_any}
-use Rattle.bsv_mux.proofs.ShownRegisters.{shows_same, shows_more}
+use Rattle.bsv_net.proofs.ShownRegisters.{shows_same, shows_more}
 
 -- ---- lists
 
@@ -66,14 +65,14 @@ map_both V (x ∷ xs) ys = ap (λ (ws : List Bits). V x ∷ ws) (map_both V xs y
 -- ---- growth
 
 module _ (x : Told) (t : Table) where
-  ports_grow : (ss : List Spot) (ns : List NetNode) (so_far : List (Option MethodPort)) (ms : List ℕ) → Grows ns (nexts.ports x t ss ns so_far ms).nodes
+  ports_grow : (ss : List CallSite) (ns : List NetNode) (so_far : List (Option MethodPort)) (ms : List ℕ) → Grows ns (nexts.ports x t ss ns so_far ms).nodes
   unfolding nexts.ports
   ports_grow ss ns so_far [] = grows_refl ns
   ports_grow ss ns so_far (m ∷ ms) =
       let p = port t x.none x.fires x.sites m ns ss in
       grows_trans (port_grows t x.none x.fires x.sites m ns ss) (ports_grow ss p.nodes (so_far ++ Some p.port ∷ []) ms)
 
-  ports_both : (ss : List Spot) (ns : List NetNode) (so_far : List (Option MethodPort)) (xs ys : List ℕ)
+  ports_both : (ss : List CallSite) (ns : List NetNode) (so_far : List (Option MethodPort)) (xs ys : List ℕ)
       → nexts.ports x t ss ns so_far (xs ++ ys) ≡ nexts.ports x t ss (nexts.ports x t ss ns so_far xs).nodes (nexts.ports x t ss ns so_far xs).ports ys
   unfolding nexts.ports
   ports_both ss ns so_far [] ys = refl
@@ -97,7 +96,7 @@ module _ (x : Told) (t : Table) where
       pieces_both w p.nodes (so_far ++ p.place ∷ []) rs ys
 
 module _ (x : Told) where
-  pub part_grows : (k : Kind) (start : ℕ) (ss : List Spot) (ns : List NetNode) (so_far : List ℕ) → Grows ns (nexts.part_nexts x k start ss ns so_far).nodes
+  pub part_grows : (k : Kind) (start : ℕ) (ss : List CallSite) (ns : List NetNode) (so_far : List ℕ) → Grows ns (nexts.part_nexts x k start ss ns so_far).nodes
   unfolding nexts.part_nexts
   part_grows k start ss ns so_far = of ((kind_table k).registers == 0)
     where
@@ -112,25 +111,25 @@ module _ (x : Told) where
       of false = grows_trans (ports_grow x (kind_table k) ss ns [] (numbers_below (kind_table k).methods))
           (pieces_grow x (kind_table k) w all.nodes so_far (numbers_below (kind_table k).registers))
 
-  pub nexts_grow : (starts : List ℕ) (spots : List (List Spot)) (i : ℕ) (ns : List NetNode) (so_far : List ℕ) (ks : List Kind)
-      → Grows ns (nexts.nexts x starts spots i ns so_far ks).nodes
+  pub nexts_grow : (starts : List ℕ) (call_sites : List (List CallSite)) (i : ℕ) (ns : List NetNode) (so_far : List ℕ) (ks : List Kind)
+      → Grows ns (nexts.nexts x starts call_sites i ns so_far ks).nodes
   unfolding nexts.nexts
-  nexts_grow starts spots i ns so_far [] = grows_refl ns
-  nexts_grow starts spots i ns so_far (k ∷ ks) =
-      let p = nexts.part_nexts x k (node_at starts i) (or_none (slice_get spots i)) ns so_far in
-      grows_trans (part_grows k (node_at starts i) (or_none (slice_get spots i)) ns so_far) (nexts_grow starts spots (i + 1) p.nodes p.places ks)
+  nexts_grow starts call_sites i ns so_far [] = grows_refl ns
+  nexts_grow starts call_sites i ns so_far (k ∷ ks) =
+      let p = nexts.part_nexts x k (node_at starts i) (or_none (slice_get call_sites i)) ns so_far in
+      grows_trans (part_grows k (node_at starts i) (or_none (slice_get call_sites i)) ns so_far) (nexts_grow starts call_sites (i + 1) p.nodes p.places ks)
 
 -- ---- meaning
 
 module _ (z : Scene) (x : Told) (zero_bit : z.V x.none ≡ bit false) (all : List ℕ) (told : TellsFiring z x.fires x.sites all)
     (each : (n i m : ℕ) → IsUse (S z) n (record { part = i; method = m }) → In all n)
-    (spots : List (List Spot)) (are : spots ≡ all_spots (kinds_of z.b) z.b.elements z.made.execution)
+    (call_sites : List (List CallSite)) (are : call_sites ≡ all_call_sites (kinds_of z.b) z.b.elements z.made.execution)
     (i : ℕ) (k : Kind) (there : slice_get (kinds_of z.b) i ≡ Some k) where
   abbrev t : Table
   t = kind_table k
 
-  abbrev ss : List Spot
-  ss = or_none (slice_get spots i)
+  abbrev ss : List CallSite
+  ss = or_none (slice_get call_sites i)
 
   record PortsTold (n : ℕ) (r : PlacedPorts) : Type 0 where
     long : length r.ports ≡ n
@@ -164,7 +163,7 @@ module _ (z : Scene) (x : Told) (zero_bit : z.V x.none ≡ bit false) (all : Lis
       let grown : Grows p.nodes z.full = subst (λ (y : PlacedPorts). Grows y.nodes z.full) both g in
       subst (λ (y : PlacedPorts). PortsTold (suc n) y) (sym both)
       (one_port_more n r p.port (ports_told n (omega arith) ns (grows_trans (port_grows t x.none x.fires x.sites n r.nodes ss) grown))
-      (port_told z spots are x.none zero_bit x.fires x.sites all told i n k there (omega arith) (λ m u. each m i n u) r.nodes grown) p.nodes)
+      (port_told z call_sites are x.none zero_bit x.fires x.sites all told i n k there (omega arith) (λ m u. each m i n u) r.nodes grown) p.nodes)
 
   -- ---- pieces
 
@@ -285,7 +284,7 @@ module _ (z : Scene) (x : Told) (zero_bit : z.V x.none ≡ bit false) (all : Lis
 
 module _ (z : Scene) (x : Told) (zero_bit : z.V x.none ≡ bit false) (all : List ℕ) (told : TellsFiring z x.fires x.sites all)
     (each : (n i m : ℕ) → IsUse (S z) n (record { part = i; method = m }) → In all n)
-    (spots : List (List Spot)) (are : spots ≡ all_spots (kinds_of z.b) z.b.elements z.made.execution)
+    (call_sites : List (List CallSite)) (are : call_sites ≡ all_call_sites (kinds_of z.b) z.b.elements z.made.execution)
     (starts : List ℕ)
     (shown : (i : ℕ) (k : Kind) → slice_get (kinds_of z.b) i ≡ Some k
     → (r : ℕ → Bits) × (kind_table k).Shows (part_at z.s i) r × ((n : ℕ) → n < (kind_table k).registers → z.V (node_at starts i + n) ≡ r n)) where
@@ -303,8 +302,8 @@ module _ (z : Scene) (x : Told) (zero_bit : z.V x.none ≡ bit false) (all : Lis
 
   -- the parts from this place on
   pub nexts_told : (ks : List Kind) (ps : List Part) → FitsKinds ks ps → (i : ℕ) → ((j : ℕ) → slice_get (kinds_of z.b) (i + j) ≡ slice_get ks j)
-      → ((j : ℕ) → part_at ends (i + j) ≡ part_at ps j) → (ns : List NetNode) (so_far : List ℕ) → Grows (nexts.nexts x starts spots i ns so_far ks).nodes z.full
-      → NextsTold so_far ks ps (nexts.nexts x starts spots i ns so_far ks)
+      → ((j : ℕ) → part_at ends (i + j) ≡ part_at ps j) → (ns : List NetNode) (so_far : List ℕ) → Grows (nexts.nexts x starts call_sites i ns so_far ks).nodes z.full
+      → NextsTold so_far ks ps (nexts.nexts x starts call_sites i ns so_far ks)
   unfolding nexts.nexts
   nexts_told [] [] fit i kinds parts ns so_far g = record { more = []; is = sym (append-nil so_far); shows = tt }
   nexts_told [] (p ∷ ps) fit i kinds parts ns so_far g = absurd fit
@@ -313,10 +312,10 @@ module _ (z : Scene) (x : Told) (zero_bit : z.V x.none ≡ bit false) (all : Lis
       let here : slice_get (kinds_of z.b) i ≡ Some k = ap (slice_get (kinds_of z.b)) (omega arith) ∙ kinds 0 in
       let end_is : part_at ends i ≡ p = ap (part_at ends) (omega arith) ∙ parts 0 in
       let own = shown i k here in
-      let q = nexts.part_nexts x k (node_at starts i) (or_none (slice_get spots i)) ns so_far in
-      let one = part_told z x zero_bit all told each spots are i k here (node_at starts i) own.0 own.1 own.2
+      let q = nexts.part_nexts x k (node_at starts i) (or_none (slice_get call_sites i)) ns so_far in
+      let one = part_told z x zero_bit all told each call_sites are i k here (node_at starts i) own.0 own.1 own.2
       (subst (λ (y : Part). (kind_table k).Fits y) (sym end_is) fit.0) (ap (λ (xs : List Kind). slice_get xs i) same_kinds ∙ here) ns so_far
-      (grows_trans (nexts_grow x starts spots (i + 1) q.nodes q.places ks) g) in
+      (grows_trans (nexts_grow x starts call_sites (i + 1) q.nodes q.places ks) g) in
       let rest = nexts_told ks ps fit.1 (i + 1) (λ j. ap (slice_get (kinds_of z.b)) (omega arith) ∙ kinds (suc j)) (λ j. ap (part_at ends) (omega arith) ∙ parts (suc j)) q.nodes q.places g in
       record {
         more = one.more ++ rest.more;

@@ -1,5 +1,5 @@
 -- The words of a net's first nodes are those of the net of these nodes alone.
-use Rattle.std.proofs.Common.{◌≡◌, ◌∙◌, ◌<◌, ◌≤◌, ◌+◌, ℕ, Bool, true, false, ◌&&◌, List, [], ◌∷◌, ◌++◌, Option, Some, None, refl, sym, ap, ap₂, arith, length, map, length-append}
+use Rattle.std.proofs.Common.{◌≡◌, ◌∙◌, ◌<◌, ◌≤◌, ◌+◌, ℕ, Bool, true, false, ◌&&◌, List, [], ◌∷◌, ◌++◌, Option, Some, None, refl, sym, ap, ap₂, arith, length, map}
 use Rattle.std.specs.Prelude.{slice_get, nat_lt, if◌then◌else◌}
 use Rattle.std.specs.List.{list_all}
 use Rattle.std.proofs.lemmas.Bool.{and_parts, ltb-true, ltb-false}
@@ -7,9 +7,10 @@ use Rattle.std.proofs.lemmas.List.{length-map}
 use Rattle.std.proofs.lemmas.Option.{slice_get_past}
 use Rattle.bsv_bits.specs.Words.{Bits}
 use Rattle.bsv_design.specs.declared.node.Node.{Node}
-use Rattle.bsv_design.specs.Bodies.{at, values, node_word}
+use Rattle.bsv_design.specs.Bodies.{at, of_parts, values}
 use Rattle.bsv_design.specs.Relations.{no_answers}
 use Rattle.bsv_design.specs.Running.{or_zero}
+use Rattle.bsv_design.proofs.Bodies as bodies
 use Rattle.bsv_guard.proofs.Lists.{holds_at_all}
 use Rattle.bsv_guard.proofs.Nodes.{grown, has_one}
 use Rattle.bsv_net.specs.declared.circuit.Circuit.{Circuit}
@@ -17,30 +18,16 @@ use Rattle.bsv_net.specs.declared.node.NetNode.{NetNode}
 use Rattle.bsv_net.specs.declared.node.Site.{Site as NetSite}
 use Rattle.bsv_net.specs.Circuits.{as_node, as_nodes, is_bit, is_in_order, is_node, is_site, nexts_fit, width_fits, names, words}
 use Rattle.bsv_net.proofs.Grows.{Grows}
-use Rattle.bsv_fire.specs.Bodies.{or_none}
+use Rattle.bsv_ports.specs.CallSites.{or_none}
 use Rattle.bsv_mux.specs.Nexts.{renamed}
 
 -- ---- words
-
-module _ (arguments : List Bits) where
-  abbrev following : List Bits → List Node → List Bits
-  following vs ns = values no_answers arguments [] vs ns
-
-  values_both : (vs : List Bits) (xs ys : List Node) → following vs (xs ++ ys) ≡ following (following vs xs) ys
-  unfolding values
-  values_both vs [] ys = refl
-  values_both vs (x ∷ xs) ys = values_both (vs ++ node_word no_answers arguments [] vs x ∷ []) xs ys
-
-  values_long : (vs : List Bits) (xs : List Node) → length (following vs xs) ≡ length vs + length xs
-  unfolding values
-  values_long vs [] = omega arith
-  values_long vs (x ∷ xs) = values_long (vs ++ node_word no_answers arguments [] vs x ∷ []) xs ∙ omega (arith, length-append vs (node_word no_answers arguments [] vs x ∷ []))
 
 -- there is a word for each node
 pub words_long : (ns : List NetNode) (inputs registers : List Bits) → length (words ns inputs registers) ≡ length ns
 unfolding words
 words_long ns inputs registers =
-    values_long (inputs ++ registers) [] (as_nodes (length inputs) ns) ∙ (ap (λ k. 0 + k) (length-map ns (as_node (length inputs))) ∙ omega arith)
+    bodies.words_long (of_parts no_answers) (inputs ++ registers) [] [] (as_nodes (length inputs) ns) ∙ (ap (λ k. 0 + k) (length-map ns (as_node (length inputs))) ∙ omega arith)
 
 nodes_both : (n : ℕ) (xs ys : List NetNode) → as_nodes n (xs ++ ys) ≡ as_nodes n xs ++ as_nodes n ys
 nodes_both n [] ys = refl
@@ -56,7 +43,7 @@ words_grown old new g inputs registers =
       rest.0,
       ap (λ (ns : List NetNode). values no_answers (inputs ++ registers) [] [] (as_nodes n ns)) g.is
           ∙ (ap (values no_answers (inputs ++ registers) [] []) (nodes_both n old g.more)
-          ∙ (values_both (inputs ++ registers) [] (as_nodes n old) (as_nodes n g.more) ∙ rest.1)),
+          ∙ (bodies.words_append (of_parts no_answers) (inputs ++ registers) [] [] (as_nodes n old) (as_nodes n g.more) ∙ rest.1)),
     )
 
 past_is : (vs : List Bits) (n : ℕ) → length vs ≤ n → at vs n ≡ or_zero None

@@ -5,8 +5,8 @@ use Rattle.bsv_prim.specs.Table.{Table}
 use Rattle.bsv_net.specs.declared.node.NetNode.{NetNode}
 use Rattle.bsv_net.specs.declared.wires.MethodPort.{MethodPort}
 use Rattle.bsv_net.specs.Placing.{Wires, piece}
-use Rattle.bsv_fire.specs.declared.spots.Spot.{Spot}
-use Rattle.bsv_fire.specs.Ports.{PlacedAll, port}
+use Rattle.bsv_ports.specs.declared.call_sites.CallSite.{CallSite}
+use Rattle.bsv_ports.specs.Ports.{PlacedAll, port}
 use Rattle.bsv_mux.specs.Nexts.{Told, PlacedPorts, ports, pieces}
 
 numbers_more : (n : ℕ) → numbers_below (n + 1) ≡ numbers_below n ++ n ∷ []
@@ -14,13 +14,13 @@ numbers_more n = ap numbers_below (add-one n)
 
 -- ---- methods of a part
 
-abbrev pub one_port : Told → Table → List Spot → PlacedPorts → ℕ → PlacedPorts
+abbrev pub one_port : Told → Table → List CallSite → PlacedPorts → ℕ → PlacedPorts
 one_port x t ss p m = record {
   nodes = (port t x.none x.fires x.sites m p.nodes ss).nodes;
   ports = p.ports ++ Some (port t x.none x.fires x.sites m p.nodes ss).port ∷ [];
 }
 
-ports_behind : (x : Told) (t : Table) (ss : List Spot) (ns : List NetNode) (so_far : List (Option MethodPort)) (ms : List ℕ) (m : ℕ)
+ports_behind : (x : Told) (t : Table) (ss : List CallSite) (ns : List NetNode) (so_far : List (Option MethodPort)) (ms : List ℕ) (m : ℕ)
     → ports x t ss ns so_far (ms ++ m ∷ []) ≡ one_port x t ss (ports x t ss ns so_far ms) m
 unfolding ports
 ports_behind x t ss ns so_far [] m = refl
@@ -28,7 +28,7 @@ ports_behind x t ss ns so_far (n ∷ ms) m =
     let p = one_port x t ss (record { nodes = ns; ports = so_far }) n in
     ports_behind x t ss p.nodes p.ports ms m
 
-pub ports_more : (x : Told) (t : Table) (ss : List Spot) (ns : List NetNode) (so_far : List (Option MethodPort)) (n : ℕ)
+pub ports_more : (x : Told) (t : Table) (ss : List CallSite) (ns : List NetNode) (so_far : List (Option MethodPort)) (n : ℕ)
     → ports x t ss ns so_far (numbers_below (n + 1)) ≡ one_port x t ss (ports x t ss ns so_far (numbers_below n)) n
 ports_more x t ss ns so_far n =
     ap (ports x t ss ns so_far) (numbers_more n) ∙ ports_behind x t ss ns so_far (numbers_below n) n

@@ -3,7 +3,7 @@ use Rattle.std.proofs.Common.{◌≡◌, ◌∙◌, ◌<◌, ℕ, true, false, L
 use Rattle.std.specs.Prelude.{slice_get}
 use Rattle.std.specs.List.{AllByRecursion}
 use Rattle.bsv_bits.specs.Words.{Bits}
-use Rattle.bsv_prim.specs.Calls.{IsReady, IsInOrder, IsOrderly, Tells, latest, look}
+use Rattle.bsv_prim.specs.Calls.{IsReady, IsInOrder, IsOrderly, latest, look}
 use Rattle.bsv_prim.specs.Calls as prim
 use Rattle.bsv_prim.specs.Parallel.{IsParallel}
 use Rattle.bsv_prim.specs.Signals.{Signals, word_of}
@@ -25,7 +25,7 @@ use Rattle.bsv_clock.specs.Settling.{deeds, end_of, look_of}
 use Rattle.bsv_clock.proofs.CallLists.{all_from, all_on}
 use Rattle.bsv_clock.proofs.Clocks.{clock_fed}
 use Rattle.bsv_clock.proofs.Steadily.{emptied_fits, looked_at, part_fits, steady_scheme}
-use Rattle.bsv_fire.proofs.Frame.{Scene, S, does, looks, last_call}
+use Rattle.bsv_ports.proofs.Scene.{Scene, S, does, looks, last_call}
 use Rattle.bsv_fire.proofs.PiecesTold.{emptied_at}
 
 -- ---- orderly calls

@@ -1,4 +1,2 @@
 pub mod Nexts
-pub mod Results
 pub mod AtHand
-pub mod Hardware

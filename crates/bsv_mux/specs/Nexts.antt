@@ -16,11 +16,10 @@ use Rattle.bsv_net.specs.declared.node.Site.{Site}
 use Rattle.bsv_net.specs.declared.wires.MethodPort.{MethodPort}
 use Rattle.bsv_net.specs.AtHand.{wires_with}
 use Rattle.bsv_net.specs.Placing.{Wires, node_at, piece}
-use Rattle.bsv_fire.specs.declared.spots.Spot.{Spot}
-use Rattle.bsv_fire.specs.Bodies.{or_none}
-use Rattle.bsv_fire.specs.Grounds.{register_starts}
-use Rattle.bsv_fire.specs.Ports.{PlacedAll, port}
-use Rattle.bsv_fire.specs.Spots.{all_spots}
+use Rattle.bsv_ports.specs.declared.call_sites.CallSite.{CallSite}
+use Rattle.bsv_ports.specs.CallSites.{or_none, all_call_sites}
+use Rattle.bsv_ports.specs.Starts.{register_starts}
+use Rattle.bsv_ports.specs.Ports.{PlacedAll, port}
 
 -- what the next words are placed with: the nodes that tell which elements fire, those of their calls, and one that is 0
 pub record Told : Type 0 where
@@ -35,12 +34,12 @@ pub record PlacedPorts : Type 0 where
 
 module _ (x : Told) where
   -- these methods of a part
-  unfoldable pub ports : Table → List Spot → List NetNode → List (Option MethodPort) → List ℕ → PlacedPorts
+  unfoldable pub ports : Table → List CallSite → List NetNode → List (Option MethodPort) → List ℕ → PlacedPorts
   ports t ss ns so_far [] = record { nodes = ns; ports = so_far }
   ports t ss ns so_far (m ∷ ms) =
       ports t ss (port t x.none x.fires x.sites m ns ss).nodes (so_far ++ Some (port t x.none x.fires x.sites m ns ss).port ∷ []) ms
 
-  abbrev pub all_ports : Table → List Spot → List NetNode → PlacedPorts
+  abbrev pub all_ports : Table → List CallSite → List NetNode → PlacedPorts
   all_ports t ss ns = ports t ss ns [] (numbers_below t.methods)
 
   -- the next words of these registers, behind those of others
@@ -56,17 +55,17 @@ module _ (x : Told) where
   over_ports t start so_far p = all_pieces t (wires_with start p.ports t.methods []) p.nodes so_far
 
   -- those of a part, whose first register has this node
-  unfoldable pub part_nexts : Kind → ℕ → List Spot → List NetNode → List ℕ → PlacedAll
+  unfoldable pub part_nexts : Kind → ℕ → List CallSite → List NetNode → List ℕ → PlacedAll
   part_nexts k start ss ns so_far =
       cond ((kind_table k).registers == 0) (record { nodes = ns; places = so_far })
       (over_ports (kind_table k) start so_far (all_ports (kind_table k) ss ns))
 
   -- those of the parts from this place on
-  unfoldable pub nexts : List ℕ → List (List Spot) → ℕ → List NetNode → List ℕ → List Kind → PlacedAll
-  nexts starts spots i ns so_far [] = record { nodes = ns; places = so_far }
-  nexts starts spots i ns so_far (k ∷ ks) =
-      nexts starts spots (i + 1) (part_nexts k (node_at starts i) (or_none (slice_get spots i)) ns so_far).nodes
-      (part_nexts k (node_at starts i) (or_none (slice_get spots i)) ns so_far).places ks
+  unfoldable pub nexts : List ℕ → List (List CallSite) → ℕ → List NetNode → List ℕ → List Kind → PlacedAll
+  nexts starts call_sites i ns so_far [] = record { nodes = ns; places = so_far }
+  nexts starts call_sites i ns so_far (k ∷ ks) =
+      nexts starts call_sites (i + 1) (part_nexts k (node_at starts i) (or_none (slice_get call_sites i)) ns so_far).nodes
+      (part_nexts k (node_at starts i) (or_none (slice_get call_sites i)) ns so_far).places ks
 
 -- ---- the whole
 
@@ -84,7 +83,7 @@ module _ (b : Blueprint) (made : Schedule) (c : Circuit) where
 
   unfoldable pub next_words : PlacedAll
   next_words =
-      nexts told (register_starts (length c.nodes) (kinds_of b)) (all_spots (kinds_of b) b.elements made.execution) 0
+      nexts told (register_starts (length c.nodes) (kinds_of b)) (all_call_sites (kinds_of b) b.elements made.execution) 0
       (with_registers c.nodes (length c.registers)) [] (kinds_of b)
 
   -- the circuit with the next word of each register

@@ -2,19 +2,18 @@ ghost use Rattle.std.specs.Prelude.{◌≡◌, ◌+◌, [], IfOk, OnOk, false, m
 ghost use Rattle.bsv_clock.specs.Grounds.{IsScheduleOf, KeepsRules};
 ghost use Rattle.bsv_design.specs.Schemes.{design_scheme, kinds_of};
 ghost use Rattle.bsv_design.specs.Seen.{blueprint};
-ghost use Rattle.bsv_fire.specs.Bodies.{or_none};
+ghost use Rattle.bsv_ports.specs.CallSites.{or_none};
 ghost use Rattle.bsv_fire.specs.Firing.{Fires};
 ghost use Rattle.bsv_net.specs.AtHand.{circuit};
 ghost use Rattle.bsv_mux.specs.AtHand as hand;
-ghost use Rattle.bsv_mux.specs.Hardware.{NetCarries};
+ghost use Rattle.bsv_net.specs.Hardware.{NetCarries};
 ghost use Rattle.bsv_mux.specs.Nexts as spec;
-ghost use Rattle.bsv_mux.specs.Results.{KeepsResults};
 
 use crate::parts::Muxing;
 use bsv_bits::{OutOfMemory, Word};
 use bsv_design::{Design, NamedPart, Schedule};
-use bsv_fire::{Firing, Spot, all_spots, register_starts};
 use bsv_net::{Circuit, Net, NetNode, add, node_at};
+use bsv_ports::{CallSite, Firing, all_call_sites, register_starts};
 use sqlite_items::{Items, at};
 use std::alloc::Global;
 
@@ -30,10 +29,10 @@ fn add_registers(nodes: &mut Items<NetNode>, count: u32) -> Result<(), OutOfMemo
 }
 
 /// The call sites on a part.
-fn spots_on(spots: &[Items<Spot>], part: u32) -> &[Spot]
-    ensures { result.now ≡ or_none (slice_get spots.now part) }
+fn call_sites_on(call_sites: &[Items<CallSite>], part: u32) -> &[CallSite]
+    ensures { result.now ≡ or_none (slice_get call_sites.now part) }
 {
-    match at(spots, part as usize) {
+    match at(call_sites, part as usize) {
         Some(found) => found.as_slice(),
         None => &[],
     }
@@ -46,19 +45,19 @@ fn next_words(
     nodes: &mut Items<NetNode>,
     parts: &[NamedPart],
     starts: &[u32],
-    spots: &[Items<Spot>],
+    call_sites: &[Items<CallSite>],
 ) -> Result<Items<u32>, OutOfMemory>
     ensures nodes { OnOk result (nodes.new ≡ (spec.nexts (hand.told muxing.entry) starts.now
-        spots.now 0 nodes.old [] (map (λ p. p.kind) parts.now)).nodes) }
+        call_sites.now 0 nodes.old [] (map (λ p. p.kind) parts.now)).nodes) }
     ensures nexts { IfOk result (λ nexts. nexts ≡ (spec.nexts (hand.told muxing.entry)
-        starts.now spots.now 0 nodes.old [] (map (λ p. p.kind) parts.now)).places) }
+        starts.now call_sites.now 0 nodes.old [] (map (λ p. p.kind) parts.now)).places) }
 {
     let mut nexts = Items::new(muxing.alloc);
     let mut number = 0u32;
     let mut rest = parts;
     while let Some((part, after)) = rest.split_first() {
         let start = node_at(starts, number);
-        let found = spots_on(spots, number);
+        let found = call_sites_on(call_sites, number);
         muxing.part_nexts(nodes, &mut nexts, &part.kind, start, found)?;
         let Some(next) = number.checked_add(1) else {
             return Err(OutOfMemory);
@@ -121,7 +120,7 @@ fn with_next_words(
         return Err(OutOfMemory);
     };
     let execution = schedule.execution.as_slice();
-    let spots = all_spots(alloc, parts, design.elements.as_slice(), execution)?;
+    let call_sites = all_call_sites(alloc, parts, design.elements.as_slice(), execution)?;
     let starts = register_starts(alloc, first, parts)?;
     let mut nodes = Items::from_slice(alloc, net.nodes.as_slice())?;
     add_registers(&mut nodes, count)?;
@@ -134,7 +133,7 @@ fn with_next_words(
         firing,
         none,
     };
-    let nexts = next_words(muxing, &mut nodes, parts, &starts, &spots)?;
+    let nexts = next_words(muxing, &mut nodes, parts, &starts, &call_sites)?;
     Ok(Extended { nodes, nexts })
 }
 
@@ -179,8 +178,6 @@ pub fn add_next(
     requires fires { Fires false (design_scheme (blueprint design.now)) schedule.now (circuit net) }
     ensures carries { IfOk result (λ made.
         NetCarries false (design_scheme (blueprint design.now)) schedule.now made) }
-    ensures no_result { IfOk result (λ made.
-        KeepsResults (design_scheme (blueprint design.now)) (circuit made)) }
     ensures sites { IfOk result (λ made. made.sites ≡ []) }
 {
     let circuit = next_circuit(alloc, design, schedule, net)?;

@@ -6,8 +6,8 @@ ghost use Rattle.bsv_mux.specs.Nexts as spec;
 
 use bsv_bits::OutOfMemory;
 use bsv_design::Kind;
-use bsv_fire::{Firing, Spot, port};
 use bsv_net::{MethodPort, NetNode, Wires};
+use bsv_ports::{CallSite, Firing, port};
 use bsv_prim::Primitive;
 use sqlite_items::Items;
 use std::alloc::Global;
@@ -30,12 +30,12 @@ impl Muxing<'_> {
         self,
         nodes: &mut Items<NetNode>,
         kind: &Kind,
-        spots: &[Spot],
+        call_sites: &[CallSite],
     ) -> Result<Items<Option<MethodPort>>, OutOfMemory>
         ensures nodes { OnOk result (nodes.new ≡ (spec.all_ports (hand.told self.entry)
-            (kind_table kind.now) spots.now nodes.old).nodes) }
+            (kind_table kind.now) call_sites.now nodes.old).nodes) }
         ensures ports { IfOk result (λ ports. ports ≡ (spec.all_ports (hand.told self.entry)
-            (kind_table kind.now) spots.now nodes.old).ports) }
+            (kind_table kind.now) call_sites.now nodes.old).ports) }
     {
         let mut ports = Items::new(self.alloc);
         for method in 0..kind.methods() {
@@ -45,7 +45,7 @@ impl Muxing<'_> {
                 kind,
                 method,
                 self.firing,
-                spots,
+                call_sites,
                 self.none,
             )?;
             ports.push(Some(found))?;
@@ -100,17 +100,17 @@ impl Muxing<'_> {
         nexts: &mut Items<u32>,
         kind: &Kind,
         start: u32,
-        spots: &[Spot],
+        call_sites: &[CallSite],
     ) -> Result<(), OutOfMemory>
         ensures nodes { OnOk result (nodes.new ≡ (spec.part_nexts (hand.told self.entry)
-            kind.now start spots.now nodes.old nexts.old).nodes) }
+            kind.now start call_sites.now nodes.old nexts.old).nodes) }
         ensures nexts { OnOk result (nexts.new ≡ (spec.part_nexts (hand.told self.entry)
-            kind.now start spots.now nodes.old nexts.old).places) }
+            kind.now start call_sites.now nodes.old nexts.old).places) }
     {
         if kind.registers() == 0 {
             return Ok(());
         }
-        let ports = self.ports(nodes, kind, spots)?;
+        let ports = self.ports(nodes, kind, call_sites)?;
         let found = Wires {
             registers: start,
             ports: ports.as_slice(),

@@ -6,9 +6,9 @@ use Rattle.std.proofs.lemmas.List.{map-append}
 use Rattle.std.proofs.lemmas.Option.{same_Some}
 use Rattle.std.proofs.Math.Logic.{∥∥₁_elim}
 use Rattle.bsv_bits.specs.Words.{Bits}
-use Rattle.bsv_design.specs.declared.node.Node.{Node}
-use Rattle.bsv_design.specs.Bodies.{at, node_word, values}
+use Rattle.bsv_design.specs.Bodies.{at, of_parts, values, words_behind}
 use Rattle.bsv_design.specs.Relations.{no_answers}
+use Rattle.bsv_design.proofs.Bodies.{words_one}
 use Rattle.bsv_guard.specs.Fitting.{HaveWidths}
 use Rattle.bsv_guard.proofs.Lists.{holds_at_all}
 use Rattle.bsv_net.specs.declared.net.Net.{Net}
@@ -23,18 +23,8 @@ take_one {A} [] i x e = absurd (let n : ⊥ = cc in n)
 take_one {A} (y ∷ ys) zero x e = ap (λ (z : A). z ∷ []) (same_Some y x e)
 take_one {A} (y ∷ ys) (suc i) x e = let place : suc i + 1 ≡ suc (i + 1) = omega arith in ap (λ (n : ℕ). take n (y ∷ ys)) place ∙ ap (λ (zs : List A). y ∷ zs) (take_one ys i x e)
 
-module _ (arguments : List Bits) where
-  values_append : (ws : List Bits) (xs ys : List Node) → values no_answers arguments [] ws (xs ++ ys) ≡ values no_answers arguments [] (values no_answers arguments [] ws xs) ys
-  unfolding values
-  values_append ws [] ys = refl
-  values_append ws (x ∷ xs) ys = values_append (ws ++ node_word no_answers arguments [] ws x ∷ []) xs ys
-
-  values_one : (ws : List Bits) (x : Node) → values no_answers arguments [] ws (x ∷ []) ≡ ws ++ node_word no_answers arguments [] ws x ∷ []
-  unfolding values
-  values_one ws x = refl
-
 pub words_none : (inputs registers : List Bits) → words [] inputs registers ≡ []
-unfolding words values
+unfolding words words_behind
 words_none inputs registers = refl
 
 -- the words of one node more
@@ -46,8 +36,7 @@ words_more xs inputs registers i x e =
     let args : List Bits = inputs ++ registers in
     ap (λ (ys : List NetNode). values no_answers args [] [] (as_nodes n ys)) (take_one xs i x e)
     ∙ ap (values no_answers args [] []) (map-append (as_node n) (take i xs) (x ∷ []))
-    ∙ values_append args [] (as_nodes n (take i xs)) (as_node n x ∷ [])
-    ∙ values_one args (values no_answers args [] [] (as_nodes n (take i xs))) (as_node n x)
+    ∙ words_one (of_parts no_answers) args [] [] (as_nodes n (take i xs)) (as_node n x)
 
 -- what stands at a place of a net is there
 pub net_within : (n : Net) (inputs : List Bits) → HaveWidths n.inputs inputs → (k : ℕ) (x : NetNode) → slice_get n.nodes k ≡ Some x → is_within (length inputs) (length n.registers) x ≡ true

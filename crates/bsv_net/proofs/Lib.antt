@@ -5,3 +5,7 @@ pub mod Evaluating
 pub mod Grows
 pub mod PieceMeans
 pub mod Gates
+pub mod Hardware
+pub mod Numbers
+pub mod ShownRegisters
+pub mod WidthsFit

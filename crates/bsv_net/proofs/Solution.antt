@@ -9,7 +9,7 @@ use Rattle.bsv_bits.specs.Words.{Bits, word_slice, word_concat, word_extend}
 use Rattle.bsv_bits.specs.declared.operator.Operator.{Operator}
 use Rattle.bsv_design.specs.declared.element.Port.{Port}
 use Rattle.bsv_design.specs.declared.node.Node.{Node}
-use Rattle.bsv_design.specs.Bodies.{at, node_word, values}
+use Rattle.bsv_design.specs.Bodies.{at, node_word, values, words_behind}
 use Rattle.bsv_design.specs.Computing.{between, sliced, joined, extended, sign_extended}
 use Rattle.bsv_design.specs.Relations.{no_answers}
 use Rattle.bsv_design.specs.Running.{or_zero}
@@ -80,7 +80,7 @@ module _ (ps : List Port) (arguments : List Bits) where
 
   each_at : (ns : List Node) (vs : List Bits) (us ends : List ℕ) → length vs ≡ length us → widths_from ps [] [] us ns ≡ Some ends → (k : ℕ) (x : Node) → slice_get ns k ≡ Some x
       → IsAt ends (following vs ns) (length vs + k) x
-  unfolding values widths_from
+  unfolding words_behind widths_from
   each_at [] vs us ends long e k x there = absurd (let n : ⊥ = cc in n)
   each_at (y ∷ ns) vs us ends long e zero x there =
       let same : y ≡ x = same_Some y x there in

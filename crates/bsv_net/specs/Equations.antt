@@ -1,15 +1,16 @@
 -- What the words of a net are to each other: each is what its operator gives for the words of its operands. This is all
 -- that is used of them above.
-use Rattle.std.specs.Prelude.{◌≡◌, ℕ, List, slice_get, Some, if◌then◌else◌}
+use Rattle.std.specs.Prelude.{◌≡◌, ℕ, List, [], ◌++◌, length, slice_get, Some, if◌then◌else◌}
 use Rattle.bsv_bits.specs.Operators.{operate}
 use Rattle.bsv_bits.specs.Signed.{word_sign_extend}
 use Rattle.bsv_bits.specs.Words.{Bits, word_not, word_slice, word_concat, word_extend}
 use Rattle.bsv_prim.specs.Signals.{is_one}
 use Rattle.bsv_prim.specs.Table.{IsWordOf}
-use Rattle.bsv_design.specs.Bodies.{at}
-use Rattle.bsv_design.specs.Computing as computing
+use Rattle.bsv_design.specs.Bodies.{at, of_parts, word_over}
+use Rattle.bsv_design.specs.Relations.{no_answers}
 use Rattle.bsv_net.specs.declared.node.NetNode.{NetNode}
 use Rattle.bsv_net.specs.declared.node.NetNode.TheVariants as net
+use Rattle.bsv_net.specs.Circuits.{as_node}
 
 -- the word of each node, by its place
 abbrev pub Values : Type 0
@@ -33,14 +34,7 @@ module _ (inputs registers : List Bits) (V : Values) where
   abbrev pub computed : NetNode → Bits
   computed (net.Input k) = at inputs k
   computed (net.Register k) = at registers k
-  computed (net.Constant w) = w
-  computed (net.Not a) = word_not (V a)
-  computed (net.Two o a b) = computing.between o (V a) (V b)
-  computed (net.Pick t a b) = computing.picked (V t) (V a) (V b)
-  computed (net.Slice a high low) = computing.sliced (V a) high low
-  computed (net.Join a b) = computing.joined (V a) (V b)
-  computed (net.Extend a width) = computing.extended (V a) width
-  computed (net.SignExtend a width) = computing.sign_extended (V a) width
+  computed x = word_over (of_parts no_answers) (inputs ++ registers) [] V (as_node (length inputs) x)
 
   -- the words satisfy the nodes, as a solution does its equations
   pub record Satisfies (nodes : List NetNode) (widths : List ℕ) : Type 0 where

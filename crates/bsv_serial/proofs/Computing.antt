@@ -9,8 +9,9 @@ use Rattle.bsv_design.specs.declared.element.Port.{Port}
 use Rattle.bsv_design.specs.declared.kind.Kind.{Kind}
 use Rattle.bsv_design.specs.declared.node.Node.{Node}
 use Rattle.bsv_design.specs.declared.node.Node.TheVariants as node
-use Rattle.bsv_design.specs.Bodies.{target, Answers, answer, node_word, values}
+use Rattle.bsv_design.specs.Bodies.{target, Answers, answer, node_word, of_parts, values, words_behind}
 use Rattle.bsv_design.specs.Schemes.{answers, guard_of, result_of, no_result}
+use Rattle.bsv_design.proofs.Bodies.{words_one}
 use Rattle.bsv_design.specs.Traces.{kind_at}
 use Rattle.bsv_design.specs.Widths.{if_some, node_width, widths_from}
 use Rattle.bsv_guard.specs.Fitting.{HaveWidths}
@@ -25,16 +26,10 @@ use Rattle.bsv_serial.specs.Sights.{look_behind}
 -- ---- words
 
 module _ (r : Answers) (arguments : List Bits) (cs : List Call) where
-  values_append : (ws : List Bits) (xs ys : List Node) → values r arguments cs ws (xs ++ ys) ≡ values r arguments cs (values r arguments cs ws xs) ys
-  unfolding values
-  values_append ws [] ys = refl
-  values_append ws (x ∷ xs) ys = values_append (ws ++ node_word r arguments cs ws x ∷ []) xs ys
-
   -- one node more
   pub values_more : (ns : List Node) (i : ℕ) (x : Node) → slice_get ns i ≡ Some x
       → values r arguments cs [] (take (i + 1) ns) ≡ values r arguments cs [] (take i ns) ++ node_word r arguments cs (values r arguments cs [] (take i ns)) x ∷ []
-  unfolding values
-  values_more ns i x e = ap (values r arguments cs []) (take_one ns i x e) ∙ values_append [] (take i ns) (x ∷ [])
+  values_more ns i x e = ap (values r arguments cs []) (take_one ns i x e) ∙ words_one (of_parts r) arguments cs [] (take i ns) x
 
   -- the words rest on the answers to the calls of the body
   module _ (q : Answers) (same : (k : ℕ) (c : Call) → slice_get cs k ≡ Some c → (args : List Bits) → r k (target c) args ≡ q k (target c) args) where
@@ -55,7 +50,7 @@ module _ (r : Answers) (arguments : List Bits) (cs : List Call) where
     word_same ws (node.SignExtend a width) = refl
 
     pub values_same : (ws : List Bits) (ns : List Node) → values r arguments cs ws ns ≡ values q arguments cs ws ns
-    unfolding values
+    unfolding words_behind
     values_same ws [] = refl
     values_same ws (x ∷ ns) =
         ap (λ (v : Bits). values r arguments cs (ws ++ v ∷ []) ns) (word_same ws x)

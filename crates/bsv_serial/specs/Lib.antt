@@ -7,6 +7,5 @@ pub mod Applying
 pub mod Deciding
 pub mod AtHand
 pub mod Telling
-pub mod Rooms
 pub mod Placing
 pub mod Turning

@@ -7,7 +7,7 @@ ghost use Rattle.bsv_design.specs.Seen.{asking, blueprint};
 ghost use Rattle.bsv_design.specs.States.{AskingFits, FitsKinds};
 ghost use Rattle.bsv_serial.specs.AtHand.{clock_course, so_far};
 ghost use Rattle.bsv_serial.specs.Deciding as spec;
-ghost use Rattle.bsv_serial.specs.Rooms.{HasRoom};
+ghost use Rattle.bsv_design.specs.Rooms.{HasRoom};
 
 use crate::deciding::Deciding;
 use crate::fates::Fates;

@@ -1,5 +1,5 @@
 ghost use Rattle.std.specs.Prelude.{◌≡◌, ◌≤◌, ◌<◌, ◌^◌, length, vec_capacity};
-ghost use Rattle.bsv_serial.specs.Rooms.{HasRoom};
+ghost use Rattle.bsv_design.specs.Rooms.{HasRoom};
 ghost use Rattle.bsv_serial.specs.Telling as spec;
 
 use crate::fates::Fate;

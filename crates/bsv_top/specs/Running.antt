@@ -12,7 +12,7 @@ use Rattle.bsv_trace.specs.Lines.{AsksFor}
 use Rattle.bsv_trace.specs.Texts.{clock_text}
 use Rattle.bsv_clock.specs.Events.{Happens}
 use Rattle.bsv_clock.specs.Runs.{Row, Runs}
-use Rattle.bsv_serial.specs.Rooms.{HasRoom}
+use Rattle.bsv_design.specs.Rooms.{HasRoom}
 use Rattle.bsv_flow.specs.declared.scheduling.Compiled.{Compiled}
 use Rattle.bsv_flow.specs.Breaches.{element_name}
 use Rattle.bsv_flow.specs.Schedulings.{Subject, design_subject}

@@ -26,7 +26,7 @@ use Rattle.bsv_clock.proofs.Asked.{happen_alike}
 use Rattle.bsv_clock.proofs.Clocks.{clock_run, one_after, one_fired, some_clock}
 use Rattle.bsv_clock.proofs.Members.{found, in_kept, is_found, kept_in, not_found}
 use Rattle.bsv_clock.proofs.Steadily.{steady_scheme}
-use Rattle.bsv_fire.proofs.Numbers.{number_at}
+use Rattle.bsv_net.proofs.Numbers.{number_at}
 
 -- ---- the requests
 

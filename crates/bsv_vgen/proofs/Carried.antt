@@ -22,8 +22,8 @@ use Rattle.bsv_guard.specs.Fitting.{HaveWidths}
 use Rattle.bsv_guard.proofs.Alike.{alike}
 use Rattle.bsv_guard.proofs.Given.{given_arguments}
 use Rattle.bsv_guard.proofs.Lists.{IsOf, item_of, mapped_at}
-use Rattle.bsv_clock.specs.Carrying.{Cell, Given, Shows, TellsClock, cell, cell_widths, cells_of, input_widths, inputs_of}
-use Rattle.bsv_clock.specs.Carrying as clocks
+use Rattle.bsv_clock.specs.Hardware.{Cell, Given, Shows, TellsClock, cell, cell_widths, cells_of, input_widths, inputs_of}
+use Rattle.bsv_clock.specs.Hardware as clocks
 use Rattle.bsv_clock.specs.Clocks.{IsClock, is_asked, is_in}
 use Rattle.bsv_clock.specs.Grounds.{Fit, IsLawful, IsScheduleOf}
 use Rattle.bsv_clock.specs.Looks.{clock_look}
@@ -31,18 +31,16 @@ use Rattle.bsv_clock.specs.Values.{IsValueMethod}
 use Rattle.bsv_net.specs.declared.net.Net.{Net}
 use Rattle.bsv_net.specs.AtHand.{circuit}
 use Rattle.bsv_net.specs.Circuits.{register_widths}
-use Rattle.bsv_fire.specs.Firing.{gives}
-use Rattle.bsv_fire.proofs.Firings.{cells_have}
-use Rattle.bsv_fire.proofs.Numbers.{number_at}
-use Rattle.bsv_fire.proofs.Whole.{inputs_have}
-use Rattle.bsv_mux.specs.Hardware.{NetCarries}
+use Rattle.bsv_net.specs.Hardware.{gives, WordsCarry}
+use Rattle.bsv_net.proofs.WidthsFit.{cells_have, inputs_have}
+use Rattle.bsv_net.proofs.Numbers.{number_at}
 use Rattle.bsv_vtext.specs.declared.tree.Atom.{Atom}
 use Rattle.bsv_vtext.specs.declared.tree.Atom.TheVariants as atom
 use Rattle.bsv_vtext.specs.declared.tree.Target.TheVariants as target
 use Rattle.bsv_vtext.specs.Signals.{Contents}
 use Rattle.bsv_vtext.specs.VClock.{Inputs, Nets, VClock, atom_word, word_at}
 use Rattle.bsv_vgen.specs.declared.known.Known.{Known}
-use Rattle.bsv_vgen.specs.Carrying.{ModuleCarries, TellsFire, TellsModule, inputs}
+use Rattle.bsv_vgen.specs.Hardware.{ModuleCarries, TellsFire, TellsModule, inputs}
 use Rattle.bsv_vgen.specs.Modules as modules
 use Rattle.bsv_vgen.specs.Modules.{argument_inputs, asked_input}
 use Rattle.bsv_vgen.specs.Names.{fire_wire}
@@ -151,7 +149,7 @@ gives_from_word b made q n look e there w is =
 module _ (b : Blueprint) (right : ∥ IsDesign b ∥₁) (net : Net) (m : Contents) (computes : Computes b (circuit net) m)
     (count : length m.methods ≡ length (methods_in b.elements)) where
   module _ (g : Bool) (S : Scheme) (made : Schedule) (al : AreAlike S (design_scheme b)) (lawful : IsLawful S)
-      (scheduled : IsScheduleOf S made) (net_carries : NetCarries g S made net)
+      (scheduled : IsScheduleOf S made) (net_carries : WordsCarry g S made net)
       (q : Asking) (s : List Part) (ws : List Bits) (fired : List ℕ) (after : List Part) (nets : Nets) (nexts : List Bits) (fit : Fit S q s)
       (have : HaveWidths (cell_widths (cells_of S.kinds)) ws) (shows : Shows S.kinds s ws) (clock : IsClock g S made q s fired after)
       (steps : VClock m ws (inputs S q (length m.methods)) true nets nexts) where
@@ -267,7 +265,7 @@ module _ (b : Blueprint) (right : ∥ IsDesign b ∥₁) (net : Net) (m : Conten
 
   -- what the net carries, the module carries
   pub carries : (aggressive : Bool) (S : Scheme) (made : Schedule) → AreAlike S (design_scheme b) → IsLawful S → IsScheduleOf S made
-      → NetCarries aggressive S made net → ModuleCarries aggressive S made m
+      → WordsCarry aggressive S made net → ModuleCarries aggressive S made m
   carries aggressive S made al lawful scheduled net_carries =
       λ q s ws fired after nets nexts fit have shows clock steps.
       module_told aggressive S made al lawful scheduled net_carries q s ws fired after nets nexts fit have shows clock steps

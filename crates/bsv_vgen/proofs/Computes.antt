@@ -8,13 +8,13 @@ use Rattle.bsv_design.specs.declared.element.Element.{Element}
 use Rattle.bsv_guard.specs.Fitting.{HaveWidths}
 use Rattle.bsv_net.specs.declared.circuit.Circuit.{Circuit}
 use Rattle.bsv_net.specs.Circuits.{register_widths}
-use Rattle.bsv_fire.specs.Firing.{gives}
+use Rattle.bsv_net.specs.Hardware.{gives}
 use Rattle.bsv_vtext.specs.declared.tree.Atom.{Atom}
 use Rattle.bsv_vtext.specs.declared.tree.Target.TheVariants as target
 use Rattle.bsv_vtext.specs.Signals.{Contents}
 use Rattle.bsv_vtext.specs.VClock.{Inputs, Nets, VClock, atom_word}
 use Rattle.bsv_vgen.specs.declared.known.Known.{Known}
-use Rattle.bsv_vgen.specs.Carrying.{TellsFire}
+use Rattle.bsv_vgen.specs.Hardware.{TellsFire}
 use Rattle.bsv_vgen.specs.Modules.{inputs}
 
 -- the words of the inputs of a net, where atoms have these words

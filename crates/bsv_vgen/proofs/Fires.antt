@@ -15,7 +15,7 @@ use Rattle.bsv_vtext.specs.Modules.{Stands}
 use Rattle.bsv_vtext.specs.Signals.{Contents}
 use Rattle.bsv_vtext.specs.VClock.{Inputs, Nets, atom_word}
 use Rattle.bsv_vgen.specs.declared.known.Known.{Known}
-use Rattle.bsv_vgen.specs.Carrying.{TellsFire}
+use Rattle.bsv_vgen.specs.Hardware.{TellsFire}
 use Rattle.bsv_vgen.specs.Lines.{Written, with_wire}
 use Rattle.bsv_vgen.specs.Modules.{told_at, with_fire, with_fires}
 use Rattle.bsv_vgen.specs.Names.{fire_wire, fire_wires}

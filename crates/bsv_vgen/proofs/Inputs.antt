@@ -10,7 +10,7 @@ use Rattle.bsv_design.specs.Roles.{is_rule, is_value}
 use Rattle.bsv_design.specs.Schemes.{outline}
 use Rattle.bsv_design.specs.States.{methods_in}
 use Rattle.bsv_guard.proofs.Lists.{mapped_at}
-use Rattle.bsv_clock.specs.Carrying.{input_widths_of}
+use Rattle.bsv_clock.specs.Hardware.{input_widths_of}
 use Rattle.bsv_vtext.specs.declared.tree.Atom.TheVariants as atom
 use Rattle.bsv_vtext.specs.declared.tree.VMethod.{VMethod}
 use Rattle.bsv_vtext.specs.declared.tree.VWire.{VWire}

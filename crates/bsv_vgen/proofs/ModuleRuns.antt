@@ -17,13 +17,13 @@ use Rattle.bsv_design.specs.States.{AreWordsOf, FitsKinds, opening}
 use Rattle.bsv_graph.specs.Edges.{numbers_below}
 use Rattle.bsv_guard.specs.Fitting.{HaveWidths, RequestFits}
 use Rattle.bsv_guard.proofs.Lists.{mapped_at}
-use Rattle.bsv_clock.specs.Carrying.{Shows, cell_widths, cells_of}
+use Rattle.bsv_clock.specs.Hardware.{Shows, cell_widths, cells_of}
 use Rattle.bsv_clock.specs.Grounds.{IsLawful}
 use Rattle.bsv_clock.specs.Runs.{Row, AllFit, Continues}
 use Rattle.bsv_clock.proofs.InTurn.{run_fits}
 use Rattle.bsv_clock.proofs.OneRun.{opening_fits}
 use Rattle.bsv_clock.proofs.Steadily.{emptied_fits}
-use Rattle.bsv_fire.proofs.Numbers.{number_at}
+use Rattle.bsv_net.proofs.Numbers.{number_at}
 use Rattle.bsv_vtext.specs.declared.tree.Atom.TheVariants as atom
 use Rattle.bsv_vtext.specs.declared.tree.VMethod.{VMethod}
 use Rattle.bsv_vtext.specs.declared.tree.VRegister.{VRegister}
@@ -32,7 +32,7 @@ use Rattle.bsv_vtext.specs.Modules.{IsModule, IsRegister}
 use Rattle.bsv_vtext.specs.Signals.{Contents, arguments_of}
 use Rattle.bsv_vtext.specs.VClock.{Inputs, Nets, VClock, initial, word_at}
 use Rattle.bsv_vtext.specs.Widths.{atom_width}
-use Rattle.bsv_vgen.specs.Carrying.{ModuleCarries, inputs}
+use Rattle.bsv_vgen.specs.Hardware.{ModuleCarries, inputs}
 use Rattle.bsv_vgen.specs.Interfaces.{HasMethod, IsMethodAt, argument_of, cell}
 use Rattle.bsv_vgen.specs.Resetting.{BeginsOpen}
 use Rattle.bsv_vgen.specs.Runs.{ModuleRow, ModuleContinues, TellsFrom, RunsAs}

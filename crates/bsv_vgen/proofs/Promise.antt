@@ -9,14 +9,14 @@ use Rattle.bsv_design.specs.declared.schedule.Schedule.{Schedule}
 use Rattle.bsv_design.specs.Designs.{Blueprint, IsDesign}
 use Rattle.bsv_design.specs.Schemes.{Scheme, AreAlike, Outline, design_scheme, kinds_of, outline}
 use Rattle.bsv_design.specs.Seen.{blueprint}
-use Rattle.bsv_clock.specs.Carrying as carrying
-use Rattle.bsv_clock.specs.Carrying.{cells_of, input_widths, input_widths_of}
+use Rattle.bsv_clock.specs.Hardware as carrying
+use Rattle.bsv_clock.specs.Hardware.{cells_of, input_widths, input_widths_of}
 use Rattle.bsv_clock.specs.Grounds.{IsLawful, IsScheduleOf}
 use Rattle.bsv_net.specs.declared.circuit.Circuit.{Circuit}
 use Rattle.bsv_net.specs.declared.net.Net.{Net}
 use Rattle.bsv_net.specs.AtHand.{circuit}
 use Rattle.bsv_net.specs.Circuits.{IsCircuit}
-use Rattle.bsv_mux.specs.Hardware.{NetCarries}
+use Rattle.bsv_net.specs.Hardware.{WordsCarry}
 use Rattle.bsv_vtext.specs.declared.tree.Assign.{Assign}
 use Rattle.bsv_vtext.specs.declared.tree.Atom.{Atom}
 use Rattle.bsv_vtext.specs.declared.tree.VMethod.{VMethod}
@@ -24,7 +24,7 @@ use Rattle.bsv_vtext.specs.declared.tree.VRegister.{VRegister}
 use Rattle.bsv_vtext.specs.declared.tree.VWire.{VWire}
 use Rattle.bsv_vtext.specs.Modules.{IsModule}
 use Rattle.bsv_vtext.specs.Signals.{Contents}
-use Rattle.bsv_vgen.specs.Carrying.{ModuleCarries}
+use Rattle.bsv_vgen.specs.Hardware.{ModuleCarries}
 use Rattle.bsv_vgen.specs.Interfaces.{IsModuleOf, cell}
 use Rattle.bsv_vgen.specs.Modules.{module_of}
 use Rattle.bsv_vgen.specs.Resetting.{BeginsOpen, Resets}
@@ -65,7 +65,7 @@ module _ (d : Design) (n : Net) (v : Contents) (is : v ≡ module_of (blueprint 
   is_its_module = subst (IsModuleOf d.name d.parts (map outline d.elements)) same (whole.is_its_module b c registers widths d.right)
 
   pub carries_too : (aggressive : Bool) (S : Scheme) (made : Schedule) → AreAlike S (design_scheme b) → IsLawful S → IsScheduleOf S made
-      → NetCarries aggressive S made n → ModuleCarries aggressive S made v
+      → WordsCarry aggressive S made n → ModuleCarries aggressive S made v
   carries_too aggressive S made alike lawful scheduled net_carries =
       subst (ModuleCarries aggressive S made) same
       (carries b d.right n (whole.m b c registers widths) (whole.computes b c registers widths d.right n.right) (whole.methods_count b c registers widths)
@@ -89,7 +89,7 @@ module _ (d : Design) (n : Net) (v : Contents) (is : v ≡ module_of (blueprint 
   kinds_are S alike = alike.kinds
 
   pub runs_too : ∥ IsModule v ∥₁ → (aggressive : Bool) (S : Scheme) (made : Schedule) → AreAlike S (design_scheme b) → IsLawful S → IsScheduleOf S made
-      → NetCarries aggressive S made n → RunsAs aggressive S made v
+      → WordsCarry aggressive S made n → RunsAs aggressive S made v
   runs_too right aggressive S made alike lawful scheduled net_carries =
       let own : IsModuleOf d.name d.parts S.elements v = subst (λ (os : List Outline). IsModuleOf d.name d.parts os v) (sym (elements_are S alike)) is_its_module in
       runs_as S v own.methods own.no_more aggressive made lawful right (cells_are ∙ ap cells_of (sym (kinds_are S alike)))

@@ -12,9 +12,9 @@ use Rattle.bsv_design.specs.States.{FitsKinds, opening}
 use Rattle.bsv_graph.specs.Edges.{numbers_below}
 use Rattle.bsv_guard.specs.Fitting.{HaveWidths}
 use Rattle.bsv_guard.proofs.Lists.{mapped_at}
-use Rattle.bsv_clock.specs.Carrying.{Cell, Shows, cell_of, cell_widths, cells_in, cells_of}
-use Rattle.bsv_fire.proofs.Numbers.{count_below, got_before, number_at}
-use Rattle.bsv_mux.proofs.ShownRegisters.{shows_same}
+use Rattle.bsv_clock.specs.Hardware.{Cell, Shows, cell_of, cell_widths, cells_in, cells_of}
+use Rattle.bsv_net.proofs.Numbers.{count_below, got_before, number_at}
+use Rattle.bsv_net.proofs.ShownRegisters.{shows_same}
 use Rattle.bsv_vtext.specs.declared.tree.VRegister.{VRegister}
 use Rattle.bsv_vtext.specs.Signals.{Contents}
 use Rattle.bsv_vtext.specs.VClock.{reset_words}

@@ -32,9 +32,9 @@ use Rattle.bsv_net.specs.Circuits as circuits
 use Rattle.bsv_net.specs.Equations.{Satisfies}
 use Rattle.bsv_net.proofs.Lists.{got_right}
 use Rattle.bsv_net.proofs.Solution.{satisfies, words_have, same_length}
-use Rattle.bsv_fire.specs.Firing.{gives}
-use Rattle.bsv_clock.specs.Carrying as carrying
-use Rattle.bsv_clock.specs.Carrying.{cells_of, input_widths_of}
+use Rattle.bsv_net.specs.Hardware.{gives}
+use Rattle.bsv_clock.specs.Hardware as carrying
+use Rattle.bsv_clock.specs.Hardware.{cells_of, input_widths_of}
 use Rattle.bsv_vtext.specs.declared.tree.Assign.{Assign}
 use Rattle.bsv_vtext.specs.declared.tree.Atom.{Atom}
 use Rattle.bsv_vtext.specs.declared.tree.Atom.TheVariants as atom
@@ -48,7 +48,7 @@ use Rattle.bsv_vtext.specs.Signals.{Contents}
 use Rattle.bsv_vtext.specs.VClock.{Inputs, Nets, atom_word, side_word}
 use Rattle.bsv_vtext.specs.Widths.{target_width, width_fits}
 use Rattle.bsv_vgen.specs.declared.known.Known.{Known}
-use Rattle.bsv_vgen.specs.Carrying.{TellsFire}
+use Rattle.bsv_vgen.specs.Hardware.{TellsFire}
 use Rattle.bsv_vgen.specs.Interfaces.{IsMethodOf, IsModuleOf, argument_of}
 use Rattle.bsv_vgen.specs.Lines.{Written, Nodes, or_nothing, known_at}
 use Rattle.bsv_vgen.specs.Modules.{assign, inputs, known_of, lines, method_of, module_with, nothing_written, outputs_from, result_of, told_at, with_fires}

@@ -4,7 +4,7 @@ use Rattle.bsv_design.specs.declared.design.NamedPart.{NamedPart}
 use Rattle.bsv_design.specs.declared.element.Port.{Port}
 use Rattle.bsv_design.specs.Roles.{is_rule, is_value, gives_value}
 use Rattle.bsv_design.specs.Schemes.{Outline}
-use Rattle.bsv_clock.specs.Carrying.{Cell, cells_of}
+use Rattle.bsv_clock.specs.Hardware.{Cell, cells_of}
 use Rattle.bsv_vtext.specs.declared.tree.VMethod.{VMethod}
 use Rattle.bsv_vtext.specs.declared.tree.VRegister.{VRegister}
 use Rattle.bsv_vtext.specs.declared.tree.VWire.{VWire}

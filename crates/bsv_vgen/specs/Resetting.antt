@@ -8,7 +8,7 @@ use Rattle.bsv_design.specs.declared.kind.Kind.TheVariants.{RegU}
 use Rattle.bsv_design.specs.Kinds.{kind_table}
 use Rattle.bsv_design.specs.States.{FitsKinds, opening}
 use Rattle.bsv_guard.specs.Fitting.{HaveWidths}
-use Rattle.bsv_clock.specs.Carrying.{Shows, cell_widths, cells_of}
+use Rattle.bsv_clock.specs.Hardware.{Shows, cell_widths, cells_of}
 use Rattle.bsv_vtext.specs.Signals.{Contents}
 use Rattle.bsv_vtext.specs.VClock.{Inputs, Nets, VClock, initial}
 

@@ -9,7 +9,7 @@ use Rattle.bsv_design.specs.States.{opening}
 use Rattle.bsv_clock.specs.Runs.{Row, Runs, AllFit}
 use Rattle.bsv_vtext.specs.Signals.{Contents}
 use Rattle.bsv_vtext.specs.VClock.{Nets, VClock, initial}
-use Rattle.bsv_vgen.specs.Carrying.{TellsModule, inputs}
+use Rattle.bsv_vgen.specs.Hardware.{TellsModule, inputs}
 
 -- a clock of a module: the words of its nets, and the registers behind it
 pub record ModuleRow : Type 0 where

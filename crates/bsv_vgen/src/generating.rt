@@ -1,13 +1,13 @@
 ghost use Rattle.std.specs.Prelude.{◌≡◌, ◌^◌, nat_lt, Bool, IsTrue, length, map, IfOk};
-ghost use Rattle.bsv_clock.specs.Carrying.{cell, cells_of, input_widths};
+ghost use Rattle.bsv_clock.specs.Hardware.{cell, cells_of, input_widths};
 ghost use Rattle.bsv_clock.specs.Grounds.{IsLawful, IsScheduleOf};
 ghost use Rattle.bsv_design.specs.Schemes.{Scheme, AreAlike, design_scheme, kinds_of, outline};
 ghost use Rattle.bsv_design.specs.Seen.{blueprint};
 ghost use Rattle.bsv_design.specs.declared.schedule.Schedule.{Schedule};
-ghost use Rattle.bsv_mux.specs.Hardware.{NetCarries};
+ghost use Rattle.bsv_net.specs.Hardware.{WordsCarry};
 ghost use Rattle.bsv_net.specs.AtHand.{circuit};
 ghost use Rattle.bsv_vgen.specs.AtHand as hand;
-ghost use Rattle.bsv_vgen.specs.Carrying.{ModuleCarries};
+ghost use Rattle.bsv_vgen.specs.Hardware.{ModuleCarries};
 ghost use Rattle.bsv_vgen.specs.Interfaces.{IsModuleOf};
 ghost use Rattle.bsv_vgen.specs.Modules as spec;
 ghost use Rattle.bsv_vgen.specs.Resetting.{BeginsOpen, Resets};
@@ -113,12 +113,12 @@ pub fn generate(alloc: Global, design: &Design, net: &Net) -> Result<VModule, Ou
     // Where the net carries the design, or a tree from which the design was made, so does the module.
     ensures carries { IfOk result (λ made. (aggressive : Bool) (S : Scheme) (made_by : Schedule)
         → AreAlike S (design_scheme (blueprint design.now)) → IsLawful S
-        → IsScheduleOf S made_by → NetCarries aggressive S made_by net.now
+        → IsScheduleOf S made_by → WordsCarry aggressive S made_by net.now
         → ModuleCarries aggressive S made_by (contents made)) }
     // And from its initial words on it runs as they do, clock after clock.
     ensures runs { IfOk result (λ made. (aggressive : Bool) (S : Scheme) (made_by : Schedule)
         → AreAlike S (design_scheme (blueprint design.now)) → IsLawful S
-        → IsScheduleOf S made_by → NetCarries aggressive S made_by net.now
+        → IsScheduleOf S made_by → WordsCarry aggressive S made_by net.now
         → RunsAs aggressive S made_by (contents made)) }
     ensures begins { IfOk result (λ made.
         BeginsOpen (kinds_of (blueprint design.now)) (contents made)) }

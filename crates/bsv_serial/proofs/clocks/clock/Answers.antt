@@ -10,7 +10,7 @@ use Rattle.bsv_serial.specs.declared.fates.Fate.{Fate}
 use Rattle.bsv_serial.specs.declared.made.MadeCall.{MadeCall}
 use Rattle.bsv_serial.specs.AtHand.{kinds, so_far}
 use Rattle.bsv_serial.specs.Applying.{AllCanTake, all_behind}
-use Rattle.bsv_serial.specs.Rooms.{HasRoom}
+use Rattle.bsv_design.specs.Rooms.{HasRoom}
 use Rattle.bsv_serial.specs.Telling.{all_blocked, all_fired, all_given, all_stopped}
 use Rattle.bsv_clock.specs.Events.{Happens}
 use Rattle.bsv_serial.specs.Placing.{all_placed}

@@ -7,5 +7,5 @@ use Rattle.bsv_mux.proofs.parts.Muxing.ports.Given as goal
 
 abbrev pub invariant-loop-method : goal.invariant-loop-method
 invariant-loop-method l =
-    ports (hand.told l.self) (kind_table l.kind) l.spots l.initial.nodes [] (numbers_below l.method)
+    ports (hand.told l.self) (kind_table l.kind) l.call_sites l.initial.nodes [] (numbers_below l.method)
     ≡ record { nodes = l.nodes; ports = l.ports }

@@ -1,6 +1,6 @@
 use Rattle.std.proofs.Common.{◌∙◌, ◌++◌, ◌∷◌, [], List, sym, ap, ap₂, subst}
 use Rattle.bsv_bits.specs.Words.{Bits}
-use Rattle.bsv_design.specs.Bodies.{values, node_word}
+use Rattle.bsv_design.specs.Bodies.{node_word, words_behind}
 use Rattle.bsv_serial.specs.AtHand as hand
 use Rattle.bsv_serial.specs.Bodies.{HasOperands}
 use Rattle.bsv_serial.proofs.Computing.{values_more, operands_at}
@@ -8,7 +8,7 @@ use Rattle.bsv_serial.proofs.Lists.{item_at}
 use Rattle.bsv_serial.proofs.body.Body.compute.Goals as goal
 
 pub loop-node-init : goal.loop-node-init
-unfolding values
+unfolding words_behind
 loop-node-init c = c.clear.ensures.items
 
 pub word-requires-clause-operands : goal.word-requires-clause-operands

@@ -1,5 +1,0 @@
-use Rattle.std.proofs.Common.{◌≡◌, [], replicate}
-use Rattle.bsv_fire.proofs.spots.no_spots.Given as goal
-
-abbrev pub invariant-loop : goal.invariant-loop
-invariant-loop l = l.spots.items ≡ replicate l.counter []

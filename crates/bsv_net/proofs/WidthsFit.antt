@@ -1,0 +1,42 @@
+-- The words of the inputs of a scheme have the widths of its inputs, and those of registers the widths of the registers.
+use Rattle.std.proofs.Common.{◌≡◌, ◌+◌, ℕ, suc, Bool, true, false, List, [], ◌∷◌, ◌++◌, Some, refl, ap, subst, arith, map}
+use Rattle.std.specs.Prelude.{slice_get, cond}
+use Rattle.bsv_bits.specs.Words.{Bits, bit}
+use Rattle.bsv_design.specs.declared.element.Port.{Port}
+use Rattle.bsv_design.specs.Roles.{is_rule}
+use Rattle.bsv_design.specs.Schemes.{Scheme, Outline, Asking, given}
+use Rattle.bsv_design.specs.States.{AreWordsOf}
+use Rattle.bsv_guard.specs.Fitting.{HaveWidths}
+use Rattle.bsv_clock.specs.Hardware.{inputs_from, input_widths_of, cell, cell_widths}
+use Rattle.bsv_clock.specs.Clocks.{is_asked}
+use Rattle.bsv_net.proofs.Solution.{have_both}
+use Rattle.bsv_prim.specs.Table.{IsWordOf}
+use Rattle.bsv_prim.specs.declared.primitive.RegisterInfo.{RegisterInfo}
+use Rattle.bsv_net.specs.Circuits.{register_widths}
+
+pub cells_have : (rs : List RegisterInfo) → cell_widths (map cell rs) ≡ register_widths rs
+cells_have [] = refl
+cells_have (r ∷ rs) = ap (λ (ws : List ℕ). r.width ∷ ws) (cells_have rs)
+
+bit_fits : (b : Bool) → IsWordOf 1 (bit b)
+bit_fits true = record { word = record { some = omega arith; most = omega arith; below = omega arith }; same_width = refl }
+bit_fits false = record { word = record { some = omega arith; most = omega arith; below = omega arith }; same_width = refl }
+
+words_have : (ps : List Port) (ws : List Bits) → AreWordsOf ps ws → HaveWidths (map (λ p. p.width) ps) ws
+words_have [] [] h = tt
+words_have [] (w ∷ ws) h = absurd h
+words_have (p ∷ ps) [] h = absurd h
+words_have (p ∷ ps) (w ∷ ws) h = (h.0, words_have ps ws h.1)
+
+pub inputs_have : (T : Scheme) (q : Asking) (n : ℕ) (os : List Outline) → ((j : ℕ) (o : Outline) → slice_get os j ≡ Some o → AreWordsOf o.ports (given T q (n + j)))
+    → HaveWidths (input_widths_of os) (inputs_from T q n os)
+inputs_have T q n [] fit = tt
+inputs_have T q n (o ∷ os) fit =
+    of (is_rule o.role)
+    (inputs_have T q (n + 1) os (λ j p there. subst (λ k. AreWordsOf p.ports (given T q k)) (omega arith) (fit (suc j) p there)))
+    (words_have o.ports (given T q n) (subst (λ k. AreWordsOf o.ports (given T q k)) (omega arith) (fit 0 o refl)))
+  where
+    of : (b : Bool) → HaveWidths (input_widths_of os) (inputs_from T q (n + 1) os) → HaveWidths (map (λ p. p.width) o.ports) (given T q n)
+        → HaveWidths (cond b [] (map (λ p. p.width) o.ports ++ (1 ∷ input_widths_of os))) (cond b [] (given T q n ++ (bit (is_asked q n) ∷ inputs_from T q (n + 1) os)))
+    of true rest first = tt
+    of false rest first = have_both (map (λ p. p.width) o.ports) (given T q n) (1 ∷ input_widths_of os) (bit (is_asked q n) ∷ inputs_from T q (n + 1) os) first (bit_fits (is_asked q n), rest)

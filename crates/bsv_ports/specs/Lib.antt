@@ -1,0 +1,3 @@
+pub mod CallSites
+pub mod Starts
+pub mod Ports
