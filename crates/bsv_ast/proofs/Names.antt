@@ -114,7 +114,7 @@ decimal_digits = decimal_by_steps (λ n ds. list_all is_ascii_digit ds ≡ true)
     (λ n ds above h. all_both is_ascii_digit ds ((48 + n % 10) ∷ []) h
     (and_from (is_ascii_digit (48 + n % 10)) true (one_digit (n % 10) (omega arith)) refl))
 
-digit_word : (d : ℕ) → is_ascii_digit d ≡ true → is_word d ≡ true
+pub digit_word : (d : ℕ) → is_ascii_digit d ≡ true → is_word d ≡ true
 digit_word d h =
     or_left _ (d == 95) (or_left (is_in_range 48 57 d || is_in_range 65 90 d) (is_in_range 97 122 d)
     (or_left (is_in_range 48 57 d) (is_in_range 65 90 d) h))

@@ -6,3 +6,5 @@ pub mod LeastLemmas
 pub mod OrderedLemmas
 pub mod Deciding
 pub mod Existing
+pub mod Below
+pub mod Fronts

@@ -8,3 +8,5 @@ pub mod Least
 pub mod Pieces
 pub mod Same
 pub mod Unpacked
+pub mod Distinct
+pub mod GivenKinds
