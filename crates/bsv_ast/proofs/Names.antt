@@ -1,15 +1,17 @@
 -- Names byte by byte: a Lower name is made of letters, digits and `_`, so that it has no dot and no `$`, and it begins with no
 -- capital letter. A text with a mark that no keyword has is no keyword. The digits of a number may stand in a name.
-use Rattle.std.proofs.Common.{◌≡◌, ◌∙◌, ℕ, ◌+◌, ◌%◌, ◌^◌, ◌<◌, Bool, true, false, ◌&&◌, ◌||◌, not, List, [], ◌∷◌, ◌++◌, refl, sym, subst, arith, if◌then◌else◌}
+use Rattle.std.proofs.Common.{◌≡◌, ℕ, ◌+◌, ◌%◌, ◌^◌, ◌<◌, Bool, true, false, ◌&&◌, ◌||◌, not, List, [], ◌∷◌, ◌++◌, refl, sym, subst, arith}
 use Rattle.std.specs.Prelude.{◌==◌, decimal}
 use Rattle.std.specs.Char.{is_ascii_digit, is_ascii_uppercase}
 use Rattle.std.specs.Int.{is_in_range}
 use Rattle.std.specs.List.{list_all, list_any}
 use Rattle.std.specs.Str.{bytes_eq}
-use Rattle.std.proofs.lemmas.Bool.{false≢true, both_ways, and_parts, and_from, or_parts, or_from, or_left, not-true, not_from_false, le-leb}
+use Rattle.std.proofs.lemmas.Bool.{false≢true, both_ways, and_parts, and_from, or_parts, or_from, or_left, not-true, not_from_false}
 use Rattle.std.proofs.lemmas.Fmt.{decimal_by_steps}
-use Rattle.std.proofs.lemmas.List.Folds.{list_all-append}
 use Rattle.std.proofs.lemmas.Slice.Eq.{bytes_eq-Decides}
+use Rattle.bsv_lemmas.proofs.Digits.{digit_byte}
+use Rattle.bsv_lemmas.proofs.Lists.{all_joined}
+use Rattle.bsv_lemmas.proofs.Truths.{neither_holds}
 use Rattle.bsv_ast.specs.Names.{grammar_words, reserved_words, is_listed, is_keyword, begins_name, is_word, is_name, is_capital, is_lower}
 
 -- ---- bytes of a name
@@ -79,10 +81,6 @@ lower_small text h = let p = lower_parts text h in name_small text p.named p.sma
 
 -- ---- keywords
 
-neither : (b rest : Bool) → (b ≡ true → ⊥) → rest ≡ false → (if b then true else rest) ≡ false
-neither true rest never h = absurd (never refl)
-neither false rest never h = h
-
 not_listed : (mark : List ℕ → Bool) (words : List (List ℕ)) (text : List ℕ) → list_any mark words ≡ false → mark text ≡ true
     → is_listed words text ≡ false
 not_listed mark [] text none h = refl
@@ -90,7 +88,7 @@ not_listed mark (word ∷ words) text none h =
     let p = or_parts (mark word) (list_any mark words) none in
     let other : bytes_eq word text ≡ true → ⊥ = λ is. both_ways (mark word) p.0
     (subst (λ (x : List ℕ). mark x ≡ true) (sym ((bytes_eq-Decides word text).0 is)) h) in
-    neither (bytes_eq word text) (is_listed words text) other (not_listed mark words text p.1 h)
+    neither_holds (bytes_eq word text) (is_listed words text) other (not_listed mark words text p.1 h)
 
 -- a text with a mark that no keyword has
 pub no_keyword : (mark : List ℕ → Bool) → list_any mark grammar_words ≡ false → list_any mark reserved_words ≡ false → (text : List ℕ)
@@ -102,17 +100,11 @@ no_keyword mark grammar reserved text h =
 
 -- ---- numbers
 
-pub all_both : (p : ℕ → Bool) (xs ys : List ℕ) → list_all p xs ≡ true → list_all p ys ≡ true → list_all p (xs ++ ys) ≡ true
-all_both p xs ys h k = list_all-append p xs ys ∙ and_from (list_all p xs) (list_all p ys) h k
-
-one_digit : (k : ℕ) → k < 10 → is_ascii_digit (48 + k) ≡ true
-one_digit k below = and_from _ _ (le-leb 48 (48 + k) (omega arith)) (le-leb (48 + k) 57 (omega arith))
-
 pub decimal_digits : (n : ℕ) → n < 2 ^ 64 → list_all is_ascii_digit (decimal n) ≡ true
 decimal_digits = decimal_by_steps (λ n ds. list_all is_ascii_digit ds ≡ true)
-    (λ n below. and_from (is_ascii_digit (48 + n)) true (one_digit n below) refl)
-    (λ n ds above h. all_both is_ascii_digit ds ((48 + n % 10) ∷ []) h
-    (and_from (is_ascii_digit (48 + n % 10)) true (one_digit (n % 10) (omega arith)) refl))
+    (λ n below. and_from (is_ascii_digit (48 + n)) true (digit_byte n below) refl)
+    (λ n ds above h. all_joined is_ascii_digit ds ((48 + n % 10) ∷ []) h
+    (and_from (is_ascii_digit (48 + n % 10)) true (digit_byte (n % 10) (omega arith)) refl))
 
 pub digit_word : (d : ℕ) → is_ascii_digit d ≡ true → is_word d ≡ true
 digit_word d h =

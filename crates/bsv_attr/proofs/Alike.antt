@@ -1,8 +1,6 @@
 -- What holds of the attributes of a scheme holds of those of one that does the same.
-use Rattle.std.proofs.Common.{◌≡◌, ◌∙◌, ℕ, Bool, true, false, ◌&&◌, List, [], ◌∷◌, ◌++◌, map, length, refl, sym, ap, subst, arith, inl, inr, IsTrue}
+use Rattle.std.proofs.Common.{◌≡◌, ◌∙◌, ℕ, Bool, true, false, ◌&&◌, List, [], ◌++◌, map, sym, ap, subst, inl, inr, IsTrue}
 use Rattle.std.specs.Prelude.{◌↔◌, IsFalse, slice_get}
-use Rattle.bsv_bits.specs.Words.{Bits}
-use Rattle.bsv_design.specs.declared.element.Port.{Port}
 use Rattle.bsv_design.specs.declared.schedule.Schedule.{Schedule}
 use Rattle.bsv_design.specs.declared.tree.Attribute.{Attribute}
 use Rattle.bsv_design.specs.Relations.{goes, for_all, may_precede, no_answers}
@@ -17,6 +15,7 @@ use Rattle.bsv_schedule.specs.relating.Marks.{IsMarked, IsPaired}
 use Rattle.bsv_clock.specs.Obeying.{own, Obeys}
 use Rattle.bsv_schedule.specs.stopping.Firing.{StopsIn}
 use Rattle.bsv_schedule.specs.relating.Elements.{relating}
+use Rattle.bsv_design.proofs.Elements.{length-filled}
 
 -- ---- stops
 
@@ -46,15 +45,10 @@ stops_from S T s h a b =
 
 -- ---- readiness
 
-long_filled : (ps : List Port) (ws : List Bits) → length (filled ps ws) ≡ length ps
-long_filled [] ws = refl
-long_filled (p ∷ ps) [] = omega (arith, long_filled ps [])
-long_filled (p ∷ ps) (w ∷ ws) = omega (arith, long_filled ps ws)
-
 seen_alike : (S T : Scheme) → AreAlike S T → (q : Asking) (n : ℕ) (look : Look) → seen S q n look ≡ seen T q n look
 unfolding seen given
 seen_alike S T h q n look =
-    h.traces n (answers S.kinds look) (given S q n) (long_filled _ _)
+    h.traces n (answers S.kinds look) (given S q n) (length-filled _ _)
     ∙ (ap (λ ks. T.trace n (answers ks look) (given S q n)) h.kinds
     ∙ ap (λ es. T.trace n (answers T.kinds look) (given (record S { elements = es }) q n)) h.elements)
 
@@ -95,7 +89,7 @@ marked_alike : (S T : Scheme) → AreAlike S T → AreMarkedAlike S T
 unfolding are_implicit
 marked_alike S T h = record { asserts = h.asserts; implicit = same } where
   run : (n : ℕ) → S.trace n no_answers (filled (ports_of (slice_get S.elements n)) []) ≡ T.trace n no_answers (filled (ports_of (slice_get T.elements n)) [])
-  run n = h.traces n no_answers _ (long_filled _ _) ∙ ap (λ es. T.trace n no_answers (filled (ports_of (slice_get es n)) [])) h.elements
+  run n = h.traces n no_answers _ (length-filled _ _) ∙ ap (λ es. T.trace n no_answers (filled (ports_of (slice_get es n)) [])) h.elements
 
   same : (n : ℕ) → are_implicit S n ≡ are_implicit T n
   same n = ap (λ (t : Trace). map has_name t.demands ++ map (has_guard S.kinds) t.sites) (run n)

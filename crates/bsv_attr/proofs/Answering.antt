@@ -15,7 +15,8 @@ use Rattle.bsv_attr.specs.Implicit.{are_implicit, NoneTrue, IsFirstTrue}
 use Rattle.bsv_schedule.specs.relating.Marks.{IsMarkOf, IsMarked}
 use Rattle.bsv_attr.specs.Stopping.{ListStops, NoneStops, IsFirstStopper}
 use Rattle.bsv_attr.proofs.Asserted.{implicit_never, stopped_never, implicit_one, stopped_one}
-use Rattle.bsv_attr.proofs.Stoppers.{in_cases, stopper_in}
+use Rattle.bsv_attr.proofs.Stoppers.{stopper_in}
+use Rattle.bsv_graph.proofs.Fronts.{is_or_not}
 
 -- ---- marks
 
@@ -87,7 +88,7 @@ first_true (false ∷ truths) = elim (first_true truths) [ inl none ↦ inl (non
 
 decide_stops : (lists : List (List ℕ)) (f r : ℕ) → Decided (ListStops lists f r)
 decide_stops [] f r = inr (λ h. let e = h.at in cc)
-decide_stops (xs ∷ lists) zero r = elim (in_cases xs r) [
+decide_stops (xs ∷ lists) zero r = elim (is_or_not xs r) [
   | inl i ↦ inl (record { stopped = xs; at = refl; has = i })
   | inr n ↦ inr (λ h. n (subst (λ ys. In ys r) (sym (same_Some xs h.stopped h.at)) h.has))
 ]

@@ -1,10 +1,10 @@
 -- An accepted schedule obeys all attributes.
-use Rattle.std.proofs.Common.{◌≡◌, ◌∙◌, ℕ, Bool, true, false, cond, not, ◌&&◌, ◌||◌, List, [], ◌∷◌, map, Some, None, refl, sym, ap, subst, arith, inl, inr, zero, suc, IsTrue, nat_eq}
+use Rattle.std.proofs.Common.{◌≡◌, ◌∙◌, ℕ, Bool, true, false, cond, not, ◌&&◌, List, [], ◌∷◌, map, Some, None, refl, sym, ap, subst, inl, inr, zero, suc, IsTrue, nat_eq}
 use Rattle.std.specs.Prelude.{slice_get, Option, filter, is_some}
-use Rattle.std.specs.List.{list_any}
-use Rattle.std.proofs.Math.Bool.{or-true, and-true}
-use Rattle.std.proofs.lemmas.Bool.Decides.{nat_tests}
+use Rattle.std.proofs.Math.Bool.{and-true}
 use Rattle.std.proofs.lemmas.Option.{same_Some}
+use Rattle.std.proofs.lemmas.Bool.{eq-eqb}
+use Rattle.std.proofs.lemmas.Map.Keys.{any_passes_from_place}
 use Rattle.bsv_bits.specs.Words.{Bits}
 use Rattle.bsv_design.specs.declared.design.NamedPart.{NamedPart}
 use Rattle.bsv_design.specs.declared.element.Call.{Call}
@@ -17,11 +17,8 @@ use Rattle.bsv_design.specs.declared.tree.Attribute.TheVariants as attribute
 use Rattle.bsv_design.specs.declared.tree.Pair.{Pair}
 use Rattle.bsv_design.specs.Bodies.{target, words}
 use Rattle.bsv_design.specs.Designs.{Blueprint}
-use Rattle.bsv_design.specs.Guards.{is_guarded}
-use Rattle.bsv_design.specs.Kinds.{kind_laws}
-use Rattle.bsv_design.specs.Schemes.{Scheme, Look, Asking, design_scheme, kinds_of, trace_of, answers, given, seen, ready, guard_of, is_open, required, all_hold, all_open}
+use Rattle.bsv_design.specs.Schemes.{Scheme, Look, Asking, design_scheme, kinds_of, trace_of, answers, given, seen, ready, is_open, required, all_hold, all_open}
 use Rattle.bsv_design.specs.Traces.{Trace, kind_at, site_at, demand_at, body_trace}
-use Rattle.bsv_prim.specs.declared.part.Part.{Part}
 use Rattle.bsv_schedule.specs.executing.Orders.{ExecutionOrder}
 use Rattle.bsv_graph.specs.Orders.{In, StandsBefore}
 use Rattle.bsv_schedule.specs.relating.Relating.{Relating, Agrees}
@@ -37,8 +34,11 @@ use Rattle.bsv_schedule.specs.stopping.Firing.{StopsIn, OthersAreStopped}
 use Rattle.bsv_schedule.specs.relating.Elements.{relating, edge_of, edges_of, is_ordering, is_urging, is_preempting, preempts}
 use Rattle.bsv_attr.specs.Stopping.{ListStops}
 use Rattle.bsv_attr.proofs.Elements.{implicit_is}
-use Rattle.bsv_attr.proofs.Stoppers.{in_cases}
 use Rattle.bsv_attr.proofs.Truths.{none_left, none_right}
+use Rattle.bsv_graph.proofs.Fronts.{is_or_not}
+use Rattle.bsv_design.proofs.Elements.{unguarded}
+use Rattle.bsv_clock.proofs.Stopping.{picks}
+use Rattle.bsv_graph.proofs.OrderedLemmas.{before_in}
 
 -- ---- pairs as edges
 
@@ -62,25 +62,15 @@ paired_edge these ps attribute a b h p =
     (subst (λ n. HasEdge (edges_of these ps) p.pair.before n) p.after
     (edge_at these ps p.place p.pair p.at (subst (λ t. these t ≡ true) (sym p.kind) h)))
 
-any_at : {A : Type 0} (f : A → Bool) (xs : List A) (k : ℕ) (x : A) → slice_get xs k ≡ Some x → f x ≡ true → list_any f xs ≡ true
-any_at f [] k x at h = absurd cc
-any_at f (y ∷ xs) zero x at h =
-    let same : y ≡ x = same_Some y x at in
-    ap (λ b. b || list_any f xs) (subst (λ z. f z ≡ true) (sym same) h)
-any_at f (y ∷ xs) (suc k) x at h = ap (λ b. f y || b) (any_at f xs k x at h) ∙ or-true (f y)
-
-same_yes : (a b : ℕ) → a ≡ b → nat_eq a b ≡ true
-same_yes a b e = grind (arith, nat_tests)
-
 names_pair : (p : Pair) (a b : ℕ) → p.attribute ≡ attribute.Preempts → p.before ≡ a → p.after ≡ b
     → preempts a b p ≡ true
 names_pair p a b kind before after =
     ap (λ k. is_preempting k && nat_eq p.before a && nat_eq p.after b) kind
-    ∙ (ap (λ t. t && nat_eq p.after b) (same_yes p.before a before) ∙ same_yes p.after b after)
+    ∙ (ap (λ t. t && nat_eq p.after b) (eq-eqb p.before a before) ∙ eq-eqb p.after b after)
 
 paired_preempts : (S : Scheme) (a b : ℕ) → IsPaired S.pairs attribute.Preempts a b → IsTrue ((relating S).preempts a b)
 unfolding relating
-paired_preempts S a b p = any_at (preempts a b) S.pairs p.place p.pair p.at (names_pair p.pair a b p.kind p.before p.after)
+paired_preempts S a b p = any_passes_from_place (preempts a b) S.pairs p.place p.pair p.at (names_pair p.pair a b p.kind p.before p.after)
 
 paired_ordering : (S : Scheme) (a b : ℕ) → IsPaired S.pairs attribute.ExecutionOrder a b → HasEdge (relating S).ordering a b
 unfolding relating
@@ -96,18 +86,6 @@ paired_preempting S a b p = paired_edge is_urging S.pairs attribute.Preempts a b
 
 -- ---- stops
 
-picks_in : (P : ℕ → Type 0) (us xs : List ℕ) (a : ℕ) → Picks P us xs → In us a → P a → In xs a
-picks_in P [] xs a p i h = absurd i
-picks_in P (u ∷ us) xs a (inl p) (inl e) h = subst (λ ys. In ys a) (sym p.1.1) (inl e)
-picks_in P (u ∷ us) xs a (inl p) (inr i) h = subst (λ ys. In ys a) (sym p.1.1) (inr (picks_in P us p.1.0 a p.1.2 i h))
-picks_in P (u ∷ us) xs a (inr p) (inl e) h = absurd (p.0 (subst P e h))
-picks_in P (u ∷ us) xs a (inr p) (inr i) h = picks_in P us xs a p.1 i h
-
-both_in : (xs : List ℕ) (a b : ℕ) → StandsBefore xs a b → In xs a × In xs b
-both_in [] a b h = absurd h
-both_in (x ∷ xs) a b (inl h) = (inl h.0, inr h.1)
-both_in (x ∷ xs) a b (inr h) = let k = both_in xs a b h in (inr k.0, inr k.1)
-
 -- what bsv_graph promises of the pairs
 abbrev pub Urged : Type 0
 Urged = (r : Relating) (xs : List ℕ) (a b : ℕ) → Agrees r → UrgencyOrder r xs → HasEdge r.urging a b → StandsBefore xs a b
@@ -120,9 +98,9 @@ stops_before R execution urgency f r law g u (inr h) = law R urgency f r g u (g.
 pub list_stops : (R : Relating) (s : Schedule) (f r : ℕ) → Urged → Agrees R → UrgencyOrder R s.urgency → AreStops R s.execution s.urgency s.stops
     → Stops R s.execution s.urgency f r → In s.urgency f × ListStops s.stops f r
 list_stops R s f r law g u are h =
-    let both = both_in s.urgency f r (stops_before R s.execution s.urgency f r law g u h) in
+    let both = before_in s.urgency f r (stops_before R s.execution s.urgency f r law g u h) in
     let one = are.each f (u.order.below f both.0) in
-    (both.0, record { stopped = one.0; at = one.1; has = picks_in (Stops R s.execution s.urgency f) s.urgency one.0 r one.2 both.1 h })
+    (both.0, record { stopped = one.0; at = one.1; has = picks (Stops R s.execution s.urgency f) s.urgency one.0 r one.2 both.1 h })
 
 picks_have : (P : ℕ → Type 0) (us xs : List ℕ) (a : ℕ) → Picks P us xs → In xs a → P a
 picks_have P [] xs a p i = absurd (subst (λ ys. In ys a) p i)
@@ -139,16 +117,12 @@ stops_listed R s f r u are h =
 
 fires_where : (S : Scheme) (s : Schedule) (r : ℕ) → ((f : ℕ) → ¬ StopsIn S s f r) → (is_ready : ℕ → Bool) (fired : List ℕ)
     → OthersAreStopped S s is_ready fired → is_ready r ≡ true → In fired r
-fires_where S s r never is_ready fired others h = elim (in_cases fired r) [
+fires_where S s r never is_ready fired others h = elim (is_or_not fired r) [
   | inl i ↦ i
   | inr out ↦ let o = others r out h in absurd (never o.0 o.2)
 ]
 
 -- ---- readiness
-
-unguarded : (k : Option Kind) (m : ℕ) (p : Part) → is_guarded k m ≡ false → guard_of k m p ≡ true
-unguarded None m p h = refl
-unguarded (Some k) m p h = (kind_laws k).guards.never m p h
 
 not_true : (b : Bool) → ¬ (Some b ≡ Some true) → b ≡ false
 not_true true h = absurd (h refl)

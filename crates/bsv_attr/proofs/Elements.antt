@@ -1,11 +1,12 @@
 -- From the elements of a design to its scheme.
-use Rattle.std.proofs.Common.{◌≡◌, ◌∙◌, ℕ, ◌<◌, ◌^◌, ◌+◌, ◌&&◌, Bool, true, false, List, [], ◌∷◌, ◌++◌, map, length, get_or, Some, refl, ap, subst, IsTrue, zero, suc, ltb-true, nat_lt}
+use Rattle.std.proofs.Common.{◌≡◌, ◌∙◌, ℕ, ◌<◌, ◌^◌, ◌+◌, Bool, true, List, [], ◌∷◌, ◌++◌, map, length, Some, refl, ap, subst, IsTrue, zero, suc, ltb-true, nat_lt}
 use Rattle.std.specs.Prelude.{slice_get}
 use Rattle.std.specs.List.{list_all}
 use Rattle.std.proofs.Math.Logic.{∥∥₁_elim}
 use Rattle.std.proofs.Math.Bool.{Bool-set}
 use Rattle.std.proofs.lemmas.Bool.{lt-ltb}
-use Rattle.std.proofs.lemmas.Option.{same_Some, slice_get_read, slice_get_within}
+use Rattle.std.proofs.lemmas.Option.{same_Some, slice_get_within}
+use Rattle.bsv_lemmas.proofs.Truths.{both_right, both_left}
 use Rattle.bsv_bits.specs.Words.{Bits}
 use Rattle.bsv_design.specs.declared.design.Design.{Design}
 use Rattle.bsv_design.specs.declared.design.NamedPart.{NamedPart}
@@ -21,26 +22,10 @@ use Rattle.bsv_design.specs.Traces.{has_name}
 use Rattle.bsv_attr.specs.Implicit.{are_implicit, has_guard}
 use Rattle.bsv_schedule.specs.relating.Marks.{IsMarked}
 
-both_left : (a b : Bool) → (a && b) ≡ true → a ≡ true
-both_left true b h = refl
-both_left false b h = h
-
-both_right : (a b : Bool) → (a && b) ≡ true → b ≡ true
-both_right true b h = h
-both_right false b h = absurd cc
-
 -- ---- what holds of each design
 
-pub few_elements : (d : Design) → length d.elements < 2 ^ 32
-few_elements d =
-    let few : nat_lt (length d.elements) (2 ^ 32) ≡ true = ∥∥₁_elim d.right (Bool-set _ _) (λ (right : IsDesign (blueprint d)). right.few_elements) in
-    ltb-true _ _ few
-
-test_lt : (m n : ℕ) → m < n → nat_lt m n ≡ true
-test_lt = lt-ltb
-
 rule_within : (es : List Element) (n : ℕ) → IsRuleIn es n → nat_lt n (length es) ≡ true
-rule_within es n r = test_lt n (length es) (slice_get_within es n r.element r.at)
+rule_within es n r = lt-ltb n (length es) (slice_get_within es n r.element r.at)
 
 -- marks are of elements
 pub marked_within : (d : Design) (fires : Bool) (n : ℕ) → IsMarked d.asserts fires n → n < length d.elements
@@ -56,9 +41,6 @@ few_at (x ∷ es) (suc n) e h at = few_at es n e (both_right (is_countable x) _ 
 
 pub few_places : (d : Design) (n : ℕ) (e : Element) → IsTrue (list_all is_countable d.elements) → slice_get d.elements n ≡ Some e → length e.conditions + length e.calls < 2 ^ 32
 few_places d n e h at = ltb-true _ _ (few_at d.elements n e h at)
-
-pub element_in : (d : Design) (xs : List Element) (n : ℕ) (e : Element) → xs ≡ d.elements → n < length xs → e ≡ get_or xs n e → slice_get d.elements n ≡ Some e
-element_in d xs n e are within is = subst (λ ys. slice_get ys n ≡ Some e) are (slice_get_read xs _ n e refl within is)
 
 -- ---- what is implicit
 

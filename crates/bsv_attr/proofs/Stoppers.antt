@@ -4,35 +4,13 @@ use Rattle.std.specs.Prelude.{slice_get}
 use Rattle.std.specs.List.{list_any}
 use Rattle.std.proofs.lemmas.List.{take_more}
 use Rattle.std.proofs.lemmas.Option.{same_Some}
-use Rattle.std.proofs.lemmas.Bool.{cases_eq}
 use Rattle.std.proofs.lemmas.Bool.Decides.{nat_tests}
 use Rattle.std.proofs.Math.Bool.{or-true}
 use Rattle.bsv_graph.specs.Orders.{In}
 use Rattle.bsv_attr.specs.Stopping.{ListStops, NoneStops, IsFirstStopper}
+use Rattle.bsv_graph.proofs.LeastLemmas.{in_right, in_parts}
 
 -- ---- members
-
-pub in_left : (xs ys : List ℕ) (a : ℕ) → In xs a → In (xs ++ ys) a
-in_left [] ys a h = absurd h
-in_left (x ∷ xs) ys a (inl e) = inl e
-in_left (x ∷ xs) ys a (inr h) = inr (in_left xs ys a h)
-
-pub in_right : (xs ys : List ℕ) (a : ℕ) → In ys a → In (xs ++ ys) a
-in_right [] ys a h = h
-in_right (x ∷ xs) ys a h = inr (in_right xs ys a h)
-
-pub in_cut : (xs ys : List ℕ) (a : ℕ) → In (xs ++ ys) a → In xs a ⊎ In ys a
-in_cut [] ys a h = inr h
-in_cut (x ∷ xs) ys a (inl e) = inl (inl e)
-in_cut (x ∷ xs) ys a (inr h) = elim (in_cut xs ys a h) [ inl k ↦ inl (inr k) | inr k ↦ inr k ]
-
-pub in_cases : (xs : List ℕ) (a : ℕ) → In xs a ⊎ ¬ In xs a
-in_cases [] a = inr (λ h. h)
-in_cases (x ∷ xs) a = of (cases_eq a x) (in_cases xs a) where
-  of : (a ≡ x) ⊎ (a ≡ x → ⊥) → In xs a ⊎ ¬ In xs a → In (x ∷ xs) a ⊎ ¬ In (x ∷ xs) a
-  of (inl e) _ = inl (inl e)
-  of (inr n) (inl h) = inl (inr h)
-  of (inr n) (inr m) = inr (λ h. elim h [ inl e ↦ n e | inr k ↦ m k ])
 
 -- ---- what the code asks
 
@@ -80,7 +58,7 @@ first_stopper us lists r n before within h = record {
 pub none_stops_more : (us : List ℕ) (lists : List (List ℕ)) (r n : ℕ) → NoneStops (take n us) lists r → n < length us → ¬ ListStops lists (get_or us n 0) r
     → NoneStops (take (n + 1) us) lists r
 none_stops_more us lists r n before within never f i h =
-    elim (in_cut (take n us) (get_or us n 0 ∷ []) f (subst (λ xs. In xs f) (take_more us n 0 within) i)) [
+    elim (in_parts (take n us) (get_or us n 0 ∷ []) f (subst (λ xs. In xs f) (take_more us n 0 within) i)) [
       | inl k ↦ before f k h
       | inr k ↦ elim k [ inl e ↦ never (subst (λ g. ListStops lists g r) e h) | inr z ↦ z ]
     ]

@@ -12,7 +12,7 @@ use Rattle.bsv_design.specs.declared.steps.Step.TheVariants as step
 use Rattle.bsv_body.specs.declared.state.State.{State}
 use Rattle.bsv_body.specs.Flat.{Flat, Alternative, Spot, nothing, compute, read, act, needed, choose, flat, alternative, choice, step_flat, arm_flat, choice_flat}
 
-step_node : (y : Step-F Step Arm Choice) → flat (roll-Step y) ≡ step_flat (map-Step Step Arm Choice Flat Alternative Flat flat alternative choice y)
+pub step_node : (y : Step-F Step Arm Choice) → flat (roll-Step y) ≡ step_flat (map-Step Step Arm Choice Flat Alternative Flat flat alternative choice y)
 unfolding flat alternative choice
 step_node y = fold-roll-Step Flat Alternative Flat step_flat arm_flat choice_flat y
 

@@ -1,6 +1,7 @@
 -- A whole body does what its steps do.
 use Rattle.std.proofs.Common.{◌≡◌, ◌∙◌, ℕ, ◌+◌, true, false, List, [], ◌∷◌, ◌++◌, map, length, Option, Some, None, refl, sym, ap, subst, arith, append_assoc, append-nil, length-append}
 use Rattle.std.specs.Prelude.{slice_get}
+use Rattle.bsv_lemmas.proofs.Places.{at_middle}
 use Rattle.bsv_bits.specs.Words.{Bits, bit}
 use Rattle.bsv_design.specs.declared.node.Node.TheVariants as node
 use Rattle.bsv_design.specs.declared.steps.Arm.{Arm, roll-Arm, map-Arm, fold-Arm, fold-roll-Arm}
@@ -22,16 +23,13 @@ use Rattle.bsv_body.specs.Opening.{no_nodes, arguments_from, opened, given}
 use Rattle.bsv_body.proofs.Words.{keeps_all, operand_worth, stand_more}
 use Rattle.bsv_body.proofs.StepsSame.{Holds, words, Follows, Matches, AllMatch, let_same, need_same, act_same, read_same, in_turn_same, sites_within, needs_within}
 use Rattle.bsv_body.proofs.ArmsSame.{AllAlternatives, none, more, chosen, choose_same}
+use Rattle.bsv_body.proofs.Nodes.{step_node}
 
 abbrev run_arm : Arm → steps.Alternative
 run_arm = fold-Arm Run steps.Alternative Run step_run arm_run choice_run
 
 abbrev run_choice : Choice → Run
 run_choice = fold-Choice Run steps.Alternative Run step_run arm_run choice_run
-
-flat_step : (y : Step-F Step Arm Choice) → flat (roll-Step y) ≡ step_flat (map-Step Step Arm Choice Flat Alternative Flat flat alternative choice y)
-unfolding flat alternative choice
-flat_step y = fold-roll-Step Flat Alternative Flat step_flat arm_flat choice_flat y
 
 flat_arm : (y : Arm-F Step Arm Choice) → alternative (roll-Arm y) ≡ arm_flat (map-Arm Step Arm Choice Flat Alternative Flat flat alternative choice y)
 unfolding flat alternative choice
@@ -73,7 +71,7 @@ module _ (r : Results) (arguments : List Bits) (full : List Call) where
 
   at_roll : (y : Step-F Step Arm Choice) → Matches r arguments full (step_flat (map-Step Step Arm Choice Flat Alternative Flat flat alternative choice y)) (step_run (map-Step Step Arm Choice Run steps.Alternative Run steps.run run_arm run_choice y)) → P (roll-Step y)
   at_roll y h =
-      subst (λ f. Matches r arguments full f (steps.run (roll-Step y))) (sym (flat_step y))
+      subst (λ f. Matches r arguments full f (steps.run (roll-Step y))) (sym (step_node y))
       (subst (λ o. Matches r arguments full (step_flat (map-Step Step Arm Choice Flat Alternative Flat flat alternative choice y)) o) (sym (runs_step y)) h)
 
   abbrev Steps' : Type 0
@@ -156,16 +154,12 @@ module _ (r : Results) (arguments : List Bits) (full : List Call) where
 
 -- ---- a whole body
 
-got_after : (front xs : List Call) (c : Call) → slice_get (front ++ c ∷ xs) (length front) ≡ Some c
-got_after [] xs c = refl
-got_after (x ∷ front) xs c = got_after front xs c
-
 holds_after : (front xs : List Call) → Holds (front ++ xs) (length front) xs
 holds_after front [] = tt
 holds_after front (c ∷ xs) =
     let e : (front ++ c ∷ []) ++ xs ≡ front ++ c ∷ xs = append_assoc front (c ∷ []) xs in
     let n : length (front ++ c ∷ []) ≡ length front + 1 = omega (arith, length-append front (c ∷ [])) in
-    (got_after front xs c, subst (λ l. Holds l (length front + 1) xs) e (subst (λ k. Holds ((front ++ c ∷ []) ++ xs) k xs) n (holds_after (front ++ c ∷ []) xs)))
+    (at_middle front xs c, subst (λ l. Holds l (length front + 1) xs) e (subst (λ k. Holds ((front ++ c ∷ []) ++ xs) k xs) n (holds_after (front ++ c ∷ []) xs)))
 
 abbrev whole : Spot
 whole = record { taken = 0; branches = [] }

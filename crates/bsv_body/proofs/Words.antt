@@ -1,6 +1,7 @@
 -- Nodes and the words that they have.
 use Rattle.std.proofs.Common.{◌≡◌, ◌∙◌, ℕ, zero, suc, ◌+◌, List, [], ◌∷◌, ◌++◌, length, map, take, Option, Some, None, refl, sym, ap, ap₂, subst, arith, append_assoc, append-nil}
 use Rattle.std.specs.Prelude.{false, slice_get}
+use Rattle.bsv_lemmas.proofs.Places.{at_end}
 use Rattle.bsv_bits.specs.Words.{Bits, bit, word_not}
 use Rattle.bsv_design.specs.declared.node.Node.{Node}
 use Rattle.bsv_design.specs.declared.node.Node.TheVariants as node
@@ -27,10 +28,6 @@ got_left : (vs ws : List Bits) → Within vs (vs ++ ws)
 got_left [] ws k w e = absurd cc
 got_left (x ∷ vs) ws zero w e = e
 got_left (x ∷ vs) ws (suc k) w e = got_left vs ws k w e
-
-got_end : (vs : List Bits) (w : Bits) → slice_get (vs ++ w ∷ []) (length vs) ≡ Some w
-got_end [] w = refl
-got_end (x ∷ vs) w = got_end vs w
 
 pub shows_within : (vs ws : List Bits) → Within vs ws → (ks : List ℕ) (us : List Bits) → Shows vs ks us → Shows ws ks us
 shows_within vs ws h [] [] s = tt
@@ -86,7 +83,7 @@ module _ (r : Results) (arguments : List Bits) (full : List Call) where
   put_word x s =
       ap (λ vs. slice_get vs (length s.nodes)) (words_one (of_methods r) arguments full [] s.nodes x)
       ∙ (let e : length s.nodes ≡ length (seen s) = omega (arith, words_long (of_methods r) arguments full [] s.nodes) in ap (slice_get (seen s ++ word_at (seen s) x ∷ [])) e)
-      ∙ got_end (seen s) _
+      ∙ at_end (seen s) _
 
   -- what operands change: nodes alone
   pub record Keeps (s z : State) : Type 0 where

@@ -1,6 +1,7 @@
 -- How deep the tree is that is left to carry out, and how many calls in calls.
-use Rattle.std.proofs.Common.{◌≡◌, ℕ, zero, suc, ◌+◌, ◌-◌, ◌*◌, ◌<◌, ◌≤◌, List, [], ◌∷◌, map, Option, Some, None, option_map, arith, suc-mul, ap}
+use Rattle.std.proofs.Common.{◌≡◌, ℕ, zero, suc, ◌+◌, ◌-◌, ◌*◌, ◌<◌, ◌≤◌, List, map, Option, Some, option_map, arith, suc-mul, ap}
 use Rattle.std.specs.Prelude.{slice_get}
+use Rattle.bsv_lemmas.proofs.Sums.{total, or_zero, within}
 use Rattle.bsv_types.specs.declared.definitions.Body.{Body}
 use Rattle.bsv_types.specs.declared.definitions.Body.TheVariants as body
 use Rattle.bsv_types.specs.declared.definitions.Function.{Function}
@@ -18,14 +19,6 @@ use Rattle.bsv_types.specs.declared.statements.Stmt.{Stmt, fold-Stmt}
 use Rattle.bsv_types.specs.declared.statements.Stmt.TheOpen.{Stmt-F, Branch-F, CaseArm-F}
 use Rattle.bsv_types.specs.declared.typed.Typed.{Typed}
 use Rattle.bsv_carry.specs.declared.carrier.Carrier.{Carrier}
-
-abbrev pub total : List ℕ → ℕ
-total [] = 0
-total (n ∷ ns) = n + total ns
-
-abbrev pub or_zero : Option ℕ → ℕ
-or_zero None = 0
-or_zero (Some n) = n
 
 -- ---- sizes
 
@@ -122,12 +115,6 @@ level d w = d * (32 * w + 32)
 
 abbrev pub calls_left : Carrier → ℕ
 calls_left c = level c.depth (world_size c.typed.now)
-
--- one of several is no larger than all
-pub within : {A : Type 0} (size : A → ℕ) (xs : List A) (k : ℕ) (x : A) → slice_get xs k ≡ Some x → size x ≤ total (map size xs)
-within size [] k x is = absurd cc
-within size (y ∷ ys) zero x is = let same : y ≡ x = cc in omega (arith, ap size same)
-within size (y ∷ ys) (suc k) x is = omega (arith, within size ys k x is)
 
 pub level_down : (d w : ℕ) → 0 < d → level d w ≡ level (d - 1) w + (32 * w + 32)
 unfolding level

@@ -1,6 +1,7 @@
 -- One turn of a loop, and its end.
-use Rattle.std.proofs.Common.{◌≡◌, ℕ, suc, ◌+◌, ◌-◌, ◌<◌, ◌≤◌, List, Ok, Err, ap, arith}
+use Rattle.std.proofs.Common.{◌≡◌, ℕ, ◌+◌, ◌-◌, ◌<◌, ◌≤◌, List, Ok, Err}
 use Rattle.std.specs.Prelude.{if◌then◌else◌}
+use Rattle.bsv_lemmas.proofs.Turns.{one_more, no_more}
 use Rattle.bsv_fail.specs.Given.{◌>>=◌}
 use Rattle.bsv_design.specs.declared.values.Fault.TheVariants as fault
 use Rattle.bsv_design.specs.declared.values.Local.{Local}
@@ -8,12 +9,6 @@ use Rattle.bsv_design.specs.declared.values.Work.{Work}
 use Rattle.bsv_design.specs.Calls.{Caller, Site}
 use Rattle.bsv_design.specs.Carrying.{Carry, Acts, goes_on, turn, turns}
 use Rattle.bsv_design.specs.Working.{at_count}
-
-one_more : {X : Type 0} (f : ℕ → X) (n at : ℕ) → at < n → f (n - at) ≡ f (suc (n - (at + 1)))
-one_more f n at below = let turn : n - at ≡ suc (n - (at + 1)) = omega arith in ap f turn
-
-no_more : {X : Type 0} (f : ℕ → X) (n at : ℕ) → n ≤ at → f (n - at) ≡ f 0
-no_more f n at done = let none : n - at ≡ 0 = omega arith in ap f none
 
 module _ (call : Caller) (site : Site) (n at : ℕ) (test next : Carry) (k : ℕ) (a : Acts) (vs : List Local) (w : Work) where
   pub turns_more : at < n → turns call site (n - at) test next k a vs w ≡ (goes_on call site test vs w.count >>= λ t. if t.0 then (turn next k a vs (at_count w t.1) >>= λ r. turns call site (n - (at + 1)) test next k a r.0 r.1) else Ok (vs, at_count w t.1))

@@ -5,6 +5,7 @@ use Rattle.std.specs.Map.{keys_of}
 use Rattle.std.specs.Str.{bytes_eq}
 use Rattle.std.proofs.lemmas.Bool.{eqb-true}
 use Rattle.std.proofs.lemmas.List.{length-map, map-append}
+use Rattle.std.proofs.lemmas.Option.{same_Some}
 use Rattle.bsv_ast.specs.declared.text.Span.{Span}
 use Rattle.bsv_ast.specs.declared.package.Function.{Function as WrittenFunction}
 use Rattle.bsv_ast.specs.declared.modules.Module.{Module as WrittenModule}
@@ -22,7 +23,6 @@ use Rattle.bsv_types.specs.Modules as rules
 use Rattle.bsv_types.specs.Programs.{call_of}
 use Rattle.bsv_ast.specs.Packages.{items_of}
 use Rattle.bsv_statements.specs.Bodies.{Or, ◌>=>◌, at}
-use Rattle.bsv_typing.proofs.Bound.{some_is}
 use Rattle.bsv_statements.proofs.RightCalls.{ok_is, went, there_is}
 use Rattle.bsv_modules.specs.Modules.{Header}
 use Rattle.bsv_modules.specs.Programs.{Program, added, value_params, function_header, function_entry, with_function, has_number, is_function, function_case, module_params, module_header, header_of, module_entry, with_module, is_module, module_case}
@@ -51,7 +51,7 @@ module _ {V : Type 0} (number : V → ℕ) where
     by : (b : Bool) → (found name es ≡ Some v → (i : ℕ) × (number v ≡ n + 1 + i) × (slice_get (map (λ e. e.1) es) i ≡ Some v)) → cond b (Some x.1) (found name es) ≡ Some v →
         (i : ℕ) × (number v ≡ n + i) × (slice_get (map (λ e. e.1) (x ∷ es)) i ≡ Some v)
     by true later at =
-        let is = some_is x.1 v at in
+        let is = same_Some x.1 v at in
         let first : n ≡ n + 0 = omega arith in
         (0, sym (ap number is) ∙ all.0 ∙ first, ap Some is)
     by false later at =

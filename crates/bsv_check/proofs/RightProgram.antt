@@ -3,9 +3,11 @@ use Rattle.std.proofs.Common.{◌≡◌, ◌∙◌, ℕ, zero, suc, ◌+◌, ◌
 use Rattle.std.specs.Prelude.{nat_lt, slice_get}
 use Rattle.std.specs.Str.{bytes_eq}
 use Rattle.std.specs.List.{list_all}
-use Rattle.std.proofs.lemmas.Bool.{ltb-true, lt-ltb}
-use Rattle.std.proofs.lemmas.Option.{slice_get-map}
+use Rattle.std.proofs.lemmas.Bool.{ltb-true, lt-ltb, and_parts, and_from}
+use Rattle.std.proofs.lemmas.Option.{slice_get-map, same_Some}
 use Rattle.std.proofs.Math.Seq.{take-length}
+use Rattle.bsv_lemmas.proofs.Places.{passes_at}
+use Rattle.bsv_lemmas.proofs.Choices.{was_there}
 use Rattle.bsv_ast.specs.Names.{is_lower, is_upper, is_keyword, grammar_words, reserved_words}
 use Rattle.bsv_ast.specs.declared.package.Function.{Function as WrittenFunction}
 use Rattle.bsv_ast.specs.declared.modules.Module.{Module as WrittenModule}
@@ -26,12 +28,11 @@ use Rattle.bsv_types.specs.Names.{countable, distinct, lower_names}
 use Rattle.bsv_types.specs.Expressions.{World, one, label_count}
 use Rattle.bsv_types.specs.Modules as rules
 use Rattle.bsv_types.specs.Programs.{each_at, enum_right, struct_right, interface_right, method_header_right, shapes_right, names_right, begins_empty, all_countable, call_of, function_right, is_right}
-use Rattle.bsv_types.proofs.Same.{both}
 use Rattle.bsv_ast.specs.Packages.{items_of}
 use Rattle.bsv_context.specs.Env.{in_reach, is_typed_value}
 use Rattle.bsv_typing.specs.Laws.{slot_right, FitsWorld}
 use Rattle.bsv_statements.specs.Bodies.{Or, ◌>=>◌}
-use Rattle.bsv_typing.proofs.Bound.{some_is, tested_step, both_true}
+use Rattle.bsv_typing.proofs.Bound.{tested_step}
 use Rattle.bsv_typing.proofs.RightOperands.{strict_value}
 use Rattle.bsv_statements.proofs.RightCalls.{ok_is, went}
 use Rattle.bsv_modules.specs.Modules.{Header, params_at, are_named}
@@ -63,7 +64,7 @@ start_kept = record {
   strict = refl;
   enums = refl;
   structs = refl;
-  interfaces = both_true _ true (both_true _ true (both_true (is_upper (codes "Empty")) true empty_upper refl) refl) refl;
+  interfaces = and_from _ true (and_from _ true (and_from (is_upper (codes "Empty")) true empty_upper refl) refl) refl;
   empty = refl;
   types = λ name k e. by name k (bytes_eq name (codes "Empty")) e;
   label = λ name l e. absurd cc;
@@ -73,7 +74,7 @@ start_kept = record {
   labelled = refl;
 } where
   by : (name : List ℕ) (k : Kind) (b : Bool) → cond b (Some (interface 0)) None ≡ Some k → slot_right (shapes_of (no_types true)) (one k) ≡ true
-  by name k true e = subst (λ j. slot_right (shapes_of (no_types true)) (one j) ≡ true) (some_is (interface 0) k e) (lt-ltb 0 1 (omega arith))
+  by name k true e = subst (λ j. slot_right (shapes_of (no_types true)) (one j) ≡ true) (same_Some (interface 0) k e) (lt-ltb 0 1 (omega arith))
   by name k false e = absurd cc
 
 step_kept : (i : Item) (t : Types) → Kept t → Kept (type_step i t)
@@ -94,7 +95,7 @@ all_kept (x ∷ xs) t kept = all_kept xs (over_items type_step (items_of x) t) (
 -- ---- each function and each module is typed by its number
 
 at_more : {A : Type 0} (P : ℕ → A → Type 0) (xs : List A) (x : A) → ((i : ℕ) (y : A) → slice_get xs i ≡ Some y → P i y) → P (length xs) x → (i : ℕ) (y : A) → slice_get (xs ++ x ∷ []) i ≡ Some y → P i y
-at_more P [] x all last zero y e = subst (P 0) (some_is x y e) last
+at_more P [] x all last zero y e = subst (P 0) (same_Some x y e) last
 at_more P [] x all last (suc i) y e = absurd cc
 at_more P (z ∷ xs) x all last zero y e = all 0 y e
 at_more P (z ∷ xs) x all last (suc i) y e = at_more (λ i. P (suc i)) xs x (λ i y e. all (suc i) y e) last i y e
@@ -142,19 +143,14 @@ packages_typed p n (x ∷ xs) d next a e =
 
 all_from : {A : Type 0} (p : A → Bool) (xs : List A) → ((i : ℕ) (x : A) → slice_get xs i ≡ Some x → p x ≡ true) → list_all p xs ≡ true
 all_from p [] each = refl
-all_from p (x ∷ xs) each = both_true (p x) (list_all p xs) (each 0 x refl) (all_from p xs (λ i y e. each (suc i) y e))
+all_from p (x ∷ xs) each = and_from (p x) (list_all p xs) (each 0 x refl) (all_from p xs (λ i y e. each (suc i) y e))
 
 each_from : {A : Type 0} (p : ℕ → A → Bool) (first : ℕ) (xs : List A) → ((i : ℕ) (x : A) → slice_get xs i ≡ Some x → p (first + i) x ≡ true) → each_at p first xs ≡ true
 each_from p first [] each = refl
 each_from p first (x ∷ xs) each =
     let here : first + 0 ≡ first = omega arith in
-    both_true (p first x) (each_at p (first + 1) xs) (subst (λ n. p n x ≡ true) here (each 0 x refl))
+    and_from (p first x) (each_at p (first + 1) xs) (subst (λ n. p n x ≡ true) here (each 0 x refl))
     (each_from p (first + 1) xs (λ i y e. let next : first + suc i ≡ first + 1 + i = omega arith in subst (λ n. p n y ≡ true) next (each (suc i) y e)))
-
-at_each : {A : Type 0} (p : A → Bool) (xs : List A) (i : ℕ) (x : A) → list_all p xs ≡ true → slice_get xs i ≡ Some x → p x ≡ true
-at_each p [] i x all e = absurd cc
-at_each p (y ∷ xs) zero x all e = subst (λ z. p z ≡ true) (some_is y x e) (both (p y) (list_all p xs) all).0
-at_each p (y ∷ xs) (suc i) x all e = at_each p xs i x (both (p y) (list_all p xs) all).1 e
 
 nothing_taken : {A : Type 0} (n i : ℕ) → slice_get {X = A} (take n []) i ≡ None
 nothing_taken zero i = refl
@@ -166,61 +162,51 @@ get_taken (x ∷ xs) zero i lt = absurd (omega (arith, lt))
 get_taken (x ∷ xs) (suc n) zero lt = refl
 get_taken (x ∷ xs) (suc n) (suc i) lt = get_taken xs n i (omega (arith, lt))
 
-there : {A : Type 0} (xs : List A) (i : ℕ) → i < length xs → (x : A) × (slice_get xs i ≡ Some x)
-there [] i lt = absurd (omega (arith, lt))
-there (x ∷ xs) zero lt = (x, refl)
-there (x ∷ xs) (suc i) lt = there xs i (omega (arith, lt))
-
 -- ---- shapes in order
 
 enums_right : (es : List Enum) → list_all enum_kept es ≡ true → list_all (λ e. countable e.labels) es ≡ true → list_all enum_right es ≡ true
 enums_right [] kept few = refl
 enums_right (e ∷ es) kept few =
-    let k = both (enum_kept e) (list_all enum_kept es) kept in
-    let f = both (countable e.labels) (list_all (λ e. countable e.labels) es) few in
-    both_true (enum_right e) (list_all enum_right es) (enum_is_right e k.0 f.0) (enums_right es k.1 f.1)
+    let k = and_parts (enum_kept e) (list_all enum_kept es) kept in
+    let f = and_parts (countable e.labels) (list_all (λ e. countable e.labels) es) few in
+    and_from (enum_right e) (list_all enum_right es) (enum_is_right e k.0 f.0) (enums_right es k.1 f.1)
 
 struct_is_right : (s : Shapes) (n : ℕ) (t : Struct) → struct_kept s n t ≡ true → countable t.fields ≡ true → struct_right s n t ≡ true
 struct_is_right s n t kept few =
     let front = is_upper t.name && lower_names (map (λ f. f.name) t.fields) in
     let bits = list_all (is_bits s n) (field_kinds t.fields) in
     let width = is_width (widths_by s.enums s.structs (field_kinds t.fields)) t.width in
-    let d = both (front && bits && in_range t.width) width kept in
-    let c = both (front && bits) (in_range t.width) d.0 in
-    let b = both front bits c.0 in
-    both_true (front && countable t.fields && bits && in_range t.width) width
-    (both_true (front && countable t.fields && bits) (in_range t.width) (both_true (front && countable t.fields) bits (both_true front (countable t.fields) b.0 few) b.1) c.1) d.1
+    let d = and_parts (front && bits && in_range t.width) width kept in
+    let c = and_parts (front && bits) (in_range t.width) d.0 in
+    let b = and_parts front bits c.0 in
+    and_from (front && countable t.fields && bits && in_range t.width) width
+    (and_from (front && countable t.fields && bits) (in_range t.width) (and_from (front && countable t.fields) bits (and_from front (countable t.fields) b.0 few) b.1) c.1) d.1
 
 structs_right : (s : Shapes) (first : ℕ) (ts : List Struct) → each_at (struct_kept s) first ts ≡ true → list_all (λ t. countable t.fields) ts ≡ true → each_at (struct_right s) first ts ≡ true
 structs_right s first [] kept few = refl
 structs_right s first (t ∷ ts) kept few =
-    let k = both (struct_kept s first t) (each_at (struct_kept s) (first + 1) ts) kept in
-    let f = both (countable t.fields) (list_all (λ t. countable t.fields) ts) few in
-    both_true (struct_right s first t) (each_at (struct_right s) (first + 1) ts) (struct_is_right s first t k.0 f.0) (structs_right s (first + 1) ts k.1 f.1)
+    let k = and_parts (struct_kept s first t) (each_at (struct_kept s) (first + 1) ts) kept in
+    let f = and_parts (countable t.fields) (list_all (λ t. countable t.fields) ts) few in
+    and_from (struct_right s first t) (each_at (struct_right s) (first + 1) ts) (struct_is_right s first t k.0 f.0) (structs_right s (first + 1) ts k.1 f.1)
 
 interface_is_right : (s : Shapes) (i : Interface) → interface_kept s i ≡ true → countable i.methods ≡ true → interface_right s i ≡ true
 interface_is_right s i kept few =
     let front = is_upper i.name && distinct (map (λ h. h.name) i.methods) in
-    let b = both front (list_all (method_header_right s) i.methods) kept in
-    both_true (front && countable i.methods) (list_all (method_header_right s) i.methods) (both_true front (countable i.methods) b.0 few) b.1
+    let b = and_parts front (list_all (method_header_right s) i.methods) kept in
+    and_from (front && countable i.methods) (list_all (method_header_right s) i.methods) (and_from front (countable i.methods) b.0 few) b.1
 
 interfaces_right : (s : Shapes) (is : List Interface) → list_all (interface_kept s) is ≡ true → list_all (λ i. countable i.methods) is ≡ true → list_all (interface_right s) is ≡ true
 interfaces_right s [] kept few = refl
 interfaces_right s (i ∷ is) kept few =
-    let k = both (interface_kept s i) (list_all (interface_kept s) is) kept in
-    let f = both (countable i.methods) (list_all (λ i. countable i.methods) is) few in
-    both_true (interface_right s i) (list_all (interface_right s) is) (interface_is_right s i k.0 f.0) (interfaces_right s is k.1 f.1)
+    let k = and_parts (interface_kept s i) (list_all (interface_kept s) is) kept in
+    let f = and_parts (countable i.methods) (list_all (λ i. countable i.methods) is) few in
+    and_from (interface_right s i) (list_all (interface_right s) is) (interface_is_right s i k.0 f.0) (interfaces_right s is k.1 f.1)
 
 abbrev call_in : List ℕ × Call → List Kind × Kind
 call_in e = (e.1.1, e.1.2)
 
 abbrev face_in : List ℕ × Header → List Kind × Kind
 face_in e = (e.1.params, e.1.interface)
-
--- what is mapped was there
-mapped : {A B : Type 0} (f : A → B) (o : Option A) (y : B) → option_map f o ≡ Some y → (x : A) × (o ≡ Some x) × (f x ≡ y)
-mapped f None y e = absurd cc
-mapped f (Some x) y e = (x, refl, some_is (f x) y e)
 
 abbrev type_names_of : List Enum → List Struct → List Interface → List (List ℕ)
 type_names_of es ss is = map (λ (e : Enum). e.name) es ++ map (λ (s : Struct). s.name) ss ++ map (λ (i : Interface). i.name) is
@@ -235,8 +221,8 @@ module_names ms = map (λ (m : Module). m.name) ms
 names_once : (es : List Enum) (ss : List Struct) (is : List Interface) (fs : List Function) (ms : List Module) →
     distinct (type_names_of es ss is) ≡ true → distinct (labels es) ≡ true → distinct (function_names fs) ≡ true → distinct (module_names ms) ≡ true → names_right es ss is fs ms ≡ true
 names_once es ss is fs ms typed once named last =
-    both_true (distinct (type_names_of es ss is) && distinct (labels es) && distinct (function_names fs)) (distinct (module_names ms))
-    (both_true (distinct (type_names_of es ss is) && distinct (labels es)) (distinct (function_names fs)) (both_true (distinct (type_names_of es ss is)) (distinct (labels es)) typed once) named) last
+    and_from (distinct (type_names_of es ss is) && distinct (labels es) && distinct (function_names fs)) (distinct (module_names ms))
+    (and_from (distinct (type_names_of es ss is) && distinct (labels es)) (distinct (function_names fs)) (and_from (distinct (type_names_of es ss is)) (distinct (labels es)) typed once) named) last
 
 -- ---- a program whose items all have a typing
 
@@ -255,7 +241,7 @@ module _ (p : Program) (fs : List Function) (ms : List Module) (kept : Kept p.ty
       ∙ slice_get-map call_in p.functions h.0 ∙ entry_at p.functions h.0 g h.2 where
         entry_at : (es : Entries Call) (i : ℕ) (g : Call) → slice_get (map (λ e. e.1) es) i ≡ Some g → option_map call_in (slice_get es i) ≡ Some (g.1, g.2)
         entry_at [] i g e = absurd cc
-        entry_at (x ∷ es) zero g e = ap (λ (c : Call). Some (c.1, c.2)) (some_is x.1 g e)
+        entry_at (x ∷ es) zero g e = ap (λ (c : Call). Some (c.1, c.2)) (same_Some x.1 g e)
         entry_at (x ∷ es) (suc i) g e = entry_at es i g e
 
   -- the module that a name stands for
@@ -267,7 +253,7 @@ module _ (p : Program) (fs : List Function) (ms : List Module) (kept : Kept p.ty
       ∙ slice_get-map face_in p.modules h.0 ∙ entry_at p.modules h.0 v h.2 where
         entry_at : (es : Entries Header) (i : ℕ) (g : Header) → slice_get (map (λ e. e.1) es) i ≡ Some g → option_map face_in (slice_get es i) ≡ Some (g.params, g.interface)
         entry_at [] i g e = absurd cc
-        entry_at (x ∷ es) zero g e = ap (λ (c : Header). Some (c.params, c.interface)) (some_is x.1 g e)
+        entry_at (x ∷ es) zero g e = ap (λ (c : Header). Some (c.params, c.interface)) (same_Some x.1 g e)
         entry_at (x ∷ es) (suc i) g e = entry_at es i g e
 
   strict_limits : limits_of p.types ≡ record { strict = true; shapes = s }
@@ -280,13 +266,13 @@ module _ (p : Program) (fs : List Function) (ms : List Module) (kept : Kept p.ty
       let k = went (written_at f.span f.result p.types) _ h e in
       let ps = went (params_at (type_names p.types) (value_kind p) f.span f.params) _ h k.2 in
       let c = sure_is f.span (is_lower f.name.name && value_kind p k.0 && are_named ps.0) (ps.0, k.0) h ps.2 in
-      let b = both (is_lower f.name.name) (value_kind p k.0) (both (is_lower f.name.name && value_kind p k.0) (are_named ps.0) c.0).0 in
+      let b = and_parts (is_lower f.name.name) (value_kind p k.0) (and_parts (is_lower f.name.name && value_kind p k.0) (are_named ps.0) c.0).0 in
       subst (λ (j : List Param × Kind). is_value s j.1 ≡ true) c.1
       (strict_value (record { shapes = s; functions = [] }) k.0 (ap (λ g. is_typed_value g k.0) (sym strict_limits) ∙ b.1))
 
   result_is : (name : List ℕ) (g : Call) → found name p.functions ≡ Some g → is_value s g.2 ≡ true
   result_is name g e =
-      let x = mapped call_of (slice_get fs g.0) (g.1, g.2) (sym (slice_get-map call_of fs g.0) ∙ call_at name g e) in
+      let x = was_there call_of (slice_get fs g.0) (g.1, g.2) (sym (slice_get-map call_of fs g.0) ∙ call_at name g e) in
       let typed = functions_typed g.0 x.0 x.1 in
       let seen = function_seen p g.0 typed.0 x.0 typed.1 in
       subst (λ (c : List Kind × Kind). is_value s c.1 ≡ true) (sym seen.seen ∙ x.2) (header_value typed.0 seen.header seen.headed)
@@ -309,7 +295,7 @@ module _ (p : Program) (fs : List Function) (ms : List Module) (kept : Kept p.ty
       by None e = absurd cc
       by (Some f) e =
           let h = tested_step (nat_lt f.0 number) (Some f) g e in
-          let same = some_is f g h.1 in
+          let same = same_Some f g h.1 in
           (subst (λ (c : Call). c.0 < number) same (ltb-true f.0 number h.0), h.1)
 
   -- ---- its functions and its modules
@@ -335,17 +321,17 @@ module _ (p : Program) (fs : List Function) (ms : List Module) (kept : Kept p.ty
   module_is_right : list_all (λ (x : Module). countable x.rules && countable x.methods) ms ≡ true → (i : ℕ) (x : Module) → slice_get ms i ≡ Some x → rules.module_right w (map rules.header ms) x ≡ true
   module_is_right few i x e =
       let typed = modules_typed i x e in
-      let counts = both (countable x.rules) (countable x.methods) (at_each (λ (x : Module). countable x.rules && countable x.methods) ms i x few e) in
+      let counts = and_parts (countable x.rules) (countable x.methods) (passes_at (λ (x : Module). countable x.rules && countable x.methods) ms i x few e) in
       modules_right p w (map rules.header ms) fits_program i typed.0 x typed.1 counts.0 counts.1
 
   pub program_right : all_countable p.types.enums p.types.structs p.types.interfaces fs ms ≡ true → list_all (λ (x : Module). countable x.rules && countable x.methods) ms ≡ true → is_right p.types.enums p.types.structs p.types.interfaces fs ms ≡ true
   program_right counts few =
       let once = names_once p.types.enums p.types.structs p.types.interfaces fs ms kept.names kept.label_names (ap distinct (sym functions.names) ∙ functions.once) (ap distinct (sym modules.names) ∙ modules.once) in
-      let named = both_true (all_countable p.types.enums p.types.structs p.types.interfaces fs ms) (names_right p.types.enums p.types.structs p.types.interfaces fs ms) counts once in
+      let named = and_from (all_countable p.types.enums p.types.structs p.types.interfaces fs ms) (names_right p.types.enums p.types.structs p.types.interfaces fs ms) counts once in
       let front = all_countable p.types.enums p.types.structs p.types.interfaces fs ms && names_right p.types.enums p.types.structs p.types.interfaces fs ms in
-      let shaped = both_true front (shapes_right s) named shapes in
-      let called = both_true (front && shapes_right s) (each_at (function_right s fs) 0 fs) shaped (each_from (function_right s fs) 0 fs (λ i x e. let first : i ≡ 0 + i = omega arith in subst (λ n. function_right s fs n x ≡ true) first (function_is_right i x e))) in
-      both_true (front && shapes_right s && each_at (function_right s fs) 0 fs) (list_all (rules.module_right w (map rules.header ms)) ms) called (all_from (rules.module_right w (map rules.header ms)) ms (module_is_right few))
+      let shaped = and_from front (shapes_right s) named shapes in
+      let called = and_from (front && shapes_right s) (each_at (function_right s fs) 0 fs) shaped (each_from (function_right s fs) 0 fs (λ i x e. let first : i ≡ 0 + i = omega arith in subst (λ n. function_right s fs n x ≡ true) first (function_is_right i x e))) in
+      and_from (front && shapes_right s && each_at (function_right s fs) 0 fs) (list_all (rules.module_right w (map rules.header ms)) ms) called (all_from (rules.module_right w (map rules.header ms)) ms (module_is_right few))
 
 -- ---- what the typing of a program gives
 
@@ -393,12 +379,12 @@ programs_right ps m e counts =
           let ss = list_all (λ (s : Struct). countable s.fields) t.structs in
           let is = list_all (λ (i : Interface). countable i.methods) t.interfaces in
           let ms = list_all (λ (x : Module). countable x.rules && countable x.methods) d.modules in
-          let all = both (all_countable t.enums t.structs t.interfaces d.functions d.modules) (es && ss && is && ms) (regroup (all_countable t.enums t.structs t.interfaces d.functions d.modules) es ss is ms counts) in
-          let c = both (es && ss && is) ms all.1 in
-          let b = both (es && ss) is c.0 in
-          let a = both es ss b.0 in
-          let shapes = both_true (list_all enum_right t.enums && each_at (struct_right (shapes_of t)) 0 t.structs && list_all (interface_right (shapes_of t)) t.interfaces) (begins_empty t.interfaces)
-          (both_true (list_all enum_right t.enums && each_at (struct_right (shapes_of t)) 0 t.structs) (list_all (interface_right (shapes_of t)) t.interfaces)
-          (both_true (list_all enum_right t.enums) (each_at (struct_right (shapes_of t)) 0 t.structs) (enums_right t.enums kept.enums a.0) (structs_right (shapes_of t) 0 t.structs kept.structs a.1))
+          let all = and_parts (all_countable t.enums t.structs t.interfaces d.functions d.modules) (es && ss && is && ms) (regroup (all_countable t.enums t.structs t.interfaces d.functions d.modules) es ss is ms counts) in
+          let c = and_parts (es && ss && is) ms all.1 in
+          let b = and_parts (es && ss) is c.0 in
+          let a = and_parts es ss b.0 in
+          let shapes = and_from (list_all enum_right t.enums && each_at (struct_right (shapes_of t)) 0 t.structs && list_all (interface_right (shapes_of t)) t.interfaces) (begins_empty t.interfaces)
+          (and_from (list_all enum_right t.enums && each_at (struct_right (shapes_of t)) 0 t.structs) (list_all (interface_right (shapes_of t)) t.interfaces)
+          (and_from (list_all enum_right t.enums) (each_at (struct_right (shapes_of t)) 0 t.structs) (enums_right t.enums kept.enums a.0) (structs_right (shapes_of t) 0 t.structs kept.structs a.1))
           (interfaces_right (shapes_of t) t.interfaces kept.interfaces b.1)) kept.empty in
           program_right p d.functions d.modules kept aligned.functions aligned.modules typed.functions typed.modules shapes all.0 c.1

@@ -4,6 +4,7 @@ use Rattle.std.proofs.Math.Bool.{Bool-set}
 use Rattle.std.proofs.Math.Logic.{∥∥₁_elim}
 use Rattle.std.specs.Prelude.{IsTrue, length, slice_get, ◌&&◌, ◌==◌}
 use Rattle.std.specs.List.{list_any}
+use Rattle.std.proofs.lemmas.Bool.{eqb-true, and_parts}
 use Rattle.bsv_prim.specs.declared.part.Part.{Part}
 use Rattle.bsv_design.specs.declared.design.Design.{Design}
 use Rattle.bsv_design.specs.declared.element.Element.{Element}
@@ -22,8 +23,7 @@ use Rattle.bsv_schedule.specs.stopping.Stops.{AreStops}
 use Rattle.bsv_schedule.specs.urging.Orders.{Urges}
 use Rattle.bsv_schedule.specs.relating.Uses.{Among}
 use Rattle.bsv_schedule.proofs.RelationsLemmas.{agrees_design}
-use Rattle.bsv_schedule.proofs.UsesLemmas.{same_number, any_of}
-use Rattle.bsv_schedule.proofs.Truths.{and_both}
+use Rattle.bsv_schedule.proofs.UsesLemmas.{any_of}
 use Rattle.bsv_guard.specs.ElementLaws.{DoTheSame}
 use Rattle.bsv_guard.proofs.Alike.{alike}
 use Rattle.bsv_guard.proofs.DesignFits.{design_is_fitting}
@@ -36,9 +36,6 @@ pub lawful_design : (d : Design) → KeepsRules (design_scheme (blueprint d)) �
 lawful_design d rules =
     ∥∥₁_elim d.right (lawful_prop (design_scheme (blueprint d)))
     (λ (right : IsDesign (blueprint d)). record { sound = design_is_sound (blueprint d) right; fitting = design_is_fitting (blueprint d) right; rules = rules })
-
-pub agrees : (d : Design) → Agrees (relating (design_scheme (blueprint d)))
-agrees = agrees_design
 
 -- ---- rules
 
@@ -54,8 +51,8 @@ IsPairOf a b p = (p.before ≡ a) × (p.after ≡ b)
 
 names : (a b : ℕ) (p : Pair) → IsTrue (preempts a b p) → IsPairOf a b p
 names a b p h =
-    let x = and_both (is_preempting p.attribute && (p.before == a)) (p.after == b) h in
-    (same_number p.before a (and_both (is_preempting p.attribute) (p.before == a) x.0).1, same_number p.after b x.1)
+    let x = and_parts (is_preempting p.attribute && (p.before == a)) (p.after == b) h in
+    (eqb-true p.before a (and_parts (is_preempting p.attribute) (p.before == a) x.0).1, eqb-true p.after b x.1)
 
 place_in : {X : Type 0} (xs : List X) (x : X) → Among xs x → (k : ℕ) × (slice_get xs k ≡ Some x)
 place_in [] x h = absurd h
@@ -104,7 +101,7 @@ module _ (S T : Scheme) (al : AreAlike S T) where
   schedule_alike made ok =
       let r = relating_alike in
       record {
-        agrees = subst Agrees r ok.agrees;
+        agrees_design = subst Agrees r ok.agrees;
         named = subst PreemptsNameRules r ok.named;
         executes = subst (λ (x : Relating). Executes x made.execution) r ok.executes;
         urges = subst (λ (x : Relating). Urges x made.urgency) r ok.urges;

@@ -27,10 +27,6 @@ pub all_map : {X : Type 0} (P Q : X → Type 0) → ((x : X) → P x → Q x) �
 all_map P Q f [] h = tt
 all_map P Q f (x ∷ xs) h = (f x h.0, all_map P Q f xs h.1)
 
-pub all_from : {X : Type 0} (P : X → Type 0) (xs : List X) → ((k : ℕ) (x : X) → slice_get xs k ≡ Some x → P x) → AllByRecursion P xs
-all_from P [] h = tt
-all_from P (x ∷ xs) h = (h zero x refl, all_from P xs (λ k y e. h (suc k) y e))
-
 pub all_at : {X : Type 0} (P : X → Type 0) (xs : List X) → AllByRecursion P xs → (k : ℕ) (x : X) → slice_get xs k ≡ Some x → P x
 all_at P [] h k x e = absurd (let n : ⊥ = cc in n)
 all_at P (y ∷ xs) h zero x e = let same : y ≡ x = cc in subst P same h.0
@@ -46,14 +42,6 @@ calls_on-append i (c ∷ xs) ys = cases (c.target.part == i) (calls_on-append i 
         → cond b (call_of c ∷ calls_on i (xs ++ ys)) (calls_on i (xs ++ ys)) ≡ cond b (call_of c ∷ calls_on i xs) (calls_on i xs) ++ calls_on i ys
     cases true e = ap (λ (cs : List Call). call_of c ∷ cs) e
     cases false e = e
-
-pub all_on : (P : Call → Type 0) (i : ℕ) (cs : List Called) → AllByRecursion (λ c. c.target.part ≡ i → P (call_of c)) cs → AllByRecursion P (calls_on i cs)
-all_on P i [] h = tt
-all_on P i (c ∷ cs) h = cases (c.target.part == i) refl (all_on P i cs h.1)
-  where
-    cases : (b : Bool) → (c.target.part == i) ≡ b → AllByRecursion P (calls_on i cs) → AllByRecursion P (cond b (call_of c ∷ calls_on i cs) (calls_on i cs))
-    cases true e rest = (h.0 (eqb-true c.target.part i e), rest)
-    cases false e rest = rest
 
 pub after_calls-append : (ks : List Kind) (ps : List Part) (xs ys : List Called) → after_calls ks ps (xs ++ ys) ≡ after_calls ks (after_calls ks ps xs) ys
 after_calls-append ks ps [] ys = refl

@@ -17,11 +17,12 @@ use Rattle.bsv_clock.specs.Grounds.{IsLawful, IsScheduleOf, Fit}
 use Rattle.bsv_clock.specs.Looks.{look_after, calls_in_turn, clock_look}
 use Rattle.bsv_clock.specs.Settling.{Doing, IsSettled, deeds, fires, look_of, is_stopped, decide, fired_in, end_of}
 use Rattle.bsv_clock.specs.Steadiness.{IsSteady}
-use Rattle.bsv_clock.proofs.Members.{found, is_found, kept_in, filter_same}
+use Rattle.bsv_clock.proofs.Members.{found, is_found, kept_in}
 use Rattle.bsv_clock.proofs.Serially.{turns_append, serial_end}
 use Rattle.bsv_clock.proofs.Sight.{look_cut, blind_turns}
 use Rattle.bsv_clock.proofs.Stopping.{ordered, stopper, none_stops}
 use Rattle.bsv_clock.proofs.Turns.{does, StandsAt, AreReady, whole_walk}
+use Rattle.bsv_schedule.proofs.RelationsLemmas.{filter_same}
 
 -- the decision of one element, given its parts
 decided_as : (f a r p : Bool) (x : List Called) → (f ≡ true → (a ≡ true) × (r ≡ true) × (p ≡ false)) → (f ≡ false → a ≡ true → r ≡ true → p ≡ true)

@@ -12,10 +12,10 @@ use Rattle.bsv_clock.specs.Settling.{Doing, IsSettled, deed, fires, look_of, the
 use Rattle.bsv_clock.specs.Steadiness.{IsSteady}
 use Rattle.bsv_clock.proofs.ClockIsSettled.{doing, clock_settled, fired_is, after_is}
 use Rattle.bsv_clock.proofs.Given.{CanBeRun, given}
-use Rattle.bsv_clock.proofs.Members.{filter_same}
 use Rattle.bsv_clock.proofs.Settle.{settled_one, clock_settles}
 use Rattle.bsv_clock.proofs.SettledIsClock.{settled_clock, can_be_run, results_in_look}
 use Rattle.bsv_clock.proofs.Sight.{deeds_same}
+use Rattle.bsv_schedule.proofs.RelationsLemmas.{filter_same}
 
 module _ (g : Bool) (S : Scheme) (made : Schedule) (q : Asking) (s : List Part) (together : BelongTogether S made q s) (steady : IsSteady g S) where
   abbrev clock : Doing

@@ -3,6 +3,7 @@ use Rattle.std.proofs.Common.{◌≡◌, ◌∙◌, ℕ, Bool, true, false, cond
 use Rattle.std.specs.Prelude.{slice_get}
 use Rattle.std.specs.List.{AllByRecursion}
 use Rattle.std.proofs.lemmas.Bool.{and_parts}
+use Rattle.bsv_lemmas.proofs.Places.{all_from}
 use Rattle.bsv_prim.specs.Calls as prim
 use Rattle.bsv_prim.specs.Calls.{IsOrderly, IsReady}
 use Rattle.bsv_prim.specs.Table.{Call}
@@ -28,9 +29,10 @@ use Rattle.bsv_clock.specs.Grounds.{Fit, IsLawful}
 use Rattle.bsv_clock.specs.Looks.{calls_in_turn, look_after}
 use Rattle.bsv_clock.specs.Settling.{Doing, IsSettled, decide, deed, deeds, end_of, fired_in, is_stopped, look_of}
 use Rattle.bsv_clock.specs.Steadiness.{GoInOrder}
-use Rattle.bsv_clock.proofs.CallLists.{all_append, all_map, all_from, all_at, all_on, seen_on}
+use Rattle.bsv_clock.proofs.CallLists.{all_append, all_map, all_at, seen_on}
 use Rattle.bsv_clock.proofs.InTurn.{laws, turns, one_fits, run_fits, run_orderly}
-use Rattle.bsv_clock.proofs.Steadily.{emptied_fits, part_fits, fits, looked_at}
+use Rattle.bsv_clock.proofs.Steadily.{emptied_fits, fits, looked_at}
+use Rattle.bsv_guard.proofs.Turns.{all_on, fits_at}
 
 -- the elements that fire can be run one after the other, each goes before each later one, and they make these calls
 pub record CanBeRun (aggressive : Bool) (S : Scheme) (made : Schedule) (q : Asking) (s : List Part) (D : Doing) : Type 0 where
@@ -129,7 +131,7 @@ module _ (g : Bool) (S : Scheme) (made : Schedule) (q : Asking) (s : List Part) 
 
     seen_in_order : IsOrderly (kind_table kind) (part_at start t.part) (prim.seen_by (kind_table kind) t.method here)
     seen_in_order =
-        seen_is_orderly (kind_table kind) (kind_laws kind) t.method (part_at start t.part) here (part_fits S.kinds start start_fits t.part kind is) (orderly t.part kind is)
+        seen_is_orderly (kind_table kind) (kind_laws kind) t.method (part_at start t.part) here (fits_at S.kinds start start_fits t.part kind is) (orderly t.part kind is)
         (all_on (λ c. (kind_table kind).sees c.method t.method ≡ true → IsReady (kind_table kind) (part_at start t.part) c) t.part all
         (all_map (λ c. is_open S.kinds (look_of S made s D) c.target ≡ true) (λ c. c.target.part ≡ t.part → (kind_table kind).sees c.target.method t.method ≡ true → IsReady (kind_table kind) (part_at start t.part) (call_of c))
         (λ c o p e. seen_ready c o p e) all open_calls))
@@ -138,7 +140,7 @@ module _ (g : Bool) (S : Scheme) (made : Schedule) (q : Asking) (s : List Part) 
     unfolding look_of
     part_in_look =
         subst (kind_table kind).Fits (sym (looked_at S ok g q fit.requests start start_fits all t kind is))
-        (fits_after (kind_table kind) (kind_laws kind) (part_at start t.part) (prim.seen_by (kind_table kind) t.method here) (part_fits S.kinds start start_fits t.part kind is) seen_in_order)
+        (fits_after (kind_table kind) (kind_laws kind) (part_at start t.part) (prim.seen_by (kind_table kind) t.method here) (fits_at S.kinds start start_fits t.part kind is) seen_in_order)
 
   pub given : IsFed S made s D
   given = record {

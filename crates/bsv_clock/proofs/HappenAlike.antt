@@ -20,7 +20,7 @@ use Rattle.bsv_clock.specs.Clocks.{IsClock, is_in, is_asked, may_fire, may_fire_
 use Rattle.bsv_clock.specs.Events.{IsFirstStopper, Happens, stopped_in, blocked_in, gives, results_in_turn}
 use Rattle.bsv_clock.specs.Looks.{look_after, calls_in_turn, clock_look}
 use Rattle.bsv_clock.proofs.Belonging.{relating_alike}
-use Rattle.bsv_clock.proofs.Members.{filter_same}
+use Rattle.bsv_schedule.proofs.RelationsLemmas.{filter_same}
 
 module _ (S T : Scheme) (al : AreAlike S T) where
   same : DoTheSame S T

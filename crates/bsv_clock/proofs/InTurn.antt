@@ -4,6 +4,7 @@ use Rattle.std.proofs.Common.{◌≡◌, ◌∙◌, ℕ, zero, suc, Bool, true, 
 use Rattle.std.specs.Prelude.{slice_get}
 use Rattle.std.specs.List.{AllByRecursion}
 use Rattle.std.proofs.lemmas.Bool.{and_parts, eq-eqb}
+use Rattle.bsv_lemmas.proofs.Places.{all_from}
 use Rattle.bsv_prim.specs.Calls.{IsOrderly, MayPrecede}
 use Rattle.bsv_prim.specs.Calls as prim
 use Rattle.bsv_prim.specs.Elements.{EachBefore}
@@ -25,11 +26,11 @@ use Rattle.bsv_guard.specs.Fitting.{RequestFits}
 use Rattle.bsv_guard.specs.Turns.{calls_on, IsTurn, TurnLaws}
 use Rattle.bsv_guard.proofs.Keeps.{sound_keeps}
 use Rattle.bsv_guard.proofs.Ranks.{all_by_rank}
-use Rattle.bsv_guard.proofs.Turns.{sound_turns}
+use Rattle.bsv_guard.proofs.Turns.{sound_turns, all_on}
 use Rattle.bsv_clock.specs.Grounds.{IsLawful}
 use Rattle.bsv_clock.specs.Looks.{calls_in_turn}
 use Rattle.bsv_clock.specs.Steadiness.{AllGo, GoInOrder}
-use Rattle.bsv_clock.proofs.CallLists.{all_append, all_map, all_from, calls_on-append, all_on}
+use Rattle.bsv_clock.proofs.CallLists.{all_append, all_map, calls_on-append}
 
 -- ---- elements that go before others
 

@@ -75,10 +75,6 @@ in_kept t (x ∷ xs) n (inr i) h = cases (t x) (in_kept t xs n i h)
     cases true k = inr k
     cases false k = k
 
-pub filter_same : (t u : ℕ → Bool) (xs : List ℕ) → ((n : ℕ) → In xs n → t n ≡ u n) → filter t xs ≡ filter u xs
-filter_same t u [] h = refl
-filter_same t u (x ∷ xs) h = ap₂ (λ (b : Bool) (ys : List ℕ). cond b (x ∷ ys) ys) (h x (inl refl)) (filter_same t u xs (λ n i. h n (inr i)))
-
 -- ---- places
 
 pub place_within : (xs : List ℕ) (n : ℕ) → In xs n → place_of xs n < length xs

@@ -3,7 +3,7 @@ use Rattle.std.proofs.Common.{ℕ, List, [], ◌∷◌, Option, Some, None}
 use Rattle.std.proofs.Math.Bool.{Bool-set}
 use Rattle.std.proofs.Math.Nat.{ℕ_set}
 use Rattle.std.proofs.Math.Bridge.{le_prop}
-use mathlib.Core.Sum.{⊎_set}
+use Rattle.bsv_lemmas.proofs.Choices.{option_set}
 use mathlib.Core.List.{is_set as list_set}
 use Rattle.bsv_bits.specs.Words.{Bits}
 use Rattle.bsv_design.specs.Branches.{AreSameSites, AreSameDemands}
@@ -16,10 +16,7 @@ use Rattle.bsv_guard.specs.Fitting.{IsFitting, IsMethodOf, IsFitCall}
 use Rattle.bsv_guard.specs.Sound.{IsSound, Place}
 use Rattle.bsv_clock.specs.Grounds.{IsLawful}
 
-option_set : {A : Type 0} → IsSet A → IsSet (Option A)
-option_set set = hlevel (⊎_set, set)
-
-bits_set : IsSet Bits
+pub bits_set : IsSet Bits
 bits_set = hlevel ℕ_set
 
 words_set : IsSet (List Bits)

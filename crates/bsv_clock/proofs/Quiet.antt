@@ -22,13 +22,13 @@ use Rattle.bsv_graph.proofs.EdgeLemmas.{where_has}
 use Rattle.bsv_graph.proofs.OrderedLemmas.{before_in, place_before, keeps_has, respects_before}
 use Rattle.bsv_graph.proofs.WalkLemmas.{edge_left, edge_right}
 use Rattle.bsv_guard.specs.Sound.{IsSound}
-use Rattle.bsv_guard.proofs.Given.{length-filled}
 use Rattle.bsv_guard.proofs.Lists.{item_of}
 use Rattle.bsv_schedule.specs.stopping.Firing.{StopsIn}
 use Rattle.bsv_clock.specs.Grounds.{IsScheduleOf}
 use Rattle.bsv_clock.specs.Settling.{stops_in}
 use Rattle.bsv_clock.specs.Values.{IsValueMethod, AreQuiet}
 use Rattle.bsv_clock.proofs.Stopping.{execution_order, stops_true}
+use Rattle.bsv_design.proofs.Elements.{length-filled}
 
 -- ---- roles
 
@@ -39,7 +39,7 @@ pub is_a_value : (S : Scheme) (v : ℕ) → IsValueMethod S v → (relating S).v
 unfolding relating
 is_a_value S v h = ap (has_role is_value) (slice_get-map (λ (o : Outline). o.role) S.elements v ∙ (ap (option_map (λ (o : Outline). o.role)) h.1 ∙ ap (λ (r : Role). Some r) h.2))
 
-value_role : (r : Role) → is_value r ≡ true → r ≡ role.Value
+pub value_role : (r : Role) → is_value r ≡ true → r ≡ role.Value
 value_role role.Value h = refl
 value_role _ h = absurd (let n : ⊥ = cc in n)
 

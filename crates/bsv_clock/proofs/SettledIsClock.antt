@@ -20,11 +20,12 @@ use Rattle.bsv_clock.specs.Looks.{look_after, calls_in_turn, clock_look}
 use Rattle.bsv_clock.specs.Settling.{Doing, IsSettled, deed, deeds, fires, look_of, is_stopped, decide, fired_in, end_of}
 use Rattle.bsv_clock.specs.Steadiness.{IsSteady}
 use Rattle.bsv_clock.proofs.Given.{CanBeRun}
-use Rattle.bsv_clock.proofs.Members.{is_found, not_found, kept_in, in_kept, filter_same}
+use Rattle.bsv_clock.proofs.Members.{is_found, not_found, kept_in, in_kept}
 use Rattle.bsv_clock.proofs.Settle.{may_within, settled_within}
 use Rattle.bsv_clock.proofs.Sight.{deeds_append, deeds_same, look_cut, blind_deeds}
 use Rattle.bsv_clock.proofs.Stopping.{ordered, execution_order, stopper, none_stops}
 use Rattle.bsv_clock.proofs.Turns.{does, StandsAt, AreReady, HasCome, whole_walk}
+use Rattle.bsv_schedule.proofs.RelationsLemmas.{filter_same}
 
 some_if : {A : Type 0} (b : Bool) (x : A) → is_some (cond b (Some x) None) ≡ b
 some_if true x = refl

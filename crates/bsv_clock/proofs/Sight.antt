@@ -5,6 +5,7 @@ use Rattle.std.specs.List.{AllByRecursion}
 use Rattle.std.proofs.lemmas.Bool.{both_ways, false_from_ne_true, or_left, or_right}
 use Rattle.std.proofs.lemmas.Grind.{flat_map-append}
 use Rattle.std.proofs.lemmas.Option.{same_Some}
+use Rattle.bsv_lemmas.proofs.Places.{all_from}
 use Rattle.bsv_prim.specs.declared.part.Part.{Part}
 use Rattle.bsv_design.specs.declared.kind.Kind.{Kind}
 use Rattle.bsv_design.specs.Bodies.{Target}
@@ -17,7 +18,7 @@ use Rattle.bsv_guard.specs.ElementLaws.{ElementLaws, IsUse}
 use Rattle.bsv_guard.proofs.Ranks.{all_by_rank}
 use Rattle.bsv_clock.specs.Looks.{seen_by, look_after, calls_in_turn}
 use Rattle.bsv_clock.specs.Settling.{Doing, DoesWithin, deed, deeds}
-use Rattle.bsv_clock.proofs.CallLists.{all_from, seen_by-append}
+use Rattle.bsv_clock.proofs.CallLists.{seen_by-append}
 
 -- ---- lists of calls
 
@@ -54,7 +55,7 @@ ranked_uses S laws q n a =
     all_by_rank S.kinds (λ c. IsUse S n c.target) (calls S q n a)
     (all_from (λ c. IsUse S n c.target) (calls S q n a) (λ k c e. (laws.within q n a k c e).0))
 
-some_use : (p : Target → Bool) (ts : List Target) (k : ℕ) (t : Target) → slice_get ts k ≡ Some t → p t ≡ true → for_some p ts ≡ true
+pub some_use : (p : Target → Bool) (ts : List Target) (k : ℕ) (t : Target) → slice_get ts k ≡ Some t → p t ≡ true → for_some p ts ≡ true
 some_use p [] k t e h = absurd (let n : ⊥ = cc in n)
 some_use p (u ∷ ts) zero t e h = or_left (p u) (for_some p ts) (ap p (same_Some u t e) ∙ h)
 some_use p (u ∷ ts) (suc k) t e h = or_right (p u) (for_some p ts) (some_use p ts k t e h)

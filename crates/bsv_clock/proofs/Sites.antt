@@ -1,14 +1,13 @@
 -- Where an element looks at parts that give words of their widths wherever they are open, the arguments of all its calls
 -- have their widths, also at those that are closed.
-use Rattle.std.proofs.Common.{◌≡◌, ◌∙◌, ℕ, ◌≤◌, ◌^◌, Bool, true, false, cond, ◌&&◌, List, Option, Some, None, refl, sym, ap, subst, arith, ltb-true}
+use Rattle.std.proofs.Common.{◌≡◌, ◌∙◌, ℕ, ◌^◌, Bool, true, false, cond, ◌&&◌, List, Option, Some, None, refl, sym, ap, subst, arith, ltb-true}
 use Rattle.std.specs.Prelude.{slice_get, nat_le, nat_lt, nat_eq}
 use Rattle.std.proofs.lemmas.Bool.{and_parts, and_from, eq-eqb, le-leb, lt-ltb}
 use Rattle.std.proofs.lemmas.Bool.Decides.{nat_tests}
+use Rattle.bsv_lemmas.proofs.Places.{mapped_at}
 use Rattle.bsv_bits.specs.Words.{Bits, zero_word}
-use Rattle.bsv_bits.proofs.Modulo.{IsWord_zero}
-use Rattle.bsv_prim.specs.Laws.{Laws}
 use Rattle.bsv_prim.specs.declared.part.Part.{Part}
-use Rattle.bsv_prim.specs.Table.{Table, Call, CallFits, IsWordOf}
+use Rattle.bsv_prim.specs.Table.{IsWordOf}
 use Rattle.bsv_design.specs.declared.kind.Kind.{Kind}
 use Rattle.bsv_design.specs.Bodies.{Target, Answers}
 use Rattle.bsv_design.specs.Kinds.{kind_table, kind_laws}
@@ -19,7 +18,7 @@ use Rattle.bsv_guard.specs.Fitting.{IsFitCall, IsFitAnswer, AnswersFit, RequestF
 use Rattle.bsv_guard.specs.Sound.{IsSound}
 use Rattle.bsv_guard.proofs.Extends.{under, is_use, extends_at}
 use Rattle.bsv_guard.proofs.Given.{given_arguments}
-use Rattle.bsv_guard.proofs.Lists.{mapped_at}
+use Rattle.bsv_guard.proofs.Fits.{nothing_fits}
 
 -- ---- words of a width
 
@@ -55,14 +54,6 @@ abbrev fitted : Option Kind → ℕ → Bits → Bits
 fitted None m w = w
 fitted (Some kind) m w = cond (is_word_of ((kind_table kind).result_width m) w) w (zero_word ((kind_table kind).result_width m))
 
-zero_fits : (t : Table) → Laws t → (c : Call) → CallFits t c → t.is_action c.method ≡ false → IsWordOf (t.result_width c.method) (zero_word (t.result_width c.method))
-zero_fits t laws c f read =
-    let some = laws.widths.result t.opening c laws.fit.opening f read in
-    record {
-      word = IsWord_zero (t.result_width c.method) (subst (λ (n : ℕ). 1 ≤ n) some.same_width some.word.some) (subst (λ (n : ℕ). n ≤ 128) some.same_width some.word.most);
-      same_width = refl;
-    }
-
 fitted_fits : (o : Option Kind) (m : ℕ) (args : List Bits) (w : Bits) → IsFitCall o m args → IsFitAnswer o m (fitted o m w)
 fitted_fits None m args w f = absurd f
 fitted_fits (Some kind) m args w f = λ read. cases read (is_word_of ((kind_table kind).result_width m) w) refl
@@ -70,7 +61,7 @@ fitted_fits (Some kind) m args w f = λ read. cases read (is_word_of ((kind_tabl
     cases : (kind_table kind).is_action m ≡ false → (b : Bool) → is_word_of ((kind_table kind).result_width m) w ≡ b
         → IsWordOf ((kind_table kind).result_width m) (cond b w (zero_word ((kind_table kind).result_width m)))
     cases read true e = of_test ((kind_table kind).result_width m) w e
-    cases read false e = zero_fits (kind_table kind) (kind_laws kind) (record { method = m; args = args }) f read
+    cases read false e = nothing_fits (kind_table kind) (kind_laws kind) (record { method = m; args = args }) f read
 
 fitted_is : (o : Option Kind) (m : ℕ) (w : Bits) → ((kind : Kind) → o ≡ Some kind → IsWordOf ((kind_table kind).result_width m) w) → fitted o m w ≡ w
 fitted_is None m w h = refl
@@ -122,7 +113,7 @@ module _ (S : Scheme) (ok : IsSound S) (fits : IsFitting S) (q : Asking) (n : �
 
       cases : (b : Bool) → (kind_table own).guard m p ≡ b → IsWordOf ((kind_table own).result_width m) (cond b ((kind_table own).result m p args) (zero_word ((kind_table own).result_width m)))
       cases true g = h g read
-      cases false g = zero_fits (kind_table own) (kind_laws own) (record { method = m; args = args }) f read
+      cases false g = nothing_fits (kind_table own) (kind_laws own) (record { method = m; args = args }) f read
 
   same_run : fit_run ≡ under S ok q n a
   unfolding fit_answers answers

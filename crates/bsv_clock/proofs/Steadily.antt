@@ -1,6 +1,5 @@
 -- The law of steadiness.
-use Rattle.std.proofs.Common.{◌≡◌, ◌∙◌, ℕ, zero, suc, Bool, true, false, List, [], ◌∷◌, Option, Some, None, refl, sym, ap, subst}
-use Rattle.std.specs.Prelude.{slice_get}
+use Rattle.std.proofs.Common.{◌≡◌, ◌∙◌, ℕ, Bool, true, false, List, [], ◌∷◌, Option, Some, None, refl, sym, ap, subst}
 use Rattle.bsv_bits.specs.Words.{Bits}
 use Rattle.bsv_prim.specs.Calls as prim
 use Rattle.bsv_prim.specs.Calls.{IsReady}
@@ -24,6 +23,7 @@ use Rattle.bsv_clock.specs.Steadiness.{AllGo, GoInOrder, IsSteady, LooksDecide}
 use Rattle.bsv_clock.proofs.CallLists.{seen_on}
 use Rattle.bsv_clock.proofs.InTurn.{turns, run_fits, run_part, run_orderly, run_before}
 use Rattle.bsv_clock.proofs.Sites.{GivesWords, extends_here}
+use Rattle.bsv_guard.proofs.Turns.{fits_at}
 
 -- ---- parts
 
@@ -32,12 +32,6 @@ emptied_fits [] [] h = tt
 emptied_fits [] (p ∷ ps) h = absurd h
 emptied_fits (k ∷ ks) [] h = absurd h
 emptied_fits (k ∷ ks) (p ∷ ps) h = ((kind_laws k).fit.emptied p h.0, emptied_fits ks ps h.1)
-
-pub part_fits : (ks : List Kind) (ps : List Part) → FitsKinds ks ps → (i : ℕ) (kind : Kind) → slice_get ks i ≡ Some kind → (kind_table kind).Fits (part_at ps i)
-part_fits [] ps h i kind e = absurd (let n : ⊥ = cc in n)
-part_fits (k ∷ ks) [] h i kind e = absurd h
-part_fits (k ∷ ks) (p ∷ ps) h zero kind e = let same : k ≡ kind = cc in subst (λ (x : Kind). (kind_table x).Fits p) same h.0
-part_fits (k ∷ ks) (p ∷ ps) h (suc i) kind e = part_fits ks ps h.1 i kind e
 
 module _ (S : Scheme) (ok : IsLawful S) (g : Bool) (q : Asking) (requests : (n : ℕ) → RequestFits S q n) where
   abbrev pub fits : FittingLaws S
@@ -85,7 +79,7 @@ module _ (S : Scheme) (ok : IsLawful S) (g : Bool) (q : Asking) (requests : (n :
       guard_stays args f o =
           ap (λ (k : Option Kind). guard_of k t.method (plain end t)) is
           ∙ ap ((kind_table kind).guard t.method) stands
-          ∙ (kind_laws kind).look.ready before done (call_with args) (part_fits S.kinds ps parts t.part kind is)
+          ∙ (kind_laws kind).look.ready before done (call_with args) (fits_at S.kinds ps parts t.part kind is)
           (run_orderly S ok g q requests t.part kind is parts serial go) (fits_call args f)
           (run_before S ok g q requests t.part kind is ns n all ps t u refl (call_with args) refl) (open_there o)
 
@@ -94,7 +88,7 @@ module _ (S : Scheme) (ok : IsLawful S) (g : Bool) (q : Asking) (requests : (n :
       result_stays args f read o =
           ap (λ (k : Option Kind). result_of k t.method (here t) args) is
           ∙ ap (λ (p : Part). (kind_table kind).result t.method p args) looks
-          ∙ sym ((kind_laws kind).look.result before done (call_with args) (part_fits S.kinds ps parts t.part kind is)
+          ∙ sym ((kind_laws kind).look.result before done (call_with args) (fits_at S.kinds ps parts t.part kind is)
           (run_orderly S ok g q requests t.part kind is parts serial go) (fits_call args f)
           (run_before S ok g q requests t.part kind is ns n all ps t u refl (call_with args) refl) (sym (ap (λ (k : Option Kind). acts k t.method) is) ∙ read) (open_there o))
           ∙ ap (λ (p : Part). (kind_table kind).result t.method p args) (sym stands)
@@ -105,7 +99,7 @@ module _ (S : Scheme) (ok : IsLawful S) (g : Bool) (q : Asking) (requests : (n :
       gives_word args f read o =
           subst (IsFitAnswer (kind_at S.kinds t) t.method) (sym (result_stays args f read o))
           (subst (λ (k : Option Kind). IsFitAnswer k t.method (result_of k t.method (plain end t) args)) (sym is)
-          (λ r. (kind_laws kind).widths.result (plain end t) (call_with args) (part_fits S.kinds end end_fits t.part kind is) (fits_call args f) r))
+          (λ r. (kind_laws kind).widths.result (plain end t) (call_with args) (fits_at S.kinds end end_fits t.part kind is) (fits_call args f) r))
 
     kind_of : (t : Target) → IsUse S n t → (kind : Kind) × (kind_at S.kinds t ≡ Some kind)
     kind_of t u = cases (kind_at S.kinds t) refl (ok.fitting.methods n t u)

@@ -29,7 +29,7 @@ picked P (u ∷ us) xs n (inl h) i = of (subst (λ (ys : List ℕ). In ys n) h.1
     of (inr k) rest = rest k
 picked P (u ∷ us) xs n (inr h) i = picked P us xs n h.1 i
 
-picks : (P : ℕ → Type 0) (us xs : List ℕ) (n : ℕ) → Picks P us xs → In us n → P n → In xs n
+pub picks : (P : ℕ → Type 0) (us xs : List ℕ) (n : ℕ) → Picks P us xs → In us n → P n → In xs n
 picks P [] xs n h i p = absurd i
 picks P (u ∷ us) xs n (inl h) (inl e) p = subst (λ (ys : List ℕ). In ys n) (sym h.1.1) (inl e)
 picks P (u ∷ us) xs n (inl h) (inr i) p = subst (λ (ys : List ℕ). In ys n) (sym h.1.1) (inr (picks P us h.1.0 n h.1.2 i p))

@@ -5,6 +5,7 @@ use Rattle.std.specs.List.{list_all}
 use Rattle.std.proofs.Math.Logic.{∥∥₁_elim}
 use Rattle.std.proofs.Math.Bool.{Bool-set}
 use Rattle.std.proofs.lemmas.Bool.{leb-true}
+use Rattle.bsv_lemmas.proofs.Truths.{both_right, both_left}
 use Rattle.bsv_bits.proofs.Modulo.{IsWord_zero}
 use Rattle.bsv_design.specs.declared.design.Design.{Design}
 use Rattle.bsv_design.specs.declared.element.Element.{Element}
@@ -15,14 +16,6 @@ use Rattle.bsv_design.specs.Seen.{blueprint}
 use Rattle.bsv_design.specs.Schemes.{Asking}
 use Rattle.bsv_design.specs.States.{methods_in, AskingFits, nothing_asked, AreWordsOf, FitMethods, zeros}
 use Rattle.bsv_design.specs.Widths.{port_fits}
-
-both_left : (a b : Bool) → (a && b) ≡ true → a ≡ true
-both_left true b h = refl
-both_left false b h = h
-
-both_right : (a b : Bool) → (a && b) ≡ true → b ≡ true
-both_right true b h = h
-both_right false b h = absurd cc
 
 abbrev pub fit_ports : Element → Bool
 fit_ports e = list_all port_fits e.arguments

@@ -2,14 +2,13 @@
 use Rattle.std.proofs.Common.{◌≡◌, ◌∙◌, ℕ, zero, suc, ◌+◌, ◌≤◌, ◌<◌, Bool, true, false, not, ◌&&◌, List, [], ◌∷◌, ◌++◌, length, refl, sym, ap, subst, arith, inl, inr, if◌then◌else◌}
 use Rattle.std.specs.Prelude.{nat_lt, ◌==◌}
 use Rattle.std.specs.List.{list_any}
-use Rattle.std.proofs.lemmas.Bool.{eqb-true, eqb-false, ltb-true, lt-ltb, or_cases, or_parts, or_from, cases_lt, not-true, not_from_false, and_from}
-use Rattle.std.proofs.lemmas.List.{length-append}
+use Rattle.std.proofs.lemmas.Bool.{eqb-true, eqb-false, ltb-true, lt-ltb, or_cases, or_parts, or_from, cases_lt, not-true, not_from_false, and_from, and_parts}
+use Rattle.std.proofs.lemmas.List.{length-append, nil_from_length}
 use Rattle.bsv_types.specs.declared.modules.Module.{Module}
 use Rattle.bsv_types.specs.declared.modules.ModuleStmt.{ModuleStmt, out-ModuleStmt, fold-ModuleStmt, fold_out-ModuleStmt, map-ModuleStmt}
 use Rattle.bsv_types.specs.declared.modules.ModuleStmt.TheOpen.{ModuleStmt-F}
 use Rattle.bsv_types.specs.declared.modules.ModuleBranch.{ModuleBranch, fold-ModuleBranch}
 use Rattle.bsv_types.specs.Modules.{numbers_step, own_method, methods_in, rules_of, direct, counts_up, each_once, numbers_right}
-use Rattle.bsv_types.proofs.Same.{both}
 
 -- ---- so many different numbers below a limit
 
@@ -41,8 +40,8 @@ record Once (limit x : ℕ) (xs : List ℕ) : Type 0 where
 
 once_of : (limit x : ℕ) (xs : List ℕ) → each_once limit (x ∷ xs) ≡ true → Once limit x xs
 once_of limit x xs e =
-    let a = both (nat_lt x limit && not (list_any (λ y. x == y) xs)) (each_once limit xs) e in
-    let b = both (nat_lt x limit) (not (list_any (λ y. x == y) xs)) a.0 in
+    let a = and_parts (nat_lt x limit && not (list_any (λ y. x == y) xs)) (each_once limit xs) e in
+    let b = and_parts (nat_lt x limit) (not (list_any (λ y. x == y) xs)) a.0 in
     record { below = ltb-true x limit b.0; new = not-true (list_any (λ y. x == y) xs) b.1; rest = a.1 }
 
 once_from : (limit x : ℕ) (xs : List ℕ) → Once limit x xs → each_once limit (x ∷ xs) ≡ true
@@ -92,7 +91,7 @@ own_number _ = []
 abbrev pub method_numbers : ModuleStmt → List ℕ
 method_numbers = fold-ModuleStmt (List ℕ) (List ℕ) (numbers_step own_method) (λ b. b.arm)
 
-abbrev branch_numbers : ModuleBranch → List ℕ
+abbrev pub branch_numbers : ModuleBranch → List ℕ
 branch_numbers = fold-ModuleBranch (List ℕ) (List ℕ) (numbers_step own_method) (λ b. b.arm)
 
 direct_is : (x : ModuleStmt) (xs : List ModuleStmt) → direct (x ∷ xs) ≡ own_number (out-ModuleStmt x) ++ direct xs
@@ -153,10 +152,10 @@ same_methods m = length (methods_in m.body) == length m.methods
 
 pub numbers_of : (m : Module) → numbers_right m ≡ true → Numbered m
 numbers_of m e =
-    let a = both (counts_up 0 (rules_of m.body) && same_rules m && each_once (length m.methods) (direct m.body) && same_direct m) (same_methods m) e in
-    let b = both (counts_up 0 (rules_of m.body) && same_rules m && each_once (length m.methods) (direct m.body)) (same_direct m) a.0 in
-    let c = both (counts_up 0 (rules_of m.body) && same_rules m) (each_once (length m.methods) (direct m.body)) b.0 in
-    let d = both (counts_up 0 (rules_of m.body)) (same_rules m) c.0 in
+    let a = and_parts (counts_up 0 (rules_of m.body) && same_rules m && each_once (length m.methods) (direct m.body) && same_direct m) (same_methods m) e in
+    let b = and_parts (counts_up 0 (rules_of m.body) && same_rules m && each_once (length m.methods) (direct m.body)) (same_direct m) a.0 in
+    let c = and_parts (counts_up 0 (rules_of m.body) && same_rules m) (each_once (length m.methods) (direct m.body)) b.0 in
+    let d = and_parts (counts_up 0 (rules_of m.body)) (same_rules m) c.0 in
     record {
       up = d.0;
       rule_count = eqb-true (length (rules_of m.body)) (length m.rules) d.1;
@@ -182,15 +181,11 @@ no_fewer x = by (out-ModuleStmt x) refl where
   by (ModuleStmt-F.Method n) is = let e : length (method_numbers x) ≡ 1 = ap length (own_front x (ModuleStmt-F.Method n) is) in omega arith
   by _ is = omega arith
 
-none_there : (ns : List ℕ) → length ns ≡ 0 → ns ≡ []
-none_there [] e = refl
-none_there (n ∷ ns) e = absurd (omega arith)
-
 own_only : (x : ModuleStmt) → length (method_numbers x) ≡ length (own_number (out-ModuleStmt x)) → method_numbers x ≡ own_number (out-ModuleStmt x)
 own_only x e = by (out-ModuleStmt x) refl e where
   by : (y : ModuleStmt-F ModuleStmt ModuleBranch) → out-ModuleStmt x ≡ y → length (method_numbers x) ≡ length (own_number y) → method_numbers x ≡ own_number y
   by (ModuleStmt-F.Method n) is many = own_front x (ModuleStmt-F.Method n) is
-  by _ is many = none_there (method_numbers x) many
+  by _ is many = nil_from_length (method_numbers x) many
 
 -- each statement holds no method but itself
 abbrev pub OwnOnly : List ModuleStmt → Type 0

@@ -1,5 +1,7 @@
 -- What is handed to a maker fits the types of what the maker takes.
-use Rattle.std.proofs.Common.{◌≡◌, ℕ, true, false, List, [], ◌∷◌, ◌++◌, Option, Some, None, Ok, refl, sym, ap, subst, append-nil, append_assoc}
+use Rattle.std.proofs.Common.{◌≡◌, ℕ, true, false, List, [], ◌∷◌, ◌++◌, Ok, refl, sym, subst, append-nil, append_assoc}
+use Rattle.std.proofs.lemmas.Bool.{and_parts}
+use Rattle.bsv_lemmas.proofs.Choices.{same_ok}
 use Rattle.bsv_types.specs.declared.definitions.Param.{Param}
 use Rattle.bsv_types.specs.declared.makers.Argument.{Argument}
 use Rattle.bsv_types.specs.declared.makers.Argument.TheVariants as argument
@@ -10,7 +12,6 @@ use Rattle.bsv_types.specs.Methods.{param_kinds}
 use Rattle.bsv_types.specs.Modules.{argument_right, arguments_right, param_slots}
 use Rattle.bsv_types.specs.Operators.{is_kind}
 use Rattle.bsv_types.specs.Shapes.{is_value, is_instance}
-use Rattle.bsv_types.proofs.Same.{both, same_is}
 use Rattle.bsv_design.specs.declared.statics.Static.{Static}
 use Rattle.bsv_design.specs.declared.statics.Static.TheVariants as static
 use Rattle.bsv_design.specs.declared.tree.Instance.{Instance}
@@ -21,12 +22,9 @@ use Rattle.bsv_elab.specs.declared.state.State.{State}
 use Rattle.bsv_elab.specs.Statics.{Here, site, count, at_weight, constant_in, held_as}
 use Rattle.bsv_elab.specs.Making.{placed_in, argument_in, arguments_from, arguments, parameters}
 use Rattle.bsv_elab.proofs.FittingScopes.{plain_fits, held_as_plain}
-use Rattle.bsv_elab.proofs.FittingSteps.{went, ok_is, carried_is, Same, constant_same}
+use Rattle.bsv_elab.proofs.FittingSteps.{went, carried_is, Same, constant_same}
 use Rattle.bsv_elab.proofs.FittingPlaces.{place_stands}
-
-kind_some : (o : Option Sort) (k : Sort) → is_kind o k ≡ true → o ≡ Some k
-kind_some None k e = absurd cc
-kind_some (Some j) k e = ap Some (same_is j k e)
+use Rattle.bsv_types.proofs.GivenKinds.{kind_given}
 
 -- each is what its type says
 abbrev pub AllHold : Typed → List Instance → List Sort → List Static → Type 0
@@ -52,26 +50,26 @@ module _ (t : Typed) (here : Here) (f : Frame) (s : State) (fits : AllFit t s.gr
   argument_fits w (argument.Value e) k r typed is =
       let c = went (constant_in here e (at_weight w s)) _ r is in
       let same = constant_same here (at_weight w s) e c.0 c.1 in
-      let value = (both (is_value (shapes t) k) (has_type (world t) f e k) typed).0 in
-      subst (λ (q : Static × State). Fits t s.grown.instances (one k) q.0 × Same s q.1) (ok_is (held_as (kind (expr_type e)) c.0.0, c.0.1) r c.2)
+      let value = (and_parts (is_value (shapes t) k) (has_type (world t) f e k) typed).0 in
+      subst (λ (q : Static × State). Fits t s.grown.instances (one k) q.0 × Same s q.1) (same_ok (held_as (kind (expr_type e)) c.0.0, c.0.1) r c.2)
       (plain_fits t s.grown.instances k (held_as (kind (expr_type e)) c.0.0) (held_as_plain (kind (expr_type e)) c.0.0) value, (same.0, same.1))
   argument_fits w (argument.Instance p) k r typed is =
       let c = went (placed_in here p (at_weight w s)) _ r is in
       let n = carried_is (module_place (site here (at_weight w s)) p (no_variables false) (count (at_weight w s))) c.0 c.1 in
-      let known = kind_some (place_typing (world t) p f) k (both (is_instance (shapes t) k) (is_kind (place_typing (world t) p f) k) typed).1 in
-      subst (λ (q : Static × State). Fits t s.grown.instances (one k) q.0 × Same s q.1) (ok_is (static.Place c.0.0, at_weight c.0.1.weight (at_weight w s)) r c.2)
+      let known = kind_given (place_typing (world t) p f) k (and_parts (is_instance (shapes t) k) (is_kind (place_typing (world t) p f) k) typed).1 in
+      subst (λ (q : Static × State). Fits t s.grown.instances (one k) q.0 × Same s q.1) (same_ok (static.Place c.0.0, at_weight c.0.1.weight (at_weight w s)) r c.2)
       (place_stands t (call_at most_calls) (site here (at_weight w s)) f fits p (no_variables false) (count (at_weight w s)) k c.0 known n, (c.0.1.weight, refl))
 
   from_fits : (w : ℕ) (js : List Sort) (ys : List Static) (xs : List Argument) (ks : List Sort) (r : List Static × State) → AllHold t s.grown.instances js ys → arguments_right (world t) f xs ks ≡ true
       → arguments_from here ys xs (at_weight w s) ≡ Ok r → AllHold t s.grown.instances (js ++ ks) r.0 × Same s r.1
   unfolding arguments_from
   from_fits w js ys [] [] r h typed is =
-      subst (λ (q : List Static × State). AllHold t s.grown.instances (js ++ []) q.0 × Same s q.1) (ok_is (ys, at_weight w s) r is)
+      subst (λ (q : List Static × State). AllHold t s.grown.instances (js ++ []) q.0 × Same s q.1) (same_ok (ys, at_weight w s) r is)
       (subst (λ ls. AllHold t s.grown.instances ls ys) (sym (append-nil js)) h, (w, refl))
   from_fits w js ys [] (k ∷ ks) r h typed is = absurd cc
   from_fits w js ys (x ∷ xs) [] r h typed is = absurd cc
   from_fits w js ys (x ∷ xs) (k ∷ ks) r h typed is =
-      let rights = both (argument_right (world t) f x k) (arguments_right (world t) f xs ks) typed in
+      let rights = and_parts (argument_right (world t) f x k) (arguments_right (world t) f xs ks) typed in
       let a = went (argument_in here x (at_weight w s)) _ r is in
       let first = argument_fits w x k a.0 rights.0 a.1 in
       let rest = subst (λ z. arguments_from here (ys ++ a.0.0 ∷ []) xs z ≡ Ok r) first.1.1 a.2 in

@@ -1,9 +1,12 @@
 -- What carrying out the body of a module gives agrees with the module, however deep modules are in modules.
-use Rattle.std.proofs.Common.{◌≡◌, ◌∙◌, ℕ, zero, suc, ◌<◌, true, ◌&&◌, List, [], ◌∷◌, map, length, take, replicate, Option, Some, Result, Ok, Err, refl, sym, subst, inr}
+use Rattle.std.proofs.Common.{◌≡◌, ◌∙◌, ℕ, zero, suc, ◌<◌, true, ◌&&◌, List, [], ◌∷◌, map, length, take, replicate, Option, Some, Ok, refl, sym, subst, inr}
 use Rattle.std.specs.Prelude.{◌==◌, slice_get}
 use Rattle.std.specs.List.{list_all}
 use Rattle.std.proofs.lemmas.List.{length-replicate}
-use Rattle.std.proofs.lemmas.Option.{slice_get_within}
+use Rattle.std.proofs.lemmas.Option.{slice_get_within, same_Some}
+use Rattle.std.proofs.lemmas.Bool.{and_parts}
+use Rattle.bsv_lemmas.proofs.Choices.{same_ok, err_never_ok}
+use Rattle.bsv_lemmas.proofs.Places.{passes_at}
 use Rattle.bsv_ast.specs.Names.{is_lower}
 use Rattle.bsv_types.specs.declared.definitions.Param.{Param}
 use Rattle.bsv_types.specs.declared.modules.Module.{Module}
@@ -17,7 +20,6 @@ use Rattle.bsv_types.specs.Names.{lower_names, countable, of_module}
 use Rattle.bsv_types.specs.Shapes.{is_instance}
 use Rattle.bsv_types.specs.Statements as typing
 use Rattle.bsv_types.specs.Statements.{inner}
-use Rattle.bsv_types.proofs.Same.{both}
 use Rattle.bsv_design.specs.declared.statics.Binding.{Binding}
 use Rattle.bsv_design.specs.declared.tree.BuiltRule.{BuiltRule}
 use Rattle.bsv_design.specs.declared.tree.Instance.{Instance}
@@ -34,9 +36,9 @@ use Rattle.bsv_elab.specs.Building.{opening, done, body_of, body_at}
 use Rattle.bsv_elab.proofs.Directly.{method_stands, own_methods_only}
 use Rattle.bsv_elab.proofs.FittingTrees.{RulesAgree}
 use Rattle.bsv_elab.proofs.FittingScopes.{fit_length, fit_levels, AllWide}
-use Rattle.bsv_elab.proofs.FittingSteps.{went, ok_is, some_is, inner_is}
+use Rattle.bsv_elab.proofs.FittingSteps.{went, inner_is}
 use Rattle.bsv_elab.proofs.FittingStates.{Fit}
-use Rattle.bsv_elab.proofs.FittingKinds.{all_there, modules_are_right}
+use Rattle.bsv_elab.proofs.FittingKinds.{modules_are_right}
 use Rattle.bsv_elab.proofs.FittingMade.{home, BodyMade, BodiesRight}
 use Rattle.bsv_elab.proofs.FittingLevels.{Direct, direct_right}
 
@@ -47,13 +49,13 @@ record BodyRight (t : Typed) (m : Module) : Type 0 where
 
 body_right : (t : Typed) (number : ℕ) (m : Module) → slice_get t.modules number ≡ Some m → BodyRight t m
 body_right t number m there =
-    let e = all_there (module_right (world t) (map header t.modules)) t.modules number m (modules_are_right t) there in
+    let e = passes_at (module_right (world t) (map header t.modules)) t.modules number m (modules_are_right t) there in
     let runs = inner (typing.run (map (module_stmt_run (rules.site_of (world t) (map header t.modules) m)) m.body)) (param_slots m.params) in
     let front =
     is_lower m.name && list_all of_module m.attributes && lower_names (param_names m.params) && list_all (param_right (world t)) m.params &&
     is_instance (shapes t) (kind m.interface) && length m.methods == length (methods (shapes t) (kind m.interface)) && countable m.rules && countable m.methods in
-    let a = both (front && numbers_right m) runs e in
-    record { numbers = (both front (numbers_right m) a.0).1; runs = a.1 }
+    let a = and_parts (front && numbers_right m) runs e in
+    record { numbers = (and_parts front (numbers_right m) a.0).1; runs = a.1 }
 
 -- parameters are no arrays
 params_wide : (t : Typed) (ps : List Param) → AllWide t (param_slots ps) (replicate (length (param_slots ps)) 0)
@@ -64,11 +66,8 @@ rules_at : (t : Typed) (is : List Instance) (m : Module) (rs : List BuiltRule) (
 rules_at t is m [] place r h e = absurd (none_there place r e) where
   none_there : (n : ℕ) (q : BuiltRule) → slice_get [] n ≡ Some q → ⊥
   none_there n q e = absurd cc
-rules_at t is m (q ∷ rs) zero r h e = subst (RuleAgrees t is m) (some_is q r e) h.0
+rules_at t is m (q ∷ rs) zero r h e = subst (RuleAgrees t is m) (same_Some q r e) h.0
 rules_at t is m (q ∷ rs) (suc place) r h e = rules_at t is m rs place r h.1 e
-
-refused_never : {A E : Type 0} (z : E) (y : A) → ◌≡◌ {A = Result A E} (Err z) (Ok y) → ⊥
-refused_never z y e = absurd cc
 
 module _ (t : Typed) where
   opening_fits : (m : Module) (bs : List Binding) (g : Grown) → AllFit t g.instances (param_slots m.params) bs → Fit t m (param_slots m.params) (opening m bs g)
@@ -109,12 +108,12 @@ module _ (t : Typed) where
         let marks = went (marks_of m s.0.scope.rules) _ d s.2 in
         let f = inner_is (typing.run (map (module_stmt_run (rules.site_of (world t) (map header t.modules) m)) m.body)) (param_slots m.params) typed.runs in
         let h = direct_right t m number path around first bodies right of m.body (own_methods_only m typed.numbers) (opening m bs g) s.0 (param_slots m.params) f.0 (opening_fits m bs g fits) f.1 s.1 in
-        subst (BodyMade t number g) (ok_is (done number s.0 marks.0) d marks.2) (ended bs g s.0 marks.0 f.0 h)
+        subst (BodyMade t number g) (same_ok (done number s.0 marks.0) d marks.2) (ended bs g s.0 marks.0 f.0 h)
 
   -- modules in modules
   pub bodies_right : (depth first : ℕ) → BodiesRight t first (body_at depth)
   unfolding body_at
-  bodies_right zero first number path around source bs g d there fits e = absurd (refused_never _ d e)
+  bodies_right zero first number path around source bs g d there fits e = absurd (err_never_ok _ d e)
   bodies_right (suc depth) first number path around source bs g d there fits e =
       body_made number path around first (body_at depth) (bodies_right depth first) source there bs g d fits
       (subst (λ (o : Option Module). body_of (body_at depth) (home t number path around first) o bs g ≡ Ok d) there e)

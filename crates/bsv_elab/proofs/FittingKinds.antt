@@ -2,8 +2,10 @@
 use Rattle.std.proofs.Common.{◌≡◌, ◌∙◌, ℕ, zero, suc, ◌+◌, ◌-◌, ◌^◌, ◌≤◌, ◌<◌, min, Bool, true, false, ◌&&◌, List, [], ◌∷◌, length, map, Option, Some, None, option_map, refl, sym, ap, subst, arith}
 use Rattle.std.specs.Prelude.{nat_le, nat_lt, slice_get}
 use Rattle.std.specs.List.{list_all}
-use Rattle.std.proofs.lemmas.Bool.{ltb-true, leb-true, leb-false, le-leb}
+use Rattle.std.proofs.lemmas.Bool.{ltb-true, leb-true, leb-false, le-leb, and_parts}
 use Rattle.std.proofs.Math.Pow.{pow_mono}
+use Rattle.std.proofs.lemmas.Option.{same_Some}
+use Rattle.bsv_lemmas.proofs.Places.{item_there, passes_at}
 use Rattle.bsv_bits.specs.Words.{Bits}
 use Rattle.bsv_types.specs.declared.definitions.Enum.{Enum}
 use Rattle.bsv_types.specs.declared.definitions.Struct.{Struct}
@@ -22,7 +24,7 @@ use Rattle.bsv_types.specs.Names.{lower_names, countable}
 use Rattle.bsv_types.specs.Programs.{each_at, enum_right, struct_right, interface_right, begins_empty, function_right, names_right, shapes_right, all_countable}
 use Rattle.bsv_types.specs.Shapes.{counted, plus, width_by, widths_by, is_width, in_range, has_range, is_enum_width, is_bits, has_bits, is_instance}
 use Rattle.bsv_types.specs.Widths.{field_kinds}
-use Rattle.bsv_types.proofs.Same.{both, same_is}
+use Rattle.bsv_types.proofs.Same.{same_part_is}
 use Rattle.bsv_design.specs.declared.kind.Kind.{Kind}
 use Rattle.bsv_design.specs.declared.kind.Kind.TheVariants as kinds
 use Rattle.bsv_design.specs.declared.tree.Made.TheVariants as made
@@ -32,25 +34,12 @@ use Rattle.bsv_design.specs.Trees.{shapes, world, held_width, Provides}
 use Rattle.bsv_elab.specs.MadeKinds.{passed, from_range, or_zero, or_zero_fits, reg, regu, wire, dwire, rwire, plain, pipeline, bypass, kind_of}
 use Rattle.bsv_elab.proofs.FittingScopes.{wide}
 
-one_is : {A : Type 0} (x y : A) → Some x ≡ Some y → x ≡ y
-one_is x y e = cc
-
 -- ---- what the typing rules say of widths
 
 each_there : {A : Type 0} (p : ℕ → A → Bool) (first : ℕ) (xs : List A) (k : ℕ) (x : A) → each_at p first xs ≡ true → slice_get xs k ≡ Some x → (n : ℕ) × (p n x ≡ true)
 each_there p first [] k x e is = absurd cc
-each_there p first (y ∷ xs) zero x e is = (first, subst (λ z. p first z ≡ true) (one_is y x is) (both (p first y) (each_at p (first + 1) xs) e).0)
-each_there p first (y ∷ xs) (suc k) x e is = each_there p (first + 1) xs k x (both (p first y) (each_at p (first + 1) xs) e).1 is
-
-pub all_there : {A : Type 0} (p : A → Bool) (xs : List A) (k : ℕ) (x : A) → list_all p xs ≡ true → slice_get xs k ≡ Some x → p x ≡ true
-all_there p [] k x e is = absurd cc
-all_there p (y ∷ xs) zero x e is = subst (λ z. p z ≡ true) (one_is y x is) (both (p y) (list_all p xs) e).0
-all_there p (y ∷ xs) (suc k) x e is = all_there p xs k x (both (p y) (list_all p xs) e).1 is
-
-there : {A : Type 0} (xs : List A) (k : ℕ) → k < length xs → (x : A) × (slice_get xs k ≡ Some x)
-there [] k lt = absurd (omega arith)
-there (x ∷ xs) zero lt = (x, refl)
-there (x ∷ xs) (suc k) lt = there xs k (omega arith)
+each_there p first (y ∷ xs) zero x e is = (first, subst (λ z. p first z ≡ true) (same_Some y x is) (and_parts (p first y) (each_at p (first + 1) xs) e).0)
+each_there p first (y ∷ xs) (suc k) x e is = each_there p (first + 1) xs k x (and_parts (p first y) (each_at p (first + 1) xs) e).1 is
 
 -- between 1 and 128
 pub record Range (n : ℕ) : Type 0 where
@@ -58,7 +47,7 @@ pub record Range (n : ℕ) : Type 0 where
   pub most : n ≤ 128
 
 range_of : (n : ℕ) → in_range n ≡ true → Range n
-range_of n e = let h = both (nat_le 1 n) (nat_le n 128) e in record { some = leb-true 1 n h.0; most = leb-true n 128 h.1 }
+range_of n e = let h = and_parts (nat_le 1 n) (nat_le n 128) e in record { some = leb-true 1 n h.0; most = leb-true n 128 h.1 }
 
 small_min : (a b : ℕ) → min a b ≤ 128 → 128 < b → a ≤ 128
 small_min a b h lt = omega arith
@@ -77,11 +66,11 @@ begins_below n w before few = by (nat_le w 128) refl where
 
 enum_range : (w labels : ℕ) → nat_lt labels (2 ^ 32) ≡ true → is_enum_width w labels ≡ true → Range w
 enum_range w labels few e =
-    let a = both (nat_le 2 labels && nat_le 1 w && nat_lt (labels - 1) (2 ^ w)) (nat_le (2 ^ (w - 1)) (labels - 1)) e in
-    let b = both (nat_le 2 labels && nat_le 1 w) (nat_lt (labels - 1) (2 ^ w)) a.0 in
+    let a = and_parts (nat_le 2 labels && nat_le 1 w && nat_lt (labels - 1) (2 ^ w)) (nat_le (2 ^ (w - 1)) (labels - 1)) e in
+    let b = and_parts (nat_le 2 labels && nat_le 1 w) (nat_lt (labels - 1) (2 ^ w)) a.0 in
     let below : labels - 1 < 2 ^ 32 = omega (arith, ltb-true labels (2 ^ 32) few) in
     record {
-      some = leb-true 1 w (both (nat_le 2 labels) (nat_le 1 w) b.0).1;
+      some = leb-true 1 w (and_parts (nat_le 2 labels) (nat_le 1 w) b.0).1;
       most = begins_below (labels - 1) w (leb-true (2 ^ (w - 1)) (labels - 1) a.1) below;
     }
 
@@ -96,13 +85,13 @@ module _ (t : Typed) where
   modules_right = list_all (module_right (world t) (map header t.modules)) t.modules
 
   pub modules_are_right : modules_right ≡ true
-  modules_are_right = (both (front && shapes_right (shapes t) && functions_right) modules_right t.right).1
+  modules_are_right = (and_parts (front && shapes_right (shapes t) && functions_right) modules_right t.right).1
 
   shapes_are_right : shapes_right (shapes t) ≡ true
   shapes_are_right =
-      let a = both (front && shapes_right (shapes t) && functions_right) modules_right t.right in
-      let b = both (front && shapes_right (shapes t)) functions_right a.0 in
-      (both front (shapes_right (shapes t)) b.0).1
+      let a = and_parts (front && shapes_right (shapes t) && functions_right) modules_right t.right in
+      let b = and_parts (front && shapes_right (shapes t)) functions_right a.0 in
+      (and_parts front (shapes_right (shapes t)) b.0).1
 
   abbrev enums_right : Bool
   enums_right = list_all enum_right t.enums
@@ -115,22 +104,22 @@ module _ (t : Typed) where
 
   shape_parts : (enums_right ≡ true) × (structs_right ≡ true)
   shape_parts =
-      let a = both (enums_right && structs_right && interfaces_right) (begins_empty t.interfaces) shapes_are_right in
-      let b = both (enums_right && structs_right) interfaces_right a.0 in
-      both enums_right structs_right b.0
+      let a = and_parts (enums_right && structs_right && interfaces_right) (begins_empty t.interfaces) shapes_are_right in
+      let b = and_parts (enums_right && structs_right) interfaces_right a.0 in
+      and_parts enums_right structs_right b.0
 
   struct_range : (k : ℕ) (s : Struct) → slice_get t.structs k ≡ Some s → Range s.width
   struct_range k s is =
       let h = each_there (struct_right (shapes t)) 0 t.structs k s shape_parts.1 is in
-      let a = both (is_upper s.name && lower_names (map (λ f. f.name) s.fields) && countable s.fields && list_all (is_bits (shapes t) h.0) (field_kinds s.fields) && in_range s.width)
+      let a = and_parts (is_upper s.name && lower_names (map (λ f. f.name) s.fields) && countable s.fields && list_all (is_bits (shapes t) h.0) (field_kinds s.fields) && in_range s.width)
       (is_width (widths_by t.enums t.structs (field_kinds s.fields)) s.width) h.1 in
-      range_of s.width (both (is_upper s.name && lower_names (map (λ f. f.name) s.fields) && countable s.fields && list_all (is_bits (shapes t) h.0) (field_kinds s.fields)) (in_range s.width) a.0).1
+      range_of s.width (and_parts (is_upper s.name && lower_names (map (λ f. f.name) s.fields) && countable s.fields && list_all (is_bits (shapes t) h.0) (field_kinds s.fields)) (in_range s.width) a.0).1
 
   enum_in_range : (k : ℕ) (e : Enum) → slice_get t.enums k ≡ Some e → Range e.width
   enum_in_range k e is =
-      let h = all_there enum_right t.enums k e shape_parts.0 is in
-      let a = both (is_upper e.name && list_all is_upper e.labels && countable e.labels) (is_enum_width e.width (length e.labels)) h in
-      enum_range e.width (length e.labels) (both (is_upper e.name && list_all is_upper e.labels) (countable e.labels) a.0).1 a.1
+      let h = passes_at enum_right t.enums k e shape_parts.0 is in
+      let a = and_parts (is_upper e.name && list_all is_upper e.labels && countable e.labels) (is_enum_width e.width (length e.labels)) h in
+      enum_range e.width (length e.labels) (and_parts (is_upper e.name && list_all is_upper e.labels) (countable e.labels) a.0).1 a.1
 
   -- a type with bits has 1 to 128
   record HasWidth (k : Sort) : Type 0 where
@@ -148,13 +137,13 @@ module _ (t : Typed) where
   bits_some (int n) e = record { n = n; is = refl; range = range_of n e }
   bits_some bool e = record { n = 1; is = refl; range = range_of 1 refl }
   bits_some (enum k) e =
-      let h = there t.enums k (ltb-true k (length t.enums) e) in
+      let h = item_there t.enums k (ltb-true k (length t.enums) e) in
       record { n = h.0.width; is = ap (option_map (λ (d : Enum). d.width)) h.1; range = enum_in_range k h.0 h.1 }
   bits_some (struct k) e =
-      let h = there t.structs k (ltb-true k (length t.structs) e) in
+      let h = item_there t.structs k (ltb-true k (length t.structs) e) in
       record { n = h.0.width; is = ap (option_map (λ (d : Struct). d.width)) h.1; range = struct_range k h.0 h.1 }
   bits_some (maybe k) e =
-      let a = both (is_bits (shapes t) (length t.structs) k) (has_range (width_by t.enums t.structs (maybe k))) e in
+      let a = and_parts (is_bits (shapes t) (length t.structs) k) (has_range (width_by t.enums t.structs (maybe k))) e in
       let h = maybe_range (width_by t.enums t.structs k) (width_by t.enums t.structs (maybe k)) a.1 refl in
       record { n = h.0; is = h.1; range = h.2 }
   bits_some (down n) e = absurd cc
@@ -173,7 +162,7 @@ module _ (t : Typed) where
   -- a tag fits in front
   payload_range : (k : Sort) → has_bits (shapes t) (maybe k) ≡ true → (1 ≤ width (shapes t) k) × (width (shapes t) k ≤ 127)
   payload_range k e =
-      let a = both (is_bits (shapes t) (length t.structs) k) (has_range (width_by t.enums t.structs (maybe k))) e in
+      let a = and_parts (is_bits (shapes t) (length t.structs) k) (has_range (width_by t.enums t.structs (maybe k))) e in
       let h = bits_some k a.0 in
       let whole = range_of (counted (1 + h.n)) (subst (λ (o : Option ℕ). has_range (plus (Some 1) o) ≡ true) h.is a.1) in
       let small : 1 + h.n ≤ 128 = counted_small (1 + h.n) whole.most in
@@ -280,9 +269,6 @@ pulse_right : (g : GivenMaker) (n depth : ℕ) (w : Bits) → made_part g ≡ pa
 pulse_right maker.PulseWire n depth w e = refl
 pulse_right _ n depth w e = absurd cc
 
-bare_same : (p q : PartTy) → same_part p q ≡ true → p ≡ q
-bare_same p q e = let h = same_is (bare p) (bare q) e in cc
-
 bare_pulse : (t : Typed) (p : PartTy) → is_instance (shapes t) (bare p) ≡ true → p ≡ part_type.PulseWire
 bare_pulse t part_type.PulseWire e = refl
 bare_pulse t _ e = absurd cc
@@ -293,7 +279,7 @@ module _ (t : Typed) where
   pub given_provides : (f : Frame) (g : GivenMaker) (xs : List Argument) (k : Sort) (bits depth : ℕ) (w : Bits) → is_instance (shapes t) k ≡ true → given_makes (world t) f g xs k ≡ true
       → bits ≡ wide t k → 1 ≤ depth → depth ≤ 64 → Provides t k (made.Primitive (made_part g) (kind_of g bits depth w))
   given_provides f g xs (part p j) bits depth w is_made makes wide_is deep not_too_deep =
-      let same = bare_same p (made_part g) (both (same_part p (made_part g)) (arguments_right (world t) f xs (maker_params g j)) makes).0 in
+      let same = same_part_is p (made_part g) (and_parts (same_part p (made_part g)) (arguments_right (world t) f xs (maker_params g j)) makes).0 in
       let r = part_range t p j is_made in
       let range = subst Range (sym wide_is) r.range in
       let pulse : made_part g ≡ part_type.PulseWire → ⊥ = λ e. r.no_pulse (same ∙ e) in
@@ -301,7 +287,7 @@ module _ (t : Typed) where
       let h = kind_right bits depth w range.some range.most deep not_too_deep g pulse tagged in
       (same, subst (λ (q : PartTy). is_kind_of q (kind_of g bits depth w) ≡ true) (sym same) h.0, h.1 ∙ wide_is)
   given_provides f g xs (bare p) bits depth w is_made makes wide_is deep not_too_deep =
-      let same = bare_same p (made_part g) (both (same_part p (made_part g)) (arguments_right (world t) f xs []) makes).0 in
+      let same = same_part_is p (made_part g) (and_parts (same_part p (made_part g)) (arguments_right (world t) f xs []) makes).0 in
       let pulse = bare_pulse t p is_made in
       (same, subst (λ (q : PartTy). is_kind_of q (kind_of g bits depth w) ≡ true) (sym pulse) (pulse_right g bits depth w (sym same ∙ pulse)))
   given_provides f g xs _ bits depth w is_made makes wide_is deep not_too_deep = absurd cc

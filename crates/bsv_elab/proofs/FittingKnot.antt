@@ -14,11 +14,11 @@ use Rattle.bsv_design.specs.Trees.{world}
 use Rattle.bsv_elab.specs.Statics.{Here, Builds, truth_in}
 use Rattle.bsv_elab.specs.Making.{Bodies}
 use Rattle.bsv_elab.specs.Bodies.{Branched, stmt_step, branch_step, stmt, branch}
-use Rattle.bsv_elab.proofs.Directly.{method_numbers}
+use Rattle.bsv_elab.proofs.Directly.{method_numbers, branch_numbers}
 use Rattle.bsv_elab.proofs.FittingStates.{Preserves, weighed_good}
 use Rattle.bsv_elab.proofs.FittingMade.{home, BodiesRight}
 use Rattle.bsv_elab.proofs.FittingStatements.{instance_good, array_good, place_good, declare_good, set_good, rule_good, method_good}
-use Rattle.bsv_elab.proofs.FittingNested.{branch_methods, ArmGood, arm_good, GoodStmt, GoodBranch, EachGood, EachArm, block_good, if_good, for_good}
+use Rattle.bsv_elab.proofs.FittingNested.{ArmGood, arm_good, GoodStmt, GoodBranch, EachGood, EachArm, block_good, if_good, for_good}
 
 module _ (t : Typed) (m : Module) (number : ℕ) (path around : List ℕ) (first : ℕ) (bodies : Bodies) (right : BodiesRight t first bodies) (of : slice_get t.modules number ≡ Some m) where
   abbrev here : Here
@@ -45,7 +45,7 @@ module _ (t : Typed) (m : Module) (number : ℕ) (path around : List ℕ) (first
   typed_layer z = module_stmt_step site (map-ModuleStmt ModuleStmt ModuleBranch Run Run (module_stmt_run site) branch_run z)
 
   abbrev numbers_layer : ModuleStmt-F ModuleStmt ModuleBranch → List ℕ
-  numbers_layer z = numbers_step own_method (map-ModuleStmt ModuleStmt ModuleBranch (List ℕ) (List ℕ) method_numbers branch_methods z)
+  numbers_layer z = numbers_step own_method (map-ModuleStmt ModuleStmt ModuleBranch (List ℕ) (List ℕ) method_numbers branch_numbers z)
 
   abbrev GoodLayer : ModuleStmt-F ModuleStmt ModuleBranch → Type 0
   GoodLayer z = Preserves t m (built_layer z) (typed_layer z) (numbers_layer z)
@@ -60,8 +60,8 @@ module _ (t : Typed) (m : Module) (number : ℕ) (path around : List ℕ) (first
   rolled_arm : (z : ModuleBranch-F ModuleStmt ModuleBranch) → Good z.arm → GoodArm (roll-ModuleBranch z)
   unfolding stmt branch
   rolled_arm z h =
-      subst (λ (b : Branched bodies here). ArmGood t m bodies here b (branch_run (roll-ModuleBranch z)) (branch_methods (roll-ModuleBranch z))) (sym (fold-roll-ModuleBranch Builds (Branched bodies here) (stmt_step bodies here) (branch_step bodies here) z))
-      (subst (λ (x : Run). ArmGood t m bodies here (record { asks = truth_in here z.condition; arm = stmt bodies here z.arm }) x (branch_methods (roll-ModuleBranch z))) (sym (fold-roll-ModuleBranch Run Run (module_stmt_step site) (module_branch_step site) z))
+      subst (λ (b : Branched bodies here). ArmGood t m bodies here b (branch_run (roll-ModuleBranch z)) (branch_numbers (roll-ModuleBranch z))) (sym (fold-roll-ModuleBranch Builds (Branched bodies here) (stmt_step bodies here) (branch_step bodies here) z))
+      (subst (λ (x : Run). ArmGood t m bodies here (record { asks = truth_in here z.condition; arm = stmt bodies here z.arm }) x (branch_numbers (roll-ModuleBranch z))) (sym (fold-roll-ModuleBranch Run Run (module_stmt_step site) (module_branch_step site) z))
       (subst (λ (ns : List ℕ). ArmGood t m bodies here (record { asks = truth_in here z.condition; arm = stmt bodies here z.arm }) (module_branch_step site (record { condition = z.condition; arm = module_stmt_run site z.arm })) ns)
       (sym (fold-roll-ModuleBranch (List ℕ) (List ℕ) (numbers_step own_method) (λ b. b.arm) z))
       (arm_good t m bodies here z.condition (stmt bodies here z.arm) (module_stmt_run site z.arm) (method_numbers z.arm) h)))

@@ -1,8 +1,10 @@
 -- Behind the body of a module each method sees the variables of a scope in which it is typed.
-use Rattle.std.proofs.Common.{◌≡◌, ◌∙◌, ℕ, ◌≤◌, true, List, [], ◌∷◌, ◌++◌, map, length, take, Option, Some, None, Ok, refl, sym, ap, subst, arith, ◌⊎◌, inl, inr}
+use Rattle.std.proofs.Common.{◌≡◌, ◌∙◌, ℕ, ◌≤◌, true, List, [], ◌∷◌, ◌++◌, map, length, take, Some, Ok, refl, sym, ap, subst, arith, ◌⊎◌, inl, inr}
 use Rattle.std.specs.Prelude.{slice_get}
 use Rattle.std.proofs.lemmas.Bool.{cases_eq}
 use Rattle.std.proofs.lemmas.List.{take-append-le, take_all, length-append}
+use Rattle.std.proofs.lemmas.Option.{same_Some}
+use Rattle.bsv_lemmas.proofs.Choices.{same_ok}
 use Rattle.bsv_types.specs.declared.modules.Module.{Module}
 use Rattle.bsv_types.specs.declared.modules.ModuleStmt.{ModuleStmt, out-ModuleStmt, map-ModuleStmt, fold_out-ModuleStmt}
 use Rattle.bsv_types.specs.declared.modules.ModuleStmt.TheOpen.{ModuleStmt-F}
@@ -22,15 +24,12 @@ use Rattle.bsv_elab.specs.Elements.{method}
 use Rattle.bsv_elab.specs.Bodies.{Branched, run, stmt_step, branch_step, stmt, branch}
 use Rattle.bsv_elab.proofs.Directly.{method_numbers, own_number, StandsIn, OwnOnly}
 use Rattle.bsv_elab.proofs.FittingScopes.{fit_length, put_there}
-use Rattle.bsv_elab.proofs.FittingSteps.{went, ok_is, some_is, if_right_is, weigh_same}
+use Rattle.bsv_elab.proofs.FittingSteps.{went, if_right_is, weigh_same}
 use Rattle.bsv_elab.proofs.FittingStates.{Fit, Moved, still, moved_both}
 use Rattle.bsv_elab.proofs.FittingMade.{home, BodiesRight}
 use Rattle.bsv_elab.proofs.FittingStatements.{method_met}
 use Rattle.bsv_elab.proofs.FittingKnot.{stmt_good}
-
-goes : {A B : Type 0} (r : Option A) (f : A → Option B) (y : B) → options.◌>>=◌ r f ≡ Some y → (x : A) × (r ≡ Some x) × (f x ≡ Some y)
-goes None f y e = absurd cc
-goes (Some x) f y e = (x, refl, e)
+use Rattle.bsv_elab.proofs.FittingNested.{taken}
 
 -- ---- where a method stands
 
@@ -148,11 +147,11 @@ module _ (t : Typed) (m : Module) where
         → run bodies here (map (stmt bodies here) xs) s ≡ Ok r → Direct xs f s g r
     unfolding run
     direct_right [] only s r f g h typed e =
-        subst (λ z. Direct [] f s g z) (ok_is s r e) (subst (λ z. Direct [] f s z s) (some_is f g typed)
+        subst (λ z. Direct [] f s g z) (same_ok s r e) (subst (λ z. Direct [] f s z s) (same_Some f g typed)
         (record { moved = still t m f s [] h; levels = λ n before. elim before [ inl b ↦ b | inr b ↦ absurd (in_none n b.before b.own b.after b.body_is) ] }))
     direct_right (x ∷ xs) only s r f g h typed e =
         let q = went (stmt bodies here x s) (run bodies here (map (stmt bodies here) xs)) r e in
-        let n = goes (module_stmt_run site x f) (typing.run (map (module_stmt_run site) xs)) g typed in
+        let n = taken (module_stmt_run site x f) (typing.run (map (module_stmt_run site) xs)) g typed in
         let a = stmt_good t m number path around first bodies right of x s q.0 f n.0 h n.1 q.1 in
         let b = direct_right xs only.1 q.0 r n.0 g a.fit n.2 q.2 in
         record {

@@ -1,8 +1,9 @@
 -- What is made has the interface that the typing gives it, and the tree has grown by instances that agree.
-use Rattle.std.proofs.Common.{◌≡◌, ◌∙◌, ℕ, zero, suc, ◌≤◌, ◌<◌, Bool, true, false, List, [], ◌∷◌, ◌++◌, map, length, set, Option, Some, Ok, refl, sym, ap, subst, arith, append-nil, append_assoc}
-use Rattle.std.specs.Prelude.{ℤ, pos, negsuc, nat_le, nat_lt, slice_get, if◌then◌else◌}
-use Rattle.std.proofs.lemmas.Bool.{ltb-true, leb-true, lt-ltb}
+use Rattle.std.proofs.Common.{◌≡◌, ◌∙◌, ℕ, zero, suc, ◌≤◌, ◌<◌, true, List, [], ◌∷◌, ◌++◌, map, length, set, Option, Some, Ok, refl, sym, ap, subst, arith, append-nil, append_assoc}
+use Rattle.std.specs.Prelude.{ℤ, pos, negsuc, nat_le, nat_lt, slice_get}
+use Rattle.std.proofs.lemmas.Bool.{ltb-true, leb-true, lt-ltb, and_parts, cond-true}
 use Rattle.std.proofs.lemmas.List.{length-append, set_at}
+use Rattle.bsv_lemmas.proofs.Choices.{same_ok as ok_is, passed, not_refused}
 use Rattle.bsv_types.specs.declared.makers.Argument.{Argument}
 use Rattle.bsv_types.specs.declared.makers.GivenMaker.{GivenMaker}
 use Rattle.bsv_types.specs.declared.makers.Make.{Make}
@@ -17,7 +18,7 @@ use Rattle.bsv_types.specs.Methods.{made_part, maker_params, param_kinds}
 use Rattle.bsv_types.specs.Modules as rules
 use Rattle.bsv_types.specs.Modules.{header, arguments_right, given_makes, module_makes, makes, param_slots}
 use Rattle.bsv_types.specs.Shapes.{is_instance}
-use Rattle.bsv_types.proofs.Same.{both, same_is}
+use Rattle.bsv_types.proofs.Same.{same_is}
 use Rattle.bsv_design.specs.declared.kind.Kind.{Kind}
 use Rattle.bsv_design.specs.declared.statics.Binding.{Binding}
 use Rattle.bsv_design.specs.declared.statics.Static.{Static}
@@ -38,7 +39,7 @@ use Rattle.bsv_elab.specs.MadeKinds.{kind_of}
 use Rattle.bsv_elab.specs.Making.{Bodies, instance, next_number, with_instance, with_primitive, named_instance, depth_of, at_least_one, start_of, most_depth, within_limits, primitive, is_around, unbuilt, parameters, params_of, inner, behind, child, made_by, arguments, make}
 use Rattle.bsv_elab.proofs.FittingTrees.{Keeps, front_keeps, put_keeps, all_agree_kept, all_fit_kept, rules_kept, agrees_kept, Grew, grew_keeps}
 use Rattle.bsv_elab.proofs.FittingScopes.{wide}
-use Rattle.bsv_elab.proofs.FittingSteps.{went, ok_is, passed, not_passed, counted_is, Same}
+use Rattle.bsv_elab.proofs.FittingSteps.{went, counted_is, Same}
 use Rattle.bsv_elab.proofs.FittingStates.{Fit, Moved, fit_weighed, from_weighed}
 use Rattle.bsv_elab.proofs.FittingKinds.{given_provides}
 use Rattle.bsv_elab.proofs.FittingArguments.{AllHold, params_fit, arguments_fit}
@@ -81,15 +82,11 @@ last_made : (is more : List Instance) (i : Instance) → made_of (slice_get (is 
 last_made [] more i = refl
 last_made (x ∷ is) more i = last_made is more i
 
-if_true : {A : Type 0} (c : Bool) (x y : A) → c ≡ true → (if c then x else y) ≡ x
-if_true true x y e = refl
-if_true false x y e = absurd cc
-
 pub put_is : (is more : List Instance) (u i : Instance) → put_at (length is) i (is ++ u ∷ more) ≡ is ++ i ∷ more
 unfolding put_at
 put_is is more u i =
     let below : length is < length (is ++ u ∷ more) = omega (arith, length-append is (u ∷ more)) in
-    if_true (nat_lt (length is) (length (is ++ u ∷ more))) (set (is ++ u ∷ more) (length is) i) (is ++ u ∷ more) (lt-ltb (length is) (length (is ++ u ∷ more)) below)
+    cond-true (nat_lt (length is) (length (is ++ u ∷ more))) (set (is ++ u ∷ more) (length is) i) (is ++ u ∷ more) (lt-ltb (length is) (length (is ++ u ∷ more)) below)
     ∙ set_at is u more i (length is) refl
 
 -- other names are taken
@@ -113,13 +110,13 @@ record HeaderMakes (t : Typed) (f : Frame) (ms : List Module) (n : ℕ) (xs : Li
 header_makes : (t : Typed) (f : Frame) (ms : List Module) (n : ℕ) (xs : List Argument) (k : Sort) → module_makes (world t) f (slice_get (map header ms) n) xs k ≡ true → HeaderMakes t f ms n xs k
 header_makes t f [] n xs k e = absurd cc
 header_makes t f (m ∷ ms) zero xs k e =
-    let h = both (same_kind (kind m.interface) k) (arguments_right (world t) f xs (param_kinds m.params)) e in
+    let h = and_parts (same_kind (kind m.interface) k) (arguments_right (world t) f xs (param_kinds m.params)) e in
     record { source = m; there = refl; same = same_is (kind m.interface) k h.0; handed = h.1 }
 header_makes t f (m ∷ ms) (suc n) xs k e = let h = header_makes t f ms n xs k e in record { source = h.source; there = h.there; same = h.same; handed = h.handed }
 
 given_handed : (t : Typed) (f : Frame) (g : GivenMaker) (xs : List Argument) (k : Sort) → given_makes (world t) f g xs k ≡ true → (ks : List Sort) × (arguments_right (world t) f xs ks ≡ true)
-given_handed t f g xs (part p j) e = (maker_params g j, (both (same_part p (made_part g)) (arguments_right (world t) f xs (maker_params g j)) e).1)
-given_handed t f g xs (bare p) e = ([], (both (same_part p (made_part g)) (arguments_right (world t) f xs []) e).1)
+given_handed t f g xs (part p j) e = (maker_params g j, (and_parts (same_part p (made_part g)) (arguments_right (world t) f xs (maker_params g j)) e).1)
+given_handed t f g xs (bare p) e = ([], (and_parts (same_part p (made_part g)) (arguments_right (world t) f xs []) e).1)
 given_handed t f g xs _ e = absurd cc
 
 module_provides : (t : Typed) (n : ℕ) (source : Module) (k : Sort) (b : Built) → slice_get t.modules n ≡ Some source → kind source.interface ≡ k → b.«module» ≡ n → Provides t k (made.Module b)
@@ -214,7 +211,7 @@ module _ (t : Typed) where
           → AllHold t s.grown.instances (param_kinds source.params) ys → child bodies here name c ys s ≡ Ok q → Makes s k q
       unfolding child
       child_makes s name c ys k source q h there same hold e =
-          let a = not_passed (is_around c around) _ _ q e in
+          let a = not_refused (is_around c around) _ _ q e in
           let n = went (named_instance here name s) _ q a.1 in
           let l = went (next_number n.0.1.grown) _ q n.2 in
           let d = went (bodies (inner here c n.0.0) (parameters (params_of (slice_get t.modules c)) ys) (with_instance (instance n.0.0 (unbuilt c)) n.0.1.grown)) _ q l.2 in

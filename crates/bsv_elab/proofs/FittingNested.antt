@@ -1,6 +1,10 @@
 -- Blocks, branches and loops of a module keep what is in scope as its types say, where their parts do.
 use Rattle.std.proofs.Common.{◌≡◌, ◌∙◌, ℕ, zero, suc, Bool, true, false, ◌&&◌, List, [], ◌∷◌, ◌++◌, map, length, Option, Some, None, option_map, Result, Ok, refl, sym, subst, append_assoc}
 use Rattle.std.specs.Prelude.{if◌then◌else◌}
+use Rattle.std.proofs.lemmas.Bool.{and_parts}
+use Rattle.std.proofs.lemmas.Option.{same_Some}
+use Rattle.bsv_lemmas.proofs.Choices.{not_refused}
+use Rattle.bsv_lemmas.proofs.Lists.{left_empty, right_empty}
 use Rattle.bsv_fail.specs.Given.{◌>>=◌}
 use Rattle.bsv_ast.specs.Names.{is_lower}
 use Rattle.bsv_types.specs.declared.expressions.Expr.{Expr}
@@ -12,25 +16,24 @@ use Rattle.bsv_types.specs.declared.typed.Typed.{Typed}
 use Rattle.bsv_types.specs.Expressions.{Frame, one, has_type}
 use Rattle.bsv_types.specs.Kinds.{integer, bool}
 use Rattle.bsv_types.specs.Modules as rules
-use Rattle.bsv_types.specs.Modules.{header, concatenated, or_empty, numbers_step, own_method, module_stmt_run, module_stmt_step, module_branch_step}
+use Rattle.bsv_types.specs.Modules.{header, concatenated, or_empty, module_stmt_run, module_stmt_step, module_branch_step}
 use Rattle.bsv_types.specs.Operators as options
 use Rattle.bsv_types.specs.Statements as typing
 use Rattle.bsv_types.specs.Statements.{Run, if_right, inner, all_inner, inner_too, assigns, in_loop}
-use Rattle.bsv_types.proofs.Same.{both}
 use Rattle.bsv_design.specs.Trees.{world}
 use Rattle.bsv_elab.specs.declared.refused.Refused.{Refused}
 use Rattle.bsv_elab.specs.declared.state.State.{State}
 use Rattle.bsv_elab.specs.Statics.{Here, Builds, constant_in, truth_in, held, bind, cut, inside}
 use Rattle.bsv_elab.specs.Making.{Bodies}
 use Rattle.bsv_elab.specs.Bodies.{Branched, run, or_nothing, chain, turn, turns, looped, most_turns, set, stmt, branch}
-use Rattle.bsv_elab.proofs.Directly.{method_numbers}
+use Rattle.bsv_elab.proofs.Directly.{method_numbers, branch_numbers}
 use Rattle.bsv_elab.proofs.FittingScopes.{plain_fits, held_as_plain}
-use Rattle.bsv_elab.proofs.FittingSteps.{went, not_passed, some_is, if_right_is, inner_is, Same, constant_same, truth_same}
+use Rattle.bsv_elab.proofs.FittingSteps.{went, if_right_is, inner_is, Same, constant_same, truth_same}
 use Rattle.bsv_elab.proofs.FittingStates.{Fit, Moved, Preserves, PreservesInside, still, moved_both, moved_again, after_weight, bind_moved, cut_moved, inside_good}
 use Rattle.bsv_elab.proofs.FittingMade.{home, BodiesRight}
 use Rattle.bsv_elab.proofs.FittingStatements.{lands, set_moved}
 
-taken : {A B : Type 0} (r : Option A) (f : A → Option B) (y : B) → options.◌>>=◌ r f ≡ Some y → (x : A) × (r ≡ Some x) × (f x ≡ Some y)
+pub taken : {A B : Type 0} (r : Option A) (f : A → Option B) (y : B) → options.◌>>=◌ r f ≡ Some y → (x : A) × (r ≡ Some x) × (f x ≡ Some y)
 taken None f y e = absurd cc
 taken (Some x) f y e = (x, refl, e)
 
@@ -41,18 +44,6 @@ inner_from x f (Some h) g e = refl
 either : {P : Type 0} (c : Bool) (x y : Result State Refused) (r : State) → (x ≡ Ok r → P) → (y ≡ Ok r → P) → (if c then x else y) ≡ Ok r → P
 either true x y r left right e = left e
 either false x y r left right e = right e
-
-empty_first : (ns ms : List ℕ) → ns ++ ms ≡ [] → ns ≡ []
-empty_first [] ms e = refl
-empty_first (n ∷ ns) ms e = absurd cc
-
-empty_second : (ns ms : List ℕ) → ns ++ ms ≡ [] → ms ≡ []
-empty_second [] ms e = e
-empty_second (n ∷ ns) ms e = absurd cc
-
--- the numbers of the methods in a branch
-abbrev pub branch_methods : ModuleBranch → List ℕ
-branch_methods = fold-ModuleBranch (List ℕ) (List ℕ) (numbers_step own_method) (λ b. b.arm)
 
 module _ (t : Typed) (m : Module) where
   -- fewer methods are met
@@ -91,7 +82,7 @@ module _ (t : Typed) (m : Module) where
     GoodStmt x = Preserves t m (stmt bodies here x) (module_stmt_run site x) (method_numbers x)
 
     abbrev pub GoodBranch : ModuleBranch → Type 0
-    GoodBranch b = ArmGood bodies here (branch bodies here b) (branch_run b) (branch_methods b)
+    GoodBranch b = ArmGood bodies here (branch bodies here b) (branch_run b) (branch_numbers b)
 
     -- ---- blocks
 
@@ -101,7 +92,7 @@ module _ (t : Typed) (m : Module) where
 
     pub run_good : (xs : List ModuleStmt) → EachGood xs → Preserves t m (run bodies here (map (stmt bodies here) xs)) (typing.run (map (module_stmt_run site) xs)) (concatenated (map method_numbers xs))
     unfolding run
-    run_good [] good s r f g h typed e = lands t m f f g s s r [] (still t m f s [] h) (some_is f g typed) e
+    run_good [] good s r f g h typed e = lands t m f f g s s r [] (still t m f s [] h) (same_Some f g typed) e
     run_good (x ∷ xs) good s r f g h typed e =
         let q = went (stmt bodies here x s) (run bodies here (map (stmt bodies here) xs)) r e in
         let n = taken (module_stmt_run site x f) (typing.run (map (module_stmt_run site) xs)) g typed in
@@ -128,7 +119,7 @@ module _ (t : Typed) (m : Module) where
     last_numbers o = or_empty (option_map method_numbers o)
 
     abbrev arm_numbers : List ModuleBranch → List ℕ
-    arm_numbers bs = concatenated (map branch_methods bs)
+    arm_numbers bs = concatenated (map branch_numbers bs)
 
     last_good : (o : Option ModuleStmt) → LastGood o → (s r : State) (f : Frame) → Fit t m f s → inner_too (option_map (module_stmt_run site) o) f ≡ true → or_nothing bodies here (option_map (stmt bodies here) o) s ≡ Ok r
         → Moved t m f s f r (last_numbers o)
@@ -141,21 +132,21 @@ module _ (t : Typed) (m : Module) where
     chain_good [] o good last s r f h typed typed_last e = last_good o last s r f h typed_last e
     chain_good (b ∷ bs) o good last s r f h typed typed_last e =
         let q = went ((branch bodies here b).asks s) _ r e in
-        let rights = both (inner (branch_run b) f) (all_inner (map branch_run bs) f) typed in
-        let ns = branch_methods b in
+        let rights = and_parts (inner (branch_run b) f) (all_inner (map branch_run bs) f) typed in
+        let ns = branch_numbers b in
         let ms = arm_numbers bs in
         let ls = last_numbers o in
         after_weight t m f f s q.0.1 r ((ns ++ ms) ++ ls) (good.0.asks s q.0 q.1) h (λ z.
         either q.0.0 (inside (branch bodies here b).arm q.0.1) (chain bodies here (option_map (stmt bodies here) o) (map (branch bodies here) bs) q.0.1) r
-        (λ there. fewer_met f f q.0.1 r ns ((ns ++ ms) ++ ls) (λ k. empty_first ns ms (empty_first (ns ++ ms) ls k)) (good.0.arm q.0.1 r f z rights.0 there))
-        (λ there. fewer_met f f q.0.1 r (ms ++ ls) ((ns ++ ms) ++ ls) (λ k. empty_second ns (ms ++ ls) (sym (append_assoc ns ms ls) ∙ k)) (chain_good bs o good.1 last q.0.1 r f z rights.1 typed_last there))
+        (λ there. fewer_met f f q.0.1 r ns ((ns ++ ms) ++ ls) (λ k. left_empty ns ms (left_empty (ns ++ ms) ls k)) (good.0.arm q.0.1 r f z rights.0 there))
+        (λ there. fewer_met f f q.0.1 r (ms ++ ls) ((ns ++ ms) ++ ls) (λ k. right_empty ns (ms ++ ls) (sym (append_assoc ns ms ls) ∙ k)) (chain_good bs o good.1 last q.0.1 r f z rights.1 typed_last there))
         q.2)
 
     pub if_good : (bs : List ModuleBranch) (o : Option ModuleStmt) → EachArm bs → LastGood o
         → Preserves t m (chain bodies here (option_map (stmt bodies here) o) (map (branch bodies here) bs)) (λ f. if_right (all_inner (map branch_run bs) f && inner_too (option_map (module_stmt_run site) o) f) f) (arm_numbers bs ++ last_numbers o)
     if_good bs o good last s r f g h typed e =
         let c = if_right_is (all_inner (map branch_run bs) f && inner_too (option_map (module_stmt_run site) o) f) f g typed in
-        let a = both (all_inner (map branch_run bs) f) (inner_too (option_map (module_stmt_run site) o) f) c.0 in
+        let a = and_parts (all_inner (map branch_run bs) f) (inner_too (option_map (module_stmt_run site) o) f) c.0 in
         subst (λ z. Moved t m f s z r (arm_numbers bs ++ last_numbers o)) c.1 (chain_good bs o good last s r f h a.0 a.1 e)
 
     -- ---- loops
@@ -173,7 +164,7 @@ module _ (t : Typed) (m : Module) where
         unfolding turns
         turns_good zero s r h e =
             let q = went (truth_in here head.condition s) _ r e in
-            let c = not_passed q.0.0 (Ok q.0.1) _ r q.2 in
+            let c = not_refused q.0.0 (Ok q.0.1) _ r q.2 in
             after_weight t m f f s q.0.1 r ns (truth_same here s head.condition q.0 q.1) h (λ z. lands t m f f f q.0.1 q.0.1 r ns (still t m f q.0.1 ns z) refl c.1)
         turns_good (suc n) s r h e =
             let q = went (truth_in here head.condition s) _ r e in
@@ -194,7 +185,7 @@ module _ (t : Typed) (m : Module) where
       entered f g e = by (is_lower head.variable && has_type (world t) f head.first integer && has_type (world t) (f ++ one integer ∷ []) head.condition bool)
           (assigns (world t) 0 (f ++ one integer ∷ []) head.stepped head.step) e refl where
             by : (b c : Bool) → (if b && c then Some (f ++ one integer ∷ []) else None) ≡ Some g → assigns (world t) 0 (f ++ one integer ∷ []) head.stepped head.step ≡ c → Entered f g
-            by true true e is = record { are = sym (some_is (f ++ one integer ∷ []) g e); steps = is }
+            by true true e is = record { are = sym (same_Some (f ++ one integer ∷ []) g e); steps = is }
             by true false e is = absurd cc
             by false c e is = absurd cc
 

@@ -1,7 +1,7 @@
 -- What a place in the text of a module names is an instance of the type that the typing gives the place.
-use Rattle.std.proofs.Common.{◌≡◌, ◌∙◌, ℕ, zero, suc, List, [], ◌∷◌, Option, Some, None, Result, Ok, Err, refl, sym, ap, subst}
+use Rattle.std.proofs.Common.{◌≡◌, ◌∙◌, ℕ, zero, suc, List, [], ◌∷◌, Option, Some, None, Ok, refl, sym, ap, subst}
 use Rattle.std.specs.Prelude.{slice_get}
-use Rattle.bsv_fail.specs.Given.{◌>>=◌}
+use Rattle.bsv_lemmas.proofs.Choices.{same_ok}
 use Rattle.bsv_types.specs.declared.expressions.Expr.{Expr}
 use Rattle.bsv_types.specs.declared.expressions.Place.{Place, map-Place, fold_out-Place}
 use Rattle.bsv_types.specs.declared.expressions.Expr.TheOpen.{Place-F}
@@ -21,13 +21,7 @@ use Rattle.bsv_design.specs.Working.{no_steps}
 use Rattle.bsv_design.specs.Trees.{world, Stands, Fits, AllFit}
 use Rattle.bsv_elab.specs.Statics.{binding}
 use Rattle.bsv_elab.proofs.FittingScopes.{fit_at, stands_may}
-
-fine : {A E : Type 0} (x y : A) → ◌≡◌ {A = Result A E} (Ok x) (Ok y) → x ≡ y
-fine x y e = cc
-
-then_is : {A B E : Type 0} (x : Result A E) (f : A → Result B E) (y : B) → (x >>= f) ≡ Ok y → (a : A) × (x ≡ Ok a) × (f a ≡ Ok y)
-then_is (Ok a) f y e = (a, refl, e)
-then_is (Err z) f y e = absurd cc
+use Rattle.bsv_elab.proofs.FittingSteps.{went}
 
 -- ---- the typing
 
@@ -66,7 +60,7 @@ placed_value : (f : Fault) (name : List ℕ) (x : Static) (n : ℕ) → placed f
 placed_value f name (static.Number i) n e = absurd cc
 placed_value f name (static.Bits w) n e = absurd cc
 placed_value f name (static.Truth b) n e = absurd cc
-placed_value f name (static.Place m) n e = ap (λ (i : ℕ). static.Place i) (fine m n e)
+placed_value f name (static.Place m) n e = ap (λ (i : ℕ). static.Place i) (same_ok m n e)
 placed_value f name (static.Places ns) n e = absurd cc
 
 pub placed_is : (f : Fault) (o : Option Binding) (n : ℕ) → placed f o ≡ Ok n → (b : Binding) × (o ≡ Some b) × (b.value ≡ static.Place n)
@@ -76,7 +70,7 @@ placed_is f (Some b) n e = (b, refl, placed_value f b.name b.value n e)
 set_is : (f : Fault) (o : Option (Option ℕ)) (n : ℕ) → set_place f o ≡ Ok n → o ≡ Some (Some n)
 set_is f None n e = absurd cc
 set_is f (Some None) n e = absurd cc
-set_is f (Some (Some m)) n e = ap (λ (i : ℕ). Some (Some i)) (fine m n e)
+set_is f (Some (Some m)) n e = ap (λ (i : ℕ). Some (Some i)) (same_ok m n e)
 
 placed_at_value : (f : Fault) (name : List ℕ) (x : Static) (at n : ℕ) → placed_at f (Some (binding name x)) at ≡ Ok n → (ns : List (Option ℕ)) × (x ≡ static.Places ns) × (slice_get ns at ≡ Some (Some n))
 placed_at_value f name (static.Number i) at n e = absurd cc
@@ -118,13 +112,13 @@ module _ (t : Typed) (call : Caller) (site : Site) (f : Frame) (fits : AllFit t 
 
   by_index : (level : ℕ) (i : Option Expr) (vs : List Local) (c : Count) (k : Sort) (r : ℕ × Count) → place_typed (record { level = level; index = i }) f ≡ Some k → placing (record { level = level; index = i }) vs c ≡ Ok r → Stands t site.instances k r.0
   by_index level None vs c k r typed e =
-      let n = then_is (placed (static_fault site) (slice_get site.bindings level)) _ r e in
-      subst (λ (q : ℕ × Count). Stands t site.instances k q.0) (fine (n.0, c) r n.2) (one_stands level k n.0 typed n.1)
+      let n = went (placed (static_fault site) (slice_get site.bindings level)) _ r e in
+      subst (λ (q : ℕ × Count). Stands t site.instances k q.0) (same_ok (n.0, c) r n.2) (one_stands level k n.0 typed n.1)
   by_index level (Some x) vs c k r is_typed e =
-      let v = then_is ((expression call site x).carry vs (no_steps c)) _ r e in
-      let at = then_is (index_of call site v.0.0) _ r v.2 in
-      let n = then_is (placed_at (static_fault site) (slice_get site.bindings level) at.0) _ r at.2 in
-      subst (λ (q : ℕ × Count). Stands t site.instances k q.0) (fine (n.0, v.0.1.count) r n.2)
+      let v = went ((expression call site x).carry vs (no_steps c)) _ r e in
+      let at = went (index_of call site v.0.0) _ r v.2 in
+      let n = went (placed_at (static_fault site) (slice_get site.bindings level) at.0) _ r at.2 in
+      subst (λ (q : ℕ × Count). Stands t site.instances k q.0) (same_ok (n.0, v.0.1.count) r n.2)
       (each_stands level at.0 k n.0 (behind_index level (typed.typing (world t) x f) f k is_typed) n.1)
 
   pub place_stands : (p : Place) (vs : List Local) (c : Count) (k : Sort) (r : ℕ × Count) → place_typing (world t) p f ≡ Some k → place call site p vs c ≡ Ok r → Stands t site.instances k r.0

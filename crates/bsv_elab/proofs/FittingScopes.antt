@@ -3,7 +3,7 @@ use Rattle.std.proofs.Common.{◌≡◌, ℕ, zero, suc, true, false, List, [], 
 use Rattle.std.specs.Prelude.{nat_lt, slice_get, if◌then◌else◌}
 use Rattle.std.proofs.lemmas.Bool.{ltb-false}
 use Rattle.std.proofs.lemmas.List.{take_at, length-set}
-use Rattle.std.proofs.lemmas.Option.{slice_get_within}
+use Rattle.std.proofs.lemmas.Option.{slice_get_within, same_Some}
 use Rattle.bsv_types.specs.declared.typed.Typed.{Typed}
 use Rattle.bsv_types.specs.Expressions.{Slot, one, many, Frame}
 use Rattle.bsv_types.specs.Kinds.{Kind as Sort, part, bool}
@@ -20,9 +20,6 @@ use Rattle.bsv_elab.specs.Statics.{Here, put_at, held, held_as, next_value}
 use Rattle.bsv_elab.specs.Making.{width_in}
 use Rattle.bsv_elab.specs.Bodies.{or_one}
 
-some_same : {A : Type 0} (x y : A) → Some x ≡ Some y → x ≡ y
-some_same x y e = cc
-
 -- ---- one thing in a list
 
 put_if : {A : Type 0} (c : Bool) (xs ys : List A) → length xs ≡ length ys → length (if c then xs else ys) ≡ length ys
@@ -35,7 +32,7 @@ put_length at x xs = put_if (nat_lt at (length xs)) (set xs at x) xs (length-set
 
 set_there : {A : Type 0} (xs : List A) (at n : ℕ) (x y : A) → slice_get (set xs at x) n ≡ Some y → (n ≡ at → x ≡ y) × ((n ≡ at → ⊥) → slice_get xs n ≡ Some y)
 set_there [] at n x y e = absurd cc
-set_there (z ∷ xs) zero zero x y e = (λ i. some_same x y e, λ i. absurd (i refl))
+set_there (z ∷ xs) zero zero x y e = (λ i. same_Some x y e, λ i. absurd (i refl))
 set_there (z ∷ xs) zero (suc n) x y e = (λ i. absurd (omega arith), λ i. e)
 set_there (z ∷ xs) (suc at) zero x y e = (λ i. absurd (omega arith), λ i. e)
 set_there (z ∷ xs) (suc at) (suc n) x y e = let h = set_there xs at n x y e in (λ i. h.0 (omega arith), λ i. h.1 (λ j. i (ap suc j)))
@@ -125,13 +122,13 @@ module _ (t : Typed) (is : List Instance) where
   pub fit_at : (f : Frame) (bs : List Binding) (level : ℕ) (s : Slot) (b : Binding) → AllFit t is f bs → slice_get f level ≡ Some s → slice_get bs level ≡ Some b → Fits t is s b.value
   fit_at [] bs level s b h e g = absurd cc
   fit_at (r ∷ f) [] level s b h e g = absurd h
-  fit_at (r ∷ f) (c ∷ bs) zero s b h e g = subst (λ (x : Binding). Fits t is s x.value) (some_same c b g) (subst (λ z. Fits t is z c.value) (some_same r s e) h.0)
+  fit_at (r ∷ f) (c ∷ bs) zero s b h e g = subst (λ (x : Binding). Fits t is s x.value) (same_Some c b g) (subst (λ z. Fits t is z c.value) (same_Some r s e) h.0)
   fit_at (r ∷ f) (c ∷ bs) (suc level) s b h e g = fit_at f bs level s b h.1 e g
 
   fit_set : (f : Frame) (bs : List Binding) (level : ℕ) (s : Slot) (b : Binding) → AllFit t is f bs → slice_get f level ≡ Some s → Fits t is s b.value → AllFit t is f (set bs level b)
   fit_set [] bs level s b h e g = absurd cc
   fit_set (r ∷ f) [] level s b h e g = absurd h
-  fit_set (r ∷ f) (c ∷ bs) zero s b h e g = (subst (λ z. Fits t is z b.value) (sym (some_same r s e)) g, h.1)
+  fit_set (r ∷ f) (c ∷ bs) zero s b h e g = (subst (λ z. Fits t is z b.value) (sym (same_Some r s e)) g, h.1)
   fit_set (r ∷ f) (c ∷ bs) (suc level) s b h e g = (h.0, fit_set f bs level s b h.1 e g)
 
   fit_if : (c : Bool) (f : Frame) (xs ys : List Binding) → AllFit t is f xs → AllFit t is f ys → AllFit t is f (if c then xs else ys)
@@ -178,7 +175,7 @@ module _ (t : Typed) where
   pub wide_at : (f : Frame) (ws : List ℕ) (level : ℕ) (k : Sort) → AllWide f ws → slice_get f level ≡ Some (many k) → (or_one (slice_get ws level) ≡ wide k) × (is_instance (shapes t) k ≡ true)
   wide_at [] ws level k h e = absurd cc
   wide_at (r ∷ f) [] level k h e = absurd h
-  wide_at (r ∷ f) (w ∷ ws) zero k h e = subst (λ z. Wide z w) (some_same r (many k) e) h.0
+  wide_at (r ∷ f) (w ∷ ws) zero k h e = subst (λ z. Wide z w) (same_Some r (many k) e) h.0
   wide_at (r ∷ f) (w ∷ ws) (suc level) k h e = wide_at f ws level k h.1 e
 
   wide_levels : (n : ℕ) (f : Frame) (ws : List ℕ) → AllWide f ws → AllWide (take n f) (take n ws)

@@ -1,7 +1,8 @@
 -- The statements of a module that hold no others keep what is in scope as its types say.
 use Rattle.std.proofs.Common.{◌≡◌, ◌∙◌, ℕ, ◌+◌, true, false, ◌&&◌, List, [], ◌∷◌, ◌++◌, map, length, Option, Some, None, Result, Ok, refl, sym, ap, subst, append-nil}
 use Rattle.std.specs.Prelude.{ℤ, nat_le, nat_lt, slice_get}
-use Rattle.std.proofs.lemmas.Bool.{false≢true}
+use Rattle.std.proofs.lemmas.Bool.{false≢true, and_parts}
+use Rattle.bsv_lemmas.proofs.Choices.{same_ok, passed}
 use Rattle.bsv_ast.specs.Names.{is_lower}
 use Rattle.bsv_types.specs.declared.expressions.Expr.{Expr}
 use Rattle.bsv_types.specs.declared.makers.Make.{Make}
@@ -16,7 +17,6 @@ use Rattle.bsv_types.specs.Modules as rules
 use Rattle.bsv_types.specs.Modules.{header, makes, place_right, rule_right, method_right}
 use Rattle.bsv_types.specs.Shapes.{is_value, is_instance}
 use Rattle.bsv_types.specs.Statements.{Run, if_right, assigns}
-use Rattle.bsv_types.proofs.Same.{both}
 use Rattle.bsv_design.specs.declared.statics.Binding.{Binding}
 use Rattle.bsv_design.specs.declared.statics.Static.{Static}
 use Rattle.bsv_design.specs.declared.statics.Static.TheVariants as static
@@ -33,7 +33,7 @@ use Rattle.bsv_elab.specs.Elements.{rules_of, methods_of, here_module, with_rule
 use Rattle.bsv_elab.specs.Bodies.{length_of, no_places, places, name_of, or_one, index_in, placed, with_place, set_place, one_instance, array, place_from, one_place, declare, set}
 use Rattle.bsv_elab.proofs.FittingTrees.{RulesAgree, grew_none}
 use Rattle.bsv_elab.proofs.FittingScopes.{plain_fits, held_as_plain, next_plain, none_stand, may_put, fit_at, wide_at, wide_is, put_length}
-use Rattle.bsv_elab.proofs.FittingSteps.{went, ok_is, passed, if_right_is, counted_is, constant_same, number_same}
+use Rattle.bsv_elab.proofs.FittingSteps.{went, if_right_is, counted_is, constant_same, number_same}
 use Rattle.bsv_elab.proofs.FittingStates.{Fit, Moved, Preserves, still, moved_both, after_weight, bind_moved, put_moved}
 use Rattle.bsv_elab.proofs.FittingPlaces.{one_of, many_of}
 use Rattle.bsv_elab.proofs.FittingMade.{home, BodiesRight, make_makes}
@@ -53,7 +53,7 @@ places_stand t is k name (static.Places ns) h = h
 module _ (t : Typed) (m : Module) where
   -- a state that is reached
   pub lands : (f e g : Frame) (s q r : State) (ns : List ℕ) → Moved t m f s e q ns → e ≡ g → ◌≡◌ {A = Result State Refused} (Ok q) (Ok r) → Moved t m f s g r ns
-  lands f e g s q r ns h same there = subst (λ z. Moved t m f s g z ns) (ok_is q r there) (subst (λ z. Moved t m f s z q ns) same h)
+  lands f e g s q r ns h same there = subst (λ z. Moved t m f s g z ns) (same_ok q r there) (subst (λ z. Moved t m f s z q ns) same h)
 
   assigned_moved : (f : Frame) (s : State) (level : ℕ) (k : Sort) (c : Constant) (ns : List ℕ) (o : Option Binding) → Fit t m f s → slice_get f level ≡ Some (one k) → is_value (shapes t) k ≡ true
       → Moved t m f s f (assigned level c o s) ns
@@ -81,8 +81,8 @@ module _ (t : Typed) (m : Module) where
   pub assign_parts : (f : Frame) (level : ℕ) (e : Expr) → assigns (world t) 0 f level e ≡ true → (k : Sort) × (one_at f level ≡ Some k) × (is_value (shapes t) k ≡ true)
   assign_parts f level e h = by (one_at f level) refl where
     by : (o : Option Sort) → one_at f level ≡ o → (k : Sort) × (one_at f level ≡ Some k) × (is_value (shapes t) k ≡ true)
-    by None is = let g = rw is at h in absurd (false≢true (both (nat_le 0 level) false g).1)
-    by (Some k) is = let g = rw is at h in (k, is, (both (is_value (shapes t) k) (has_type (world t) f e k) (both (nat_le 0 level) (is_value (shapes t) k && has_type (world t) f e k) g).1).0)
+    by None is = let g = rw is at h in absurd (false≢true (and_parts (nat_le 0 level) false g).1)
+    by (Some k) is = let g = rw is at h in (k, is, (and_parts (is_value (shapes t) k) (has_type (world t) f e k) (and_parts (nat_le 0 level) (is_value (shapes t) k && has_type (world t) f e k) g).1).0)
 
   module _ (number : ℕ) (path around : List ℕ) (first : ℕ) (bodies : Bodies) (right : BodiesRight t first bodies) where
     abbrev here : Here
@@ -101,8 +101,8 @@ module _ (t : Typed) (m : Module) where
     instance_good ty name x s r f g h typed e =
         let q = went (make bodies here (width_in here (kind ty)) name x s) _ r e in
         let c = if_right_is (is_instance (shapes t) (kind ty) && is_lower name && makes site f x (kind ty)) (f ++ one (kind ty) ∷ []) g typed in
-        let b = both (is_instance (shapes t) (kind ty) && is_lower name) (makes site f x (kind ty)) c.0 in
-        let a = both (is_instance (shapes t) (kind ty)) (is_lower name) b.0 in
+        let b = and_parts (is_instance (shapes t) (kind ty) && is_lower name) (makes site f x (kind ty)) c.0 in
+        let a = and_parts (is_instance (shapes t) (kind ty)) (is_lower name) b.0 in
         let made = make_makes t m number path around first f bodies right s (width_in here (kind ty)) name x (kind ty) q.0 h a.0 b.1 (wide_is t here (kind ty) refl) q.1 in
         let bound = bind_moved t m f q.0.1 (one (kind ty)) name (static.Place q.0.0) 0 [] made.moved.fit made.stands tt in
         lands f (f ++ one (kind ty) ∷ []) g s (bind name (static.Place q.0.0) 0 q.0.1) r []
@@ -114,8 +114,8 @@ module _ (t : Typed) (m : Module) where
         let q = went (number_in here x s) _ r e in
         let n = went (length_of (static_fault here) q.0.0) _ r q.2 in
         let c = if_right_is (is_instance (shapes t) (kind ty) && is_lower name && has_type (world t) f x integer) (f ++ many (kind ty) ∷ []) g typed in
-        let b = both (is_instance (shapes t) (kind ty) && is_lower name) (has_type (world t) f x integer) c.0 in
-        let a = both (is_instance (shapes t) (kind ty)) (is_lower name) b.0 in
+        let b = and_parts (is_instance (shapes t) (kind ty) && is_lower name) (has_type (world t) f x integer) c.0 in
+        let a = and_parts (is_instance (shapes t) (kind ty)) (is_lower name) b.0 in
         after_weight t m f g s q.0.1 r [] (number_same here s x q.0 q.1) h (λ z.
         lands f (f ++ many (kind ty) ∷ []) g q.0.1 (bind name (no_places n.0) (width_in here (kind ty)) q.0.1) r []
         (bind_moved t m f q.0.1 (many (kind ty)) name (no_places n.0) (width_in here (kind ty)) [] z (none_stand t q.0.1.grown.instances (kind ty) n.0) (wide_is t here (kind ty) refl, a.0)) c.1 n.2)
@@ -123,8 +123,8 @@ module _ (t : Typed) (m : Module) where
     place_parts : (f : Frame) (level : ℕ) (e : Expr) (x : Make) → place_right site f level e x ≡ true → (k : Sort) × (many_at f level ≡ Some k) × (makes site f x k ≡ true)
     place_parts f level e x h = by (many_at f level) refl where
       by : (o : Option Sort) → many_at f level ≡ o → (k : Sort) × (many_at f level ≡ Some k) × (makes site f x k ≡ true)
-      by None is = let g = rw is at h in absurd (false≢true (both (has_type (world t) f e integer) false g).1)
-      by (Some k) is = let g = rw is at h in (k, is, (both (has_type (world t) f e integer) (makes site f x k) g).1)
+      by None is = let g = rw is at h in absurd (false≢true (and_parts (has_type (world t) f e integer) false g).1)
+      by (Some k) is = let g = rw is at h in (k, is, (and_parts (has_type (world t) f e integer) (makes site f x k) g).1)
 
     place_from_moved : (f : Frame) (s : State) (level : ℕ) (i : ℤ) (x : Make) (k : Sort) (r : State) → Fit t m f s → many_at f level ≡ Some k → makes site f x k ≡ true → place_from bodies here level i x s ≡ Ok r → Moved t m f s f r []
     place_from_moved f s level i x k r h there typed e =
@@ -151,8 +151,8 @@ module _ (t : Typed) (m : Module) where
     declare_good ty name x s r f g h typed e =
         let q = went (constant_in here x s) _ r e in
         let c = if_right_is (is_value (shapes t) (kind ty) && is_lower name && has_type (world t) f x (kind ty)) (f ++ one (kind ty) ∷ []) g typed in
-        let b = both (is_value (shapes t) (kind ty) && is_lower name) (has_type (world t) f x (kind ty)) c.0 in
-        let value = (both (is_value (shapes t) (kind ty)) (is_lower name) b.0).0 in
+        let b = and_parts (is_value (shapes t) (kind ty) && is_lower name) (has_type (world t) f x (kind ty)) c.0 in
+        let value = (and_parts (is_value (shapes t) (kind ty)) (is_lower name) b.0).0 in
         let v = held_as (kind ty) q.0.0 in
         after_weight t m f g s q.0.1 r [] (constant_same here s x q.0 q.1) h (λ z.
         lands f (f ++ one (kind ty) ∷ []) g q.0.1 (bind name v 0 q.0.1) r []
@@ -197,7 +197,7 @@ module _ (t : Typed) (m : Module) where
     rule_from_moved f s r n (Some source) h typed e =
         let q = went (named_rule place source.name s) _ r e in
         let name = went (new_name path source.name s.scope.elements) _ q.0 q.1 in
-        let is : (name.0.0, with_elements name.0.1 s) ≡ q.0 = ok_is (name.0.0, with_elements name.0.1 s) q.0 name.2 in
+        let is : (name.0.0, with_elements name.0.1 s) ≡ q.0 = same_ok (name.0.0, with_elements name.0.1 s) q.0 name.2 in
         let c = passed (nat_lt q.0.1.grown.rules _) _ _ r q.2 in
         let w = went (weight_of place source q.0.1) _ r c.1 in
         let there = subst (λ (z : List ℕ × State). ◌≡◌ {A = Result State Refused} (Ok (with_rule z.0 n (first + z.1.grown.rules) w.0 z.1)) (Ok r)) (sym is) w.2 in
@@ -220,7 +220,7 @@ module _ (t : Typed) (m : Module) where
         let names = went (take_name path x.name s.scope.elements) _ r e in
         let level = went (countable (length s.scope.bindings)) _ r names.2 in
         let long = counted_is (length s.scope.bindings) level.0 level.1 in
-        record { names = names.0; is = sym (ok_is (with_level n level.0 (with_elements names.0 s)) r level.2) ∙ ap (λ (k : ℕ). with_level n k (with_elements names.0 s)) (sym long) }
+        record { names = names.0; is = sym (same_ok (with_level n level.0 (with_elements names.0 s)) r level.2) ∙ ap (λ (k : ℕ). with_level n k (with_elements names.0 s)) (sym long) }
 
     pub method_met : (s r : State) (n : ℕ) → method place n s ≡ Ok r → MethodMet s r n
     unfolding method

@@ -2,6 +2,8 @@
 -- its rules agree with their sources.
 use Rattle.std.proofs.Common.{◌≡◌, ◌∙◌, ℕ, true, List, [], ◌∷◌, ◌++◌, length, take, Some, Ok, refl, sym, ap, subst, append-nil, append_assoc}
 use Rattle.std.specs.Prelude.{slice_get}
+use Rattle.bsv_lemmas.proofs.Choices.{same_ok}
+use Rattle.bsv_lemmas.proofs.Lists.{left_empty, right_empty}
 use Rattle.bsv_fail.specs.Given.{◌>>=◌}
 use Rattle.bsv_types.specs.declared.modules.Module.{Module}
 use Rattle.bsv_types.specs.declared.typed.Typed.{Typed}
@@ -14,15 +16,7 @@ use Rattle.bsv_elab.specs.declared.state.State.{State}
 use Rattle.bsv_elab.specs.Statics.{Builds, weigh, at_weight, bind, binding, with_binding, cut, inside}
 use Rattle.bsv_elab.proofs.FittingTrees.{RulesAgree, Grew, grew_none, grew_more}
 use Rattle.bsv_elab.proofs.FittingScopes.{fit_length, fit_more, fit_put, fit_cut, AllWide, Wide, wide_more, wide_cut}
-use Rattle.bsv_elab.proofs.FittingSteps.{went, ok_is, weigh_same, inner_is}
-
-none_first : (ns ms : List ℕ) → ns ++ ms ≡ [] → ns ≡ []
-none_first [] ms e = refl
-none_first (n ∷ ns) ms e = absurd cc
-
-none_second : (ns ms : List ℕ) → ns ++ ms ≡ [] → ms ≡ []
-none_second [] ms e = e
-none_second (n ∷ ns) ms e = absurd cc
+use Rattle.bsv_elab.proofs.FittingSteps.{went, weigh_same, inner_is}
 
 module _ (t : Typed) (m : Module) where
   pub record Fit (f : Frame) (s : State) : Type 0 where
@@ -61,7 +55,7 @@ module _ (t : Typed) (m : Module) where
   }
 
   pub moved_both : (f g h : Frame) (s r q : State) (ns ms : List ℕ) → Moved f s g r ns → Moved g r h q ms → Moved f s h q (ns ++ ms)
-  moved_both f g h s r q ns ms a b = moved_more f g h s r q ns ms (ns ++ ms) (none_first ns ms) (none_second ns ms) a b
+  moved_both f g h s r q ns ms a b = moved_more f g h s r q ns ms (ns ++ ms) (left_empty ns ms) (right_empty ns ms) a b
 
   pub moved_again : (f g h : Frame) (s r q : State) (ns : List ℕ) → Moved f s g r ns → Moved g r h q ns → Moved f s h q ns
   moved_again f g h s r q ns a b = moved_more f g h s r q ns ns ns (λ e. e) (λ e. e) a b
@@ -134,7 +128,7 @@ module _ (t : Typed) (m : Module) where
   inside_good a x ns good s r f h typed e =
       let q = went (a s) _ r e in
       let g = inner_is x f typed in
-      subst (λ z. Moved f s f z ns) (ok_is (cut (length s.scope.bindings) q.0) r q.2) (cut_moved f g.0 s q.0 ns h (good s q.0 f g.0 h g.1 q.1))
+      subst (λ z. Moved f s f z ns) (same_ok (cut (length s.scope.bindings) q.0) r q.2) (cut_moved f g.0 s q.0 ns h (good s q.0 f g.0 h g.1 q.1))
 
   -- a part that is cut, where the typing is that of a block
   pub cut_good : (a : Builds) (x : Run) (ns : List ℕ) → PreservesInside a x ns → (s r : State) (f g : Frame) → Fit f s → (inner x f ≡ true) × (f ≡ g) → inside a s ≡ Ok r → Moved f s g r ns

@@ -1,6 +1,8 @@
 -- Parts of building taken apart; values of expressions change the weight alone.
 use Rattle.std.proofs.Common.{◌≡◌, ℕ, Bool, true, false, Option, Some, None, Result, Ok, Err, refl, sym, ap, subst}
-use Rattle.std.specs.Prelude.{ℤ, if◌then◌else◌}
+use Rattle.std.specs.Prelude.{ℤ}
+use Rattle.std.proofs.lemmas.Option.{same_Some}
+use Rattle.bsv_lemmas.proofs.Choices.{same_ok, passed}
 use Rattle.bsv_fail.specs.Given.{◌>>=◌}
 use Rattle.bsv_types.specs.declared.expressions.Expr.{Expr}
 use Rattle.bsv_types.specs.Expressions.{Frame}
@@ -15,26 +17,12 @@ pub went : {A B E : Type 0} (x : Result A E) (f : A → Result B E) (y : B) → 
 went (Ok a) f y e = (a, refl, e)
 went (Err z) f y e = absurd cc
 
-pub ok_is : {A E : Type 0} (x y : A) → ◌≡◌ {A = Result A E} (Ok x) (Ok y) → x ≡ y
-ok_is x y e = cc
-
-pub passed : {A E : Type 0} (c : Bool) (x : Result A E) (z : E) (y : A) → (if c then x else Err z) ≡ Ok y → (c ≡ true) × (x ≡ Ok y)
-passed true x z y e = (refl, e)
-passed false x z y e = absurd cc
-
-pub not_passed : {A E : Type 0} (c : Bool) (x : Result A E) (z : E) (y : A) → (if c then Err z else x) ≡ Ok y → (c ≡ false) × (x ≡ Ok y)
-not_passed true x z y e = absurd cc
-not_passed false x z y e = (refl, e)
-
 pub carried_is : {A : Type 0} (r : Result A Fault) (x : A) → carried r ≡ Ok x → r ≡ Ok x
-carried_is (Ok y) x e = ap Ok (ok_is y x e)
+carried_is (Ok y) x e = ap Ok (same_ok y x e)
 carried_is (Err z) x e = absurd cc
 
-pub some_is : {A : Type 0} (x y : A) → Some x ≡ Some y → x ≡ y
-some_is x y e = cc
-
 pub if_right_is : (b : Bool) (f g : Frame) → if_right b f ≡ Some g → (b ≡ true) × (f ≡ g)
-if_right_is true f g e = (refl, some_is f g e)
+if_right_is true f g e = (refl, same_Some f g e)
 if_right_is false f g e = absurd cc
 
 inner_of : (o : Option Frame) (f : Frame) → inner (λ g. o) f ≡ true → (g : Frame) × (o ≡ Some g)
@@ -46,7 +34,7 @@ inner_is r f e = inner_of (r f) f e
 
 pub counted_is : (n k : ℕ) → countable n ≡ Ok k → n ≡ k
 unfolding countable
-counted_is n k e = ok_is n k (passed _ (Ok n) _ k e).1
+counted_is n k e = same_ok n k (passed _ (Ok n) _ k e).1
 
 module _ (s : State) where
   -- the state with another weight
@@ -55,7 +43,7 @@ module _ (s : State) where
 
   pub weigh_same : (more : ℕ) (r : State) → weigh more s ≡ Ok r → Same r
   unfolding weigh
-  weigh_same more r e = let c = went (carried (tick (count s) more)) _ r e in (c.0.weight, sym (ok_is (at_weight c.0.weight s) r c.2))
+  weigh_same more r e = let c = went (carried (tick (count s) more)) _ r e in (c.0.weight, sym (same_ok (at_weight c.0.weight s) r c.2))
 
 module _ (here : Here) (s : State) where
   pub constant_same : (x : Expr) (r : Constant × State) → constant_in here x s ≡ Ok r → Same s r.1
@@ -63,18 +51,18 @@ module _ (here : Here) (s : State) where
   constant_same x r e =
       let a = went (carried_in here x s) _ r e in
       let c = went (known (static_fault here) a.0.0) _ r a.2 in
-      (a.0.1.count.weight, sym (ap (λ (q : Constant × State). q.1) (ok_is (c.0, at_weight a.0.1.count.weight s) r c.2)))
+      (a.0.1.count.weight, sym (ap (λ (q : Constant × State). q.1) (same_ok (c.0, at_weight a.0.1.count.weight s) r c.2)))
 
   pub number_same : (x : Expr) (r : ℤ × State) → number_in here x s ≡ Ok r → Same s r.1
   unfolding number_in
   number_same x r e =
       let a = went (constant_in here x s) _ r e in
       let c = went (as_number (static_fault here) a.0.0) _ r a.2 in
-      subst (Same s) (ap (λ (q : ℤ × State). q.1) (ok_is (c.0, a.0.1) r c.2)) (constant_same x a.0 a.1)
+      subst (Same s) (ap (λ (q : ℤ × State). q.1) (same_ok (c.0, a.0.1) r c.2)) (constant_same x a.0 a.1)
 
   pub truth_same : (x : Expr) (r : Bool × State) → truth_in here x s ≡ Ok r → Same s r.1
   unfolding truth_in
   truth_same x r e =
       let a = went (constant_in here x s) _ r e in
       let c = went (as_truth (static_fault here) a.0.0) _ r a.2 in
-      subst (Same s) (ap (λ (q : Bool × State). q.1) (ok_is (c.0, a.0.1) r c.2)) (constant_same x a.0 a.1)
+      subst (Same s) (ap (λ (q : Bool × State). q.1) (same_ok (c.0, a.0.1) r c.2)) (constant_same x a.0 a.1)

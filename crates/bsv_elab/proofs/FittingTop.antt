@@ -1,7 +1,8 @@
 -- The top is the first instance of a tree that is built, and every instance of a module agrees with its module.
-use Rattle.std.proofs.Common.{◌≡◌, ◌∙◌, ℕ, suc, ◌+◌, Bool, true, false, List, [], ◌∷◌, Some, Result, Ok, Err, refl, sym, ap, subst, arith}
+use Rattle.std.proofs.Common.{◌≡◌, ◌∙◌, ℕ, suc, ◌+◌, Bool, true, false, List, [], ◌∷◌, Some, Ok, refl, sym, ap, subst, arith}
 use Rattle.std.specs.Prelude.{slice_get, if◌then◌else◌}
 use Rattle.std.specs.Str.{bytes_eq}
+use Rattle.bsv_lemmas.proofs.Choices.{same_ok, err_never_ok}
 use Rattle.bsv_types.specs.declared.definitions.Param.{Param}
 use Rattle.bsv_types.specs.declared.modules.Module.{Module}
 use Rattle.bsv_types.specs.declared.typed.Typed.{Typed}
@@ -16,12 +17,9 @@ use Rattle.bsv_elab.specs.Making.{instance, with_instance, unbuilt, inner}
 use Rattle.bsv_elab.specs.Elements.{here_module, methods_of}
 use Rattle.bsv_elab.specs.Building.{is_top, top_from, first_rule_in, most_modules, outside, nothing_grown, methods_from, from_top, body_at, tree, carried_out, building}
 use Rattle.bsv_elab.proofs.FittingTrees.{Keeps, put_keeps, AllAgree, all_agree_kept, agrees_kept, agrees_at}
-use Rattle.bsv_elab.proofs.FittingSteps.{went, ok_is, counted_is}
+use Rattle.bsv_elab.proofs.FittingSteps.{went, counted_is}
 use Rattle.bsv_elab.proofs.FittingMade.{BodyMade, put_is}
 use Rattle.bsv_elab.proofs.FittingBodies.{bodies_right}
-
-refused_never : {A E : Type 0} (z : E) (y : A) → ◌≡◌ {A = Result A E} (Err z) (Ok y) → ⊥
-refused_never z y e = absurd cc
 
 -- ---- the module of the top
 
@@ -43,7 +41,7 @@ record TopAt (name : List ℕ) (ms : List Module) (first n : ℕ) : Type 0 where
   none : param_slots source.params ≡ []
 
 top_at : (name : List ℕ) (ms : List Module) (first n : ℕ) → top_from first name ms ≡ Ok n → TopAt name ms first n
-top_at name [] first n e = absurd (refused_never _ n e)
+top_at name [] first n e = absurd (err_never_ok _ n e)
 top_at name (m ∷ ms) first n e = here_or_later (is_top name m) refl e (top_at name ms (first + 1) n) where
   here_or_later : (b : Bool) → is_top name m ≡ b → (if b then countable first else top_from (first + 1) name ms) ≡ Ok n → (top_from (first + 1) name ms ≡ Ok n → TopAt name ms (first + 1) n) → TopAt name (m ∷ ms) first n
   here_or_later true is found later =
@@ -89,7 +87,7 @@ module _ (t : Typed) where
       let w = went (methods_from here d.0 d.0.grown.weight 0 (methods_of (here_module here))) _ r d.2 in
       let fits = subst (λ f. AllFit t start.instances f []) (sym none) tt in
       let b = bodies_right t most_modules first number [] (number ∷ []) source [] start d.0 there fits d.1 in
-      subst (λ (q : Done × ℕ). BodyMade t number start q.0) (ok_is (d.0, w.0) r w.2) b
+      subst (λ (q : Done × ℕ). BodyMade t number start q.0) (same_ok (d.0, w.0) r w.2) b
 
   pub built_rooted : (name : List ℕ) (h : Hierarchy) → building t name ≡ Ok h → Rooted h
   unfolding building
@@ -103,8 +101,8 @@ module _ (t : Typed) where
       let there = subst (λ (n : ℕ). slice_get t.modules n ≡ Some top.source) same top.there in
       let b = from_top_made number.0 first.0 top.source d.0 there top.none d.1 in
       let rooted = tree_rooted number.0 d.0.0 d.0.1 b in
-      let at = ok_is (number.0, d.0.0, d.0.1) r.0 d.2 in
-      subst Rooted (ok_is (tree t r.0.0 r.0.1 r.0.2) h r.2) (subst (λ (q : ℕ × Done × ℕ). Rooted (tree t q.0 q.1 q.2)) at rooted)
+      let at = same_ok (number.0, d.0.0, d.0.1) r.0 d.2 in
+      subst Rooted (same_ok (tree t r.0.0 r.0.1 r.0.2) h r.2) (subst (λ (q : ℕ × Done × ℕ). Rooted (tree t q.0 q.1 q.2)) at rooted)
 
   -- the fields of a tree
   pub top_is : (name : List ℕ) (h : Hierarchy) → building t name ≡ Ok h → (b : Built) × IsTop h.typed h.top h.instances b

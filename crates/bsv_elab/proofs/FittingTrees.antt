@@ -1,6 +1,7 @@
 -- What stands in a tree stands there too when more instances come behind it, or an instance of a module is built.
 use Rattle.std.proofs.Common.{◌≡◌, ◌∙◌, ℕ, zero, suc, List, [], ◌∷◌, ◌++◌, Option, Some, None, refl, sym, ap, subst, append-nil, append_assoc, ◌⊎◌, inl, inr}
 use Rattle.std.specs.Prelude.{take, slice_get}
+use Rattle.std.proofs.lemmas.Option.{same_Some}
 use Rattle.bsv_types.specs.declared.modules.Module.{Module}
 use Rattle.bsv_types.specs.declared.typed.Typed.{Typed}
 use Rattle.bsv_types.specs.Expressions.{Slot, one, many, Frame}
@@ -22,13 +23,10 @@ made_front [] more n what e = absurd cc
 made_front (i ∷ is) more zero what e = e
 made_front (i ∷ is) more (suc n) what e = made_front is more n what e
 
-some_made : (x y : Made) → Some x ≡ Some y → x ≡ y
-some_made x y e = cc
-
 -- an instance is put in the place of another one
 made_put : (is more : List Instance) (u i : Instance) (n : ℕ) (what : Made) → made_of (slice_get (is ++ u ∷ more) n) ≡ Some what
     → (made_of (slice_get (is ++ i ∷ more) n) ≡ Some what) ⊎ ((u.made ≡ what) × (made_of (slice_get (is ++ i ∷ more) n) ≡ Some i.made))
-made_put [] more u i zero what e = inr (some_made u.made what e, refl)
+made_put [] more u i zero what e = inr (same_Some u.made what e, refl)
 made_put [] more u i (suc n) what e = inl e
 made_put (x ∷ is) more u i zero what e = inl e
 made_put (x ∷ is) more u i (suc n) what e = made_put is more u i n what e
@@ -133,7 +131,7 @@ module _ (t : Typed) where
   -- one of them agrees
   pub agrees_at : (is xs : List Instance) (n : ℕ) (b : Built) → AllAgree is xs → made_of (slice_get xs n) ≡ Some (made.Module b) → Agrees t is b
   agrees_at is [] n b h e = absurd cc
-  agrees_at is (i ∷ xs) zero b h e = made_agrees is i.made (made.Module b) (some_made i.made (made.Module b) e) h.0
+  agrees_at is (i ∷ xs) zero b h e = made_agrees is i.made (made.Module b) (same_Some i.made (made.Module b) e) h.0
   agrees_at is (i ∷ xs) (suc n) b h e = agrees_at is xs n b h.1 e
 
   -- instances that agree come behind

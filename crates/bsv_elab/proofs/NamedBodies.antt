@@ -4,6 +4,9 @@ use Rattle.std.specs.Prelude.{◌==◌, slice_get}
 use Rattle.std.specs.List.{list_all}
 use Rattle.std.proofs.lemmas.Bool.{and_parts}
 use Rattle.std.proofs.lemmas.List.{map-append}
+use Rattle.std.proofs.lemmas.Option.{same_Some}
+use Rattle.bsv_lemmas.proofs.Choices.{same_ok}
+use Rattle.bsv_lemmas.proofs.Places.{passes_at}
 use Rattle.bsv_ast.specs.Names.{is_lower}
 use Rattle.bsv_fail.specs.Given.{◌>>=◌}
 use Rattle.bsv_types.specs.declared.modules.Method.{Method}
@@ -33,16 +36,17 @@ use Rattle.bsv_elab.specs.Making.{Bodies}
 use Rattle.bsv_elab.specs.Elements.{here_module, methods_of, method}
 use Rattle.bsv_elab.specs.Bodies.{Branched, run, stmt_step, branch_step, stmt}
 use Rattle.bsv_elab.specs.Building.{opening, done, body_of, body_at}
-use Rattle.bsv_elab.proofs.NamedLists.{some_is, ok_is, through, each_is, Found, in_first, in_second, found, is_in, names_differ}
+use Rattle.bsv_elab.proofs.NamedLists.{Found, in_first, in_second, found, is_in, names_differ}
 use Rattle.bsv_elab.proofs.NamedGroups.{StandsDirectly}
 use Rattle.bsv_elab.proofs.NamedMakes.{Kept, kept, Lows, Within, marks_both}
 use Rattle.bsv_elab.proofs.NamedStill.{weigh_still}
 use Rattle.bsv_elab.proofs.NamedMaking.{BodyMade, GoodBodies, LowParameters}
 use Rattle.bsv_elab.proofs.NamedElements.{method_took}
 use Rattle.bsv_elab.proofs.NamedStatements.{EachGood, run_good}
-use Rattle.bsv_elab.proofs.NamedKnot.{goes_on, body_good}
+use Rattle.bsv_elab.proofs.NamedKnot.{body_good}
 use Rattle.bsv_elab.proofs.PlacedCounts.{occurs, occurs_in, is_of, rule_counts}
 use Rattle.bsv_elab.proofs.PlacedMarks.{rules_within, marks_of_within}
+use Rattle.bsv_elab.proofs.FittingSteps.{went, inner_is}
 
 -- ---- what typing says of a module
 
@@ -88,9 +92,9 @@ module _ (bodies : Bodies) (here : Here) where
 
   split : (xs : List Builds) (a : Builds) (ys : List Builds) (s z : State) → run bodies here (xs ++ a ∷ ys) s ≡ Ok z → Split xs a ys s z
   unfolding run
-  split [] a ys s z e = let r = through (a s) _ z e in record { before = s; behind = r.0; first = refl; own = r.1; last = r.2 }
+  split [] a ys s z e = let r = went (a s) _ z e in record { before = s; behind = r.0; first = refl; own = r.1; last = r.2 }
   split (x ∷ xs) a ys s z e =
-      let r = through (x s) _ z e in
+      let r = went (x s) _ z e in
       let h = split xs a ys r.0 z r.2 in
       record { before = h.before; behind = h.behind; first = ap (λ q. q >>= run bodies here xs) r.1 ∙ h.first; own = h.own; last = h.last }
 
@@ -130,7 +134,7 @@ module _ (ms : List Module) (bodies : Bodies) (here : Here) (base : List (List �
       let first = run_good ms bodies here base xs goods.0 s p.before lows p.first in
       let second = goods.1.0 p.before p.behind first.lows p.own in
       let third = run_good ms bodies here base ys goods.1.1 p.behind z second.lows p.last in
-      let w = through (weigh 1 p.before) (method here number) p.behind (ap (λ (f : Builds). f p.before) (sym own) ∙ p.own) in
+      let w = went (weigh 1 p.before) (method here number) p.behind (ap (λ (f : Builds). f p.before) (sym own) ∙ p.own) in
       let still = weigh_still 1 p.before w.0 w.1 in
       let took = method_took here number m w.0 p.behind is w.2 in
       let front = first.makes in
@@ -147,7 +151,7 @@ module _ (ms : List Module) (bodies : Bodies) (here : Here) (base : List (List �
 module _ (ms : List Module) (w : World) (headers : List Header) (right : list_all (module_right w headers) ms ≡ true) where
   pub parameters_low : LowParameters ms
   parameters_low k m is =
-      let t = module_tests w headers m (each_is (module_right w headers) ms k m right is) in
+      let t = module_tests w headers m (passes_at (module_right w headers) ms k m right is) in
       (and_parts (list_all is_lower (param_names m.params)) (distinct (param_names m.params)) t.third).0
 
   module _ (bodies : Bodies) (good : GoodBodies ms bodies) (here : Here) (base : List (List ℕ)) (same : here.modules ≡ ms)
@@ -156,12 +160,12 @@ module _ (ms : List Module) (w : World) (headers : List Header) (right : list_al
     here_is = ap (λ (xs : List Module). slice_get xs here.within) (sym same) ∙ own
 
     tested : Tests (list_all of_module m.attributes) (lower_names (param_names m.params)) (numbers_right m) (inner (typed_body w headers m) (param_slots m.params))
-    tested = module_tests w headers m (each_is (module_right w headers) ms here.within m right here_is)
+    tested = module_tests w headers m (passes_at (module_right w headers) ms here.within m right here_is)
 
     all_each : EachGood ms bodies here base (map (stmt bodies here) m.body)
     all_each =
         let t = tested in
-        let goes = goes_on (typed_body w headers m) (param_slots m.params) t.last in
+        let goes = inner_is (typed_body w headers m) (param_slots m.params) t.last in
         body_good ms bodies here base (site_of w headers m) good parameters_low same path lower (Some m) own refl
         m.body (param_slots m.params) goes.0 goes.1
 
@@ -179,8 +183,8 @@ module _ (ms : List Module) (w : World) (headers : List Header) (right : list_al
 
     body_made : (bs : List Binding) (g : Grown) (d : Done) → Lows bs → body_of bodies here (Some m) bs g ≡ Ok d → BodyMade ms here base g d
     body_made bs g d lows e =
-        let z = through (run bodies here (map (stmt bodies here) m.body) (opening m bs g)) _ d e in
-        let k = through (marks_of m z.0.scope.rules) _ d z.2 in
+        let z = went (run bodies here (map (stmt bodies here) m.body) (opening m bs g)) _ d e in
+        let k = went (marks_of m z.0.scope.rules) _ d z.2 in
         let ran = run_good ms bodies here base (map (stmt bodies here) m.body) all_each (opening m bs g) z.0 lows z.1 in
         let made = ran.makes in
         let t = tested in
@@ -193,7 +197,7 @@ module _ (ms : List Module) (w : World) (headers : List Header) (right : list_al
         let of = is_of low high (λ p. occurs p made.rules + occurs_in p made.more) made.positions r.position (omega (arith, counts)) in
         record { above = omega (arith, of.0); below = of.1 } in
         let own_marks = marks_of_within here.first high m z.0.scope.rules k.0 (rules_within here.first high z.0.scope.rules each) t.second k.1 in
-        subst (BodyMade ms here base g) (ok_is (done here.within z.0 k.0) d k.2) (record {
+        subst (BodyMade ms here base g) (same_ok (done here.within z.0 k.0) d k.2) (record {
           last = kept z.0;
           makes = made;
           instances = refl;
@@ -206,7 +210,7 @@ module _ (ms : List Module) (w : World) (headers : List Header) (right : list_al
             rules = λ i j r q a b f. made.named.apart i j r q (ap (λ (rs : List BuiltRule). slice_get rs i) (sym made.rules_are) ∙ a)
                 (ap (λ (rs : List BuiltRule). slice_get rs j) (sym made.rules_are) ∙ b) f;
             apart = λ i number r source x at of is stands f.
-                let source_is : source ≡ m = some_is source m (sym of ∙ here_is) in
+                let source_is : source ≡ m = same_Some source m (sym of ∙ here_is) in
                 let is_here = subst (λ (y : Module). slice_get y.methods number ≡ Some x) source_is is in
                 let stands_here = subst (λ (y : Module). StandsDirectly y number) source_is stands in
                 body_apart bs g z.0 lows z.1 i number r x at is_here stands_here f;

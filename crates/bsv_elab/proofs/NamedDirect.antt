@@ -1,20 +1,20 @@
 -- Every method of a typed module stands directly in its body, and so no rule of a tree has the name of a method.
 use Rattle.std.proofs.Common.{◌≡◌, ℕ, List, map, Ok}
 use Rattle.std.proofs.lemmas.Option.{slice_get_within}
+use Rattle.bsv_lemmas.proofs.Places.{passes_at}
 use Rattle.bsv_types.specs.declared.typed.Typed.{Typed}
 use Rattle.bsv_types.specs.Modules.{header, module_right}
 use Rattle.bsv_design.specs.declared.tree.Built.{Built}
 use Rattle.bsv_design.specs.Trees.{Hierarchy, IsModuleAt, AreNamed, world}
 use Rattle.bsv_elab.specs.Building.{building}
 use Rattle.bsv_elab.proofs.Directly.{method_stands}
-use Rattle.bsv_elab.proofs.NamedLists.{each_is}
 use Rattle.bsv_elab.proofs.NamedBodies.{module_tests}
 use Rattle.bsv_elab.proofs.NamedTop.{modules_right}
 use Rattle.bsv_elab.proofs.NamedWhole.{AllDirect, named}
 
 pub all_direct : (t : Typed) → AllDirect t
 all_direct t k number m x is has =
-    let right = each_is (module_right (world t) (map header t.modules)) t.modules k m (modules_right t) is in
+    let right = passes_at (module_right (world t) (map header t.modules)) t.modules k m (modules_right t) is in
     let tests = module_tests (world t) (map header t.modules) m right in
     let stands = method_stands m tests.numbers number (slice_get_within m.methods number x has) in
     record { before = stands.before; statement = stands.own; after = stands.after; is = stands.body_is; out = stands.is_method }

@@ -4,6 +4,8 @@ use Rattle.std.specs.Prelude.{slice_get}
 use Rattle.std.proofs.lemmas.Bool.{both_ways, or_parts, or_left, or_right, eq-eqb}
 use Rattle.std.proofs.lemmas.List.{append_assoc, append_cancel_left, append-nil}
 use Rattle.std.proofs.lemmas.List.Folds.{list_any-append}
+use Rattle.std.proofs.lemmas.Option.{same_Some}
+use Rattle.bsv_lemmas.proofs.Lists.{same_head}
 use Rattle.bsv_ast.specs.Names.{is_lower}
 use Rattle.bsv_types.specs.declared.modules.Method.{Method}
 use Rattle.bsv_types.specs.declared.modules.Module.{Module}
@@ -16,7 +18,7 @@ use Rattle.bsv_design.specs.declared.tree.Made.TheVariants as made
 use Rattle.bsv_design.specs.Trees.{joined}
 use Rattle.bsv_design.proofs.Dotted.{AreLower, lower_parted, joined_same}
 use Rattle.bsv_elab.specs.Making.{is_around}
-use Rattle.bsv_elab.proofs.NamedLists.{heads, not_empty, ends, some_is, Found, in_first, in_second, found, only_one, none_there, is_in, Longer, fresh_before, taken_after}
+use Rattle.bsv_elab.proofs.NamedLists.{not_empty, ends, Found, in_first, in_second, found, only_one, none_there, is_in, Longer, fresh_before, taken_after}
 
 -- ---- the rules of an instance
 
@@ -79,7 +81,7 @@ same_name base a b c d i j u v r =
     let out = outer_is (base ++ u.name ∷ u.rest) i j u.lower u.path r in
     let whole = inner_is (base ++ v.name ∷ v.rest) i j v.lower v.path r in
     let joins = sym (append_assoc base (u.name ∷ u.rest) r.extra) ∙ ap (λ (z : List (List ℕ)). z ++ r.extra) (sym out) ∙ whole in
-    heads u.name v.name (u.rest ++ r.extra) v.rest (append_cancel_left base (u.name ∷ (u.rest ++ r.extra)) (v.name ∷ v.rest) joins)
+    same_head u.name v.name (u.rest ++ r.extra) v.rest (append_cancel_left base (u.name ∷ (u.rest ++ r.extra)) (v.name ∷ v.rest) joins)
 
 -- ---- nothing, and one group behind the other
 
@@ -190,8 +192,8 @@ module _ (ms : List Module) (names : List (List ℕ)) (around : List ℕ) (taken
   nest_by : (m n : ℕ) (i j : Instance) → slice_get (head ∷ inside) m ≡ Some i → slice_get (head ∷ inside) n ≡ Some j
       → (r : Related i j) → Fine m n i j r.extra
   nest_by zero zero i j e f r =
-      let left = some_is head i e in
-      let right = some_is head j f in
+      let left = same_Some head i e in
+      let right = same_Some head j f in
       record {
         one = λ z. refl;
         modules = λ b c is at same. self
@@ -205,7 +207,7 @@ module _ (ms : List Module) (names : List (List ℕ)) (around : List ℕ) (taken
             });
       }
   nest_by zero (suc n) i j e f r =
-      let left = some_is head i e in
+      let left = same_Some head i e in
       let from_head : Related head j = record
       { outer = r.outer; extra = r.extra; from = ap (λ (z : Instance). z.path) left ∙ r.from; to = r.to; lower = r.lower } in
       record {
@@ -213,7 +215,7 @@ module _ (ms : List Module) (names : List (List ℕ)) (around : List ℕ) (taken
         modules = λ b c is at same. absurd (other_module n j b c f at (ap (λ (z : Instance). z.made) left ∙ is) same);
       }
   nest_by (suc m) zero i j e f r =
-      let right = some_is head j f in
+      let right = same_Some head j f in
       let to_head : Related i head = record
       { outer = r.outer; extra = r.extra; from = r.from; to = ap (λ (z : Instance). z.path) right ∙ r.to; lower = r.lower } in
       absurd (in_head m i e to_head)

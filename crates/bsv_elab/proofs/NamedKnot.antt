@@ -25,24 +25,18 @@ use Rattle.bsv_elab.specs.Statics.{Here, Builds, weigh}
 use Rattle.bsv_elab.specs.Making.{Bodies, width_in}
 use Rattle.bsv_elab.specs.Elements.{rules_of, here_module}
 use Rattle.bsv_elab.specs.Bodies.{Branched, run, stmt_case, stmt_step, branch_step, stmt}
-use Rattle.bsv_elab.proofs.NamedLists.{through}
 use Rattle.bsv_elab.proofs.NamedMakes.{Good}
 use Rattle.bsv_elab.proofs.NamedStill.{weigh_still, truth_still, still_ran, ran_behind, inside_good}
 use Rattle.bsv_elab.proofs.NamedMaking.{GoodBodies, LowParameters}
 use Rattle.bsv_elab.proofs.NamedElements.{rule_good, method_good}
 use Rattle.bsv_elab.proofs.NamedStatements.{EachGood, GoodArm, EachArm, run_good, chain_good, set_good, looped_good, instance_good, array_good, place_good, declare_good}
+use Rattle.bsv_elab.proofs.FittingSteps.{went as through, inner_is}
 
 -- ---- what typing says
 
 right_is : (b : Bool) (frame next : Frame) → if_right b frame ≡ Some next → b ≡ true
 right_is true frame next e = refl
 right_is false frame next e = absurd cc
-
-pub goes_on : (x : Run) (frame : Frame) → inner x frame ≡ true → (next : Frame) × (x frame ≡ Some next)
-goes_on x frame h = by (x frame) refl where
-  by : (o : Option Frame) → x frame ≡ o → (next : Frame) × (x frame ≡ Some next)
-  by None is = let never = rw is at h in absurd cc
-  by (Some next) is = (next, is)
 
 -- one step behind the other
 record Went (x y : Run) (frame last : Frame) : Type 0 where
@@ -100,7 +94,7 @@ module _ (ms : List Module) (bodies : Bodies) (here : Here) (base : List (List �
   each_arm [] frame e = tt
   each_arm (x ∷ xs) frame e =
       let h = and_parts (inner (ran_branch x.0) frame) (all_inner (map ran_branch (map (λ (x : ArmChild). x.0) xs)) frame) e in
-      let next = goes_on (ran_branch x.0) frame h.0 in
+      let next = inner_is (ran_branch x.0) frame h.0 in
       (x.1 frame next.0 next.1, each_arm xs frame h.1)
 
   weighed_good : (x : ModuleStmt-F Builds (Branched bodies here)) → Good ms here base (stmt_case bodies here x)
@@ -158,7 +152,7 @@ module _ (ms : List Module) (bodies : Bodies) (here : Here) (base : List (List �
     layer (ModuleStmt-F.Assign level x) frame next e = weighed_good (ModuleStmt-F.Assign level x) (set_good ms bodies here base level x)
     layer (ModuleStmt-F.Block xs) frame next e =
         let a = right_is (inner (typed.run (map ran (map (λ (x : Child). x.0) xs))) frame) frame next e in
-        let h = goes_on (typed.run (map ran (map (λ (x : Child). x.0) xs))) frame a in
+        let h = inner_is (typed.run (map ran (map (λ (x : Child). x.0) xs))) frame a in
         let own_runs = map built (map (λ (x : Child). x.0) xs) in
         weighed_good (ModuleStmt-F.Block own_runs) (inside_good ms here base (run bodies here own_runs)
         (run_good ms bodies here base own_runs (each_good xs frame h.0 h.1)))
@@ -170,13 +164,13 @@ module _ (ms : List Module) (bodies : Bodies) (here : Here) (base : List (List �
     layer (ModuleStmt-F.If bs (Some x)) frame next e =
         let a = right_is (all_inner (map ran_branch (map (λ (x : ArmChild). x.0) bs)) frame && inner (ran x.0) frame) frame next e in
         let b = and_parts (all_inner (map ran_branch (map (λ (x : ArmChild). x.0) bs)) frame) (inner (ran x.0) frame) a in
-        let last = goes_on (ran x.0) frame b.1 in
+        let last = inner_is (ran x.0) frame b.1 in
         let own_arms = map built_branch (map (λ (x : ArmChild). x.0) bs) in
         weighed_good (ModuleStmt-F.If own_arms (Some (built x.0)))
         (chain_good ms bodies here base (Some (built x.0)) own_arms (x.1 frame last.0 last.1) (each_arm bs frame b.0))
     layer (ModuleStmt-F.For h x) frame next e =
         let a = right_is (inner (λ f. and_then (in_loop site.world 0 h f) (ran x.0)) frame) frame next e in
-        let g = goes_on (λ f. and_then (in_loop site.world 0 h f) (ran x.0)) frame a in
+        let g = inner_is (λ f. and_then (in_loop site.world 0 h f) (ran x.0)) frame a in
         let w = went (in_loop site.world 0 h) (ran x.0) frame g.0 g.1 in
         weighed_good (ModuleStmt-F.For h (built x.0))
         (looped_good ms bodies here base h (built x.0) (enters site.world h frame w.next w.first) (x.1 w.next g.0 w.rest))

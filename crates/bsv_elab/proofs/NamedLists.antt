@@ -1,21 +1,15 @@
 -- Elements of lists one behind the other, and names that are taken.
-use Rattle.std.proofs.Common.{◌≡◌, ◌∙◌, ℕ, zero, suc, ◌+◌, Bool, true, false, ◌||◌, List, [], ◌∷◌, ◌++◌, length, Option, Some, Result, Ok, Err, refl, sym, ap, subst, arith, if◌then◌else◌}
+use Rattle.std.proofs.Common.{◌≡◌, ◌∙◌, ℕ, zero, suc, ◌+◌, Bool, true, false, ◌||◌, List, [], ◌∷◌, ◌++◌, length, Option, Some, Result, Ok, refl, sym, ap, subst, arith, if◌then◌else◌}
 use Rattle.std.specs.Prelude.{slice_get}
-use Rattle.std.specs.List.{list_all, list_any}
+use Rattle.std.specs.List.{list_any}
 use Rattle.std.specs.Str.{bytes_eq}
-use Rattle.std.proofs.lemmas.Bool.{both_ways, and_parts, or_parts, or_left, or_right}
+use Rattle.std.proofs.lemmas.Bool.{both_ways, or_parts, or_left, or_right}
 use Rattle.std.proofs.lemmas.List.{append-nil, append_assoc, append_cancel_left}
 use Rattle.std.proofs.lemmas.List.Folds.{list_any-append}
 use Rattle.std.proofs.lemmas.Slice.Eq.{bytes_eq-Decides}
-use Rattle.bsv_fail.specs.Given.{◌>>=◌}
+use Rattle.std.proofs.lemmas.Option.{same_Some}
 
 -- ---- steps that may be refused
-
-pub ok_is : {A E : Type 0} (x y : A) → ◌≡◌ {A = Result A E} (Ok x) (Ok y) → x ≡ y
-ok_is x y e = cc
-
-pub heads : {A : Type 0} (a b : A) (xs ys : List A) → a ∷ xs ≡ b ∷ ys → a ≡ b
-heads a b xs ys e = cc
 
 pub not_empty : {A : Type 0} (a : A) (xs : List A) → a ∷ xs ≡ [] → ⊥
 not_empty a xs e = cc
@@ -23,21 +17,6 @@ not_empty a xs e = cc
 -- a list is not longer than itself
 pub ends : {A : Type 0} (xs ys : List A) → xs ≡ xs ++ ys → ys ≡ []
 ends xs ys e = append_cancel_left xs ys [] (sym e ∙ sym (append-nil xs))
-
-pub some_is : {A : Type 0} (x y : A) → Some x ≡ Some y → x ≡ y
-some_is x y e = cc
-
-pub through : {A B E : Type 0} (x : Result A E) (f : A → Result B E) (b : B) → (x >>= f) ≡ Ok b → (a : A) × (x ≡ Ok a) × (f a ≡ Ok b)
-through (Ok a) f b e = (a, refl, e)
-through (Err r) f b e = absurd cc
-
-pub passed : {A E : Type 0} (c : Bool) (x : Result A E) (r : E) (b : A) → (if c then x else Err r) ≡ Ok b → (c ≡ true) × (x ≡ Ok b)
-passed true x r b e = (refl, e)
-passed false x r b e = absurd cc
-
-pub free : {A E : Type 0} (c : Bool) (x : Result A E) (r : E) (b : A) → (if c then Err r else x) ≡ Ok b → (c ≡ false) × (x ≡ Ok b)
-free true x r b e = absurd cc
-free false x r b e = (refl, e)
 
 pub chosen : {A E : Type 0} (c : Bool) (x y : Result A E) (b : A) (P : Type 0) → (x ≡ Ok b → P) → (y ≡ Ok b → P) → (if c then x else y) ≡ Ok b → P
 chosen true x y b P f g e = f e
@@ -59,16 +38,11 @@ found (y ∷ xs) ys zero x e = in_first e
 found (y ∷ xs) ys (suc n) x e = found_later y xs ys n x (found xs ys n x e)
 
 pub only_one : {A : Type 0} (y : A) (n : ℕ) (x : A) → slice_get (y ∷ []) n ≡ Some x → (n ≡ 0) × (y ≡ x)
-only_one y zero x e = (refl, some_is y x e)
+only_one y zero x e = (refl, same_Some y x e)
 only_one y (suc n) x e = absurd cc
 
 pub none_there : {A : Type 0} (n : ℕ) (x : A) → ◌≡◌ {A = Option A} (slice_get [] n) (Some x) → ⊥
 none_there n x e = cc
-
-pub each_is : {A : Type 0} (p : A → Bool) (xs : List A) (k : ℕ) (x : A) → list_all p xs ≡ true → slice_get xs k ≡ Some x → p x ≡ true
-each_is p [] k x all is = absurd cc
-each_is p (y ∷ ys) zero x all is = subst (λ z. p z ≡ true) (some_is y x is) (and_parts (p y) (list_all p ys) all).0
-each_is p (y ∷ ys) (suc k) x all is = each_is p ys k x (and_parts (p y) (list_all p ys) all).1 is
 
 -- ---- names that are taken
 

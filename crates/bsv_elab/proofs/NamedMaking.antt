@@ -4,6 +4,7 @@ use Rattle.std.specs.Prelude.{nat_lt, slice_get}
 use Rattle.std.specs.List.{list_all}
 use Rattle.std.proofs.lemmas.Bool.{lt-ltb, cond-true, and_parts, and_from}
 use Rattle.std.proofs.lemmas.List.{append_assoc, append-nil, set_at, length-append}
+use Rattle.bsv_lemmas.proofs.Choices.{same_ok, passed, not_refused}
 use Rattle.bsv_ast.specs.Names.{is_lower}
 use Rattle.bsv_types.specs.declared.definitions.Param.{Param}
 use Rattle.bsv_types.specs.declared.makers.GivenMaker.{GivenMaker}
@@ -32,7 +33,7 @@ use Rattle.bsv_elab.specs.Statics.{Here, static_fault, countable, put_at}
 use Rattle.bsv_elab.specs.MadeKinds.{kind_of}
 use Rattle.bsv_elab.specs.Attributes.{no_marks}
 use Rattle.bsv_elab.specs.Making.{instance, next_number, with_instance, with_primitive, named_instance, depth_of, at_least_one, start_of, within_limits, primitive, Bodies, is_around, unbuilt, parameters, params_of, inner, behind, child, made_by, make, arguments}
-use Rattle.bsv_elab.proofs.NamedLists.{ok_is, through, passed, free, longer_none}
+use Rattle.bsv_elab.proofs.NamedLists.{longer_none}
 use Rattle.bsv_elab.proofs.NamedTaken.{takes_longer, takes_taken, NewName, new_name_is}
 use Rattle.bsv_elab.proofs.NamedGroups.{BuiltNamed, Group, group_one}
 use Rattle.bsv_elab.proofs.NamedNests.{group_nest}
@@ -40,6 +41,7 @@ use Rattle.bsv_elab.proofs.NamedRules.{rules_none}
 use Rattle.bsv_elab.proofs.PlacedCounts.{occurs, occurs_in, fills_none, fills_same}
 use Rattle.bsv_elab.proofs.NamedMakes.{Kept, kept, Lows, MarksWithin, marks_more, marks_both, Makes}
 use Rattle.bsv_elab.proofs.NamedStill.{arguments_still}
+use Rattle.bsv_elab.proofs.FittingSteps.{went}
 
 -- ---- bodies
 
@@ -91,8 +93,8 @@ NameFound here name s r = (q : List ℕ × Named) × NewName name s.scope.instan
 named_instance_is : (here : Here) (name : List ℕ) (s : State) (r : List ℕ × State) → named_instance here name s ≡ Ok r → NameFound here name s r
 unfolding named_instance
 named_instance_is here name s r e =
-    let q = through (new_name here.path name s.scope.instances) _ r e in
-    (q.0, new_name_is here.path name s.scope.instances q.0 q.1, ok_is (with_dot here.path q.0.0, with_names q.0.1 s) r q.2)
+    let q = went (new_name here.path name s.scope.instances) _ r e in
+    (q.0, new_name_is here.path name s.scope.instances q.0 q.1, same_ok (with_dot here.path q.0.0, with_names q.0.1 s) r q.2)
 
 -- ---- one instance more
 
@@ -141,20 +143,20 @@ module _ (ms : List Module) (here : Here) (base : List (List ℕ)) where
       → AreLower base → is_lower name ≡ true → primitive here bits name g xs s ≡ Ok r → One s r
   unfolding primitive
   primitive_made bits name g xs s r path lower low e =
-      let d = through (at_least_one (static_fault here) (depth_of g xs)) _ r e in
-      let n = through (named_instance here name s) _ r d.2 in
-      let k = through (within_limits d.0 n.0.1.grown) _ r n.2 in
+      let d = went (at_least_one (static_fault here) (depth_of g xs)) _ r e in
+      let n = went (named_instance here name s) _ r d.2 in
+      let k = went (within_limits d.0 n.0.1.grown) _ r n.2 in
       let found = named_instance_is here name s n.0 n.1 in
       let m = made.Primitive (made_part g) (kind_of g bits d.0 (start_of xs)) in
       let one = primitive_one s name found.0 k.0 m path lower low (λ b is. cc) refl (λ p. refl) found.1 in
-      subst (One s) {x = primitive_result k.0 m n.0} (ok_is (primitive_result k.0 m n.0) r k.2)
+      subst (One s) {x = primitive_result k.0 m n.0} (same_ok (primitive_result k.0 m n.0) r k.2)
       (subst (λ z. One s (primitive_result k.0 m z)) found.2 one)
 
 -- ---- one of a module
 
 countable_is : (n m : ℕ) → countable n ≡ Ok m → m ≡ n
 unfolding countable
-countable_is n m e = sym (ok_is n m (passed (nat_lt n 4294967296) (Ok n) (refused.Carried fault.Weight) m e).1)
+countable_is n m e = sym (same_ok n m (passed (nat_lt n 4294967296) (Ok n) (refused.Carried fault.Weight) m e).1)
 
 pub put_there : (xs ys : List Instance) (i j : Instance) (n : ℕ) → n ≡ length xs → put_at n j ((xs ++ i ∷ []) ++ ys) ≡ xs ++ j ∷ ys
 unfolding put_at
@@ -221,10 +223,10 @@ module _ (ms : List Module) (here : Here) (base : List (List ℕ)) where
       → here.path ≡ joined base → AreLower base → is_lower name ≡ true → child bodies here name k xs s ≡ Ok r → One ms here base s r
   unfolding child
   child_made bodies name k xs s r good params same path lower low e =
-      let a = free (is_around k here.around) _ (refused.Recursion k) r e in
-      let n = through (named_instance here name s) _ r a.1 in
-      let c = through (next_number n.0.1.grown) _ r n.2 in
-      let d = through (bodies (inner here k n.0.0) (parameters (params_of (slice_get here.modules k)) xs) (begun k n.0))
+      let a = not_refused (is_around k here.around) _ (refused.Recursion k) r e in
+      let n = went (named_instance here name s) _ r a.1 in
+      let c = went (next_number n.0.1.grown) _ r n.2 in
+      let d = went (bodies (inner here k n.0.0) (parameters (params_of (slice_get here.modules k)) xs) (begun k n.0))
       (λ z. Ok (child_result c.0 z n.0)) r c.2 in
       let found = named_instance_is here name s n.0 n.1 in
       let q = found.0 in
@@ -238,7 +240,7 @@ module _ (ms : List Module) (here : Here) (base : List (List ℕ)) where
       (begun k (with_dot here.path q.0, with_names q.1 s)) d.0 same path_there own lows ran in
       let number = countable_is (length n.0.1.grown.instances) c.0 c.1 ∙ ap (λ (z : List ℕ × State). length z.1.grown.instances) back in
       let one = child_one s name k q c.0 d.0 path lower low a.0 number found.1 made_there in
-      subst (One ms here base s) {x = child_result c.0 d.0 n.0} (ok_is (child_result c.0 d.0 n.0) r d.2)
+      subst (One ms here base s) {x = child_result c.0 d.0 n.0} (same_ok (child_result c.0 d.0 n.0) r d.2)
       (subst (λ z. One ms here base s (child_result c.0 d.0 z)) found.2 one)
 
   made_by_made : (bodies : Bodies) (bits : ℕ) (name : List ℕ) (x : Maker) (xs : List Static) (s : State) (r : ℕ × State)
@@ -255,7 +257,7 @@ module _ (ms : List Module) (here : Here) (base : List (List ℕ)) where
       → here.path ≡ joined base → AreLower base → is_lower name ≡ true → make bodies here bits name m s ≡ Ok r → One ms here base s r
   unfolding make
   make_made bodies bits name m s r good params same path lower low e =
-      let a = through (arguments here m.arguments s) _ r e in
+      let a = went (arguments here m.arguments s) _ r e in
       let still = arguments_still here m.arguments s a.0 a.1 in
       let one = made_by_made bodies bits name m.maker a.0.0 a.0.1 r good params same path lower low a.2 in
       record { makes = subst (λ k. Makes ms here base k (kept r.1)) still.same one.makes; bindings = one.bindings ∙ still.bindings }

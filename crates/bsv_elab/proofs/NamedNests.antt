@@ -2,6 +2,7 @@
 use Rattle.std.proofs.Common.{◌≡◌, ◌∙◌, ℕ, zero, suc, true, false, List, [], ◌∷◌, ◌++◌, Some, ap, subst}
 use Rattle.std.specs.Prelude.{slice_get}
 use Rattle.std.proofs.lemmas.List.{append_assoc}
+use Rattle.std.proofs.lemmas.Option.{same_Some}
 use Rattle.bsv_types.specs.declared.modules.Module.{Module}
 use Rattle.bsv_design.specs.declared.tree.Built.{Built}
 use Rattle.bsv_design.specs.declared.tree.Instance.{Instance}
@@ -9,7 +10,7 @@ use Rattle.bsv_design.specs.declared.tree.Made.TheVariants as made
 use Rattle.bsv_design.specs.Trees.{joined}
 use Rattle.bsv_design.proofs.Dotted.{AreLower}
 use Rattle.bsv_elab.specs.Making.{is_around}
-use Rattle.bsv_elab.proofs.NamedLists.{some_is, is_in}
+use Rattle.bsv_elab.proofs.NamedLists.{is_in}
 use Rattle.bsv_elab.proofs.NamedGroups.{BuiltNamed, Under, Group, around_front, nest_fine}
 
 module _ (ms : List Module) (base : List (List ℕ)) (around : List ℕ) (before after taken : List (List ℕ)) (name : List ℕ) (head : Instance)
@@ -41,12 +42,12 @@ module _ (ms : List Module) (base : List (List ℕ)) (around : List ℕ) (before
       }
 
   nest_under : Nest → (n : ℕ) (i : Instance) → slice_get (head ∷ inside) n ≡ Some i → Under base before after i
-  nest_under h zero i e = subst (Under base before after) (some_is head i e) (under_head h)
+  nest_under h zero i e = subst (Under base before after) (same_Some head i e) (under_head h)
   nest_under h (suc n) i e = let g = h.group in under_inside h i (g.under n i e)
 
   same_built : Nest → (i : Instance) (b : Built) → slice_get (head ∷ inside) zero ≡ Some i → i.made ≡ made.Module b → built ≡ b
   same_built h i b e is =
-      let first = ap (λ (z : Instance). z.made) (some_is head i e) in
+      let first = ap (λ (z : Instance). z.made) (same_Some head i e) in
       let own = h.is_built in
       cc
 

@@ -3,6 +3,7 @@ use Rattle.std.proofs.Common.{◌≡◌, ◌∙◌, ℕ, ◌+◌, true, ◌&&◌
 use Rattle.std.specs.Prelude.{nat_lt, slice_get}
 use Rattle.std.specs.List.{list_all}
 use Rattle.std.proofs.lemmas.Bool.{and_parts}
+use Rattle.bsv_lemmas.proofs.Choices.{same_ok, passed}
 use Rattle.bsv_types.specs.declared.typed.Typed.{Typed}
 use Rattle.bsv_types.specs.Modules.{header, module_right}
 use Rattle.bsv_types.specs.Programs.{all_countable, names_right, shapes_right, each_at, function_right}
@@ -16,12 +17,12 @@ use Rattle.bsv_elab.specs.Statics.{Here, put_at}
 use Rattle.bsv_elab.specs.Making.{instance, unbuilt, inner}
 use Rattle.bsv_elab.specs.Elements.{most_elements, here_module, methods_of}
 use Rattle.bsv_elab.specs.Building.{body_at, most_modules, top_from, first_rule, first_rule_in, outside, begun, methods_from, tree, from_top, carried_out, building}
-use Rattle.bsv_elab.proofs.NamedLists.{ok_is, through, passed}
 use Rattle.bsv_elab.proofs.NamedGroups.{BuiltNamed, Group}
 use Rattle.bsv_elab.proofs.NamedMakes.{MarksWithin}
 use Rattle.bsv_elab.proofs.NamedMaking.{BodyMade, put_there}
 use Rattle.bsv_elab.proofs.NamedBodies.{body_at_good}
 use Rattle.bsv_elab.proofs.PlacedCounts.{occurs, occurs_in, Fills, fills_same}
+use Rattle.bsv_elab.proofs.FittingSteps.{went}
 
 pub modules_right : (t : Typed) → list_all (module_right (world t) (map header t.modules)) t.modules ≡ true
 modules_right t = (and_parts
@@ -31,7 +32,7 @@ modules_right t = (and_parts
 
 first_rule_is : (n first : ℕ) → first_rule n ≡ Ok first → first ≡ n
 unfolding first_rule
-first_rule_is n first e = sym (ok_is n first (passed (nat_lt (n + most_elements) 4294967296) (Ok n) (refused.Carried fault.Weight) first e).1)
+first_rule_is n first e = sym (same_ok n first (passed (nat_lt (n + most_elements) 4294967296) (Ok n) (refused.Carried fault.Weight) first e).1)
 
 abbrev top_here : Typed → ℕ → ℕ → Here
 top_here t number first = inner (outside t number first) number []
@@ -54,18 +55,18 @@ tree_is t n d weight q r h e f g = ap (λ (z : Done × ℕ). tree t n z.0 z.1) e
 pub whole : (t : Typed) (name : List ℕ) (h : Hierarchy) → building t name ≡ Ok h → Whole t h
 unfolding building
 whole t name h e =
-    let r = through (carried_out t name) _ h e in
-    let n = through (top_from 0 name t.modules) _ r.0 r.1 in
-    let f = through (first_rule_in t n.0) _ r.0 n.2 in
-    let q = through (from_top (body_at most_modules) (outside t n.0 f.0)) _ r.0 f.2 in
-    let b = through (body_at most_modules (top_here t n.0 f.0) [] (begun n.0)) _ q.0 q.1 in
-    let w = through (methods_from (outside t n.0 f.0) b.0 b.0.grown.weight 0 (methods_of (here_module (outside t n.0 f.0)))) _ q.0 b.2 in
+    let r = went (carried_out t name) _ h e in
+    let n = went (top_from 0 name t.modules) _ r.0 r.1 in
+    let f = went (first_rule_in t n.0) _ r.0 n.2 in
+    let q = went (from_top (body_at most_modules) (outside t n.0 f.0)) _ r.0 f.2 in
+    let b = went (body_at most_modules (top_here t n.0 f.0) [] (begun n.0)) _ q.0 q.1 in
+    let w = went (methods_from (outside t n.0 f.0) b.0 b.0.grown.weight 0 (methods_of (here_module (outside t n.0 f.0)))) _ q.0 b.2 in
     record {
       number = n.0;
       first = f.0;
       done = b.0;
       weight = w.0;
-      is = tree_is t n.0 b.0 w.0 q.0 r.0 h (ok_is (b.0, w.0) q.0 w.2) (ok_is (n.0, q.0.0, q.0.1) r.0 q.2) (ok_is (tree t r.0.0 r.0.1 r.0.2) h r.2);
+      is = tree_is t n.0 b.0 w.0 q.0 r.0 h (same_ok (b.0, w.0) q.0 w.2) (same_ok (n.0, q.0.0, q.0.1) r.0 q.2) (same_ok (tree t r.0.0 r.0.1 r.0.2) h r.2);
       first_is = first_rule_is (length (methods_of (slice_get t.modules n.0))) f.0 f.1;
       body = body_at_good t.modules (world t) (map header t.modules) (modules_right t) most_modules (top_here t n.0 f.0) [] []
           (begun n.0) b.0 refl refl refl refl b.1;

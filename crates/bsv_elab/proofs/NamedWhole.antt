@@ -2,6 +2,7 @@
 use Rattle.std.proofs.Common.{◌≡◌, ◌∙◌, ℕ, zero, suc, List, [], ◌∷◌, Option, Some, None, Ok, refl, sym, ap, subst}
 use Rattle.std.specs.Prelude.{slice_get, IsTrue}
 use Rattle.std.proofs.lemmas.List.{append-nil}
+use Rattle.std.proofs.lemmas.Option.{same_Some}
 use Rattle.bsv_ast.specs.Names.{is_lower}
 use Rattle.bsv_types.specs.declared.modules.Method.{Method}
 use Rattle.bsv_types.specs.declared.modules.Module.{Module}
@@ -15,7 +16,7 @@ use Rattle.bsv_design.specs.Trees.{Hierarchy, IsModuleAt, IsPath, IsInside, AreN
 use Rattle.bsv_design.proofs.Dotted.{AreLower}
 use Rattle.bsv_elab.specs.declared.state.Done.{Done}
 use Rattle.bsv_elab.specs.Building.{building}
-use Rattle.bsv_elab.proofs.NamedLists.{not_empty, some_is, none_there}
+use Rattle.bsv_elab.proofs.NamedLists.{not_empty, none_there}
 use Rattle.bsv_elab.proofs.NamedGroups.{StandsDirectly, BuiltNamed, Related, AllFine, nest_fine}
 use Rattle.bsv_elab.proofs.NamedTop.{Whole, whole, top_of, Parts, parts}
 
@@ -34,14 +35,14 @@ pub module_there : (is : List Instance) (n : ℕ) (b : Built) → IsModuleAt is 
 module_there is n b e = by (slice_get is n) refl e where
   by : (o : Option Instance) → slice_get is n ≡ o → made_of o ≡ Some (made.Module b) → ModuleThere is n b
   by None at f = absurd cc
-  by (Some i) at f = record { instance = i; at = at; made_is = some_is i.made (made.Module b) f }
+  by (Some i) at f = record { instance = i; at = at; made_is = same_Some i.made (made.Module b) f }
 
 module _ (t : Typed) (number first : ℕ) (d : Done) (p : Parts t number first d) where
   abbrev line : List Instance
   line = top_of d ∷ p.more
 
   path_of_one : (n : ℕ) (i : Instance) → slice_get line n ≡ Some i → IsPath i.path
-  path_of_one zero i e = record { names = []; lower = refl; is = ap (λ (z : Instance). z.path) (sym (some_is (top_of d) i e)) }
+  path_of_one zero i e = record { names = []; lower = refl; is = ap (λ (z : Instance). z.path) (sym (same_Some (top_of d) i e)) }
   path_of_one (suc n) i e = let g = p.group in let u = g.under n i e in record { names = u.name ∷ u.rest; lower = u.lower; is = u.path }
 
   all_fine : AllFine line
@@ -70,7 +71,7 @@ module _ (t : Typed) (number first : ℕ) (d : Done) (p : Parts t number first d
 
   named_one : (n : ℕ) (i : Instance) (b : Built) → slice_get line n ≡ Some i → i.made ≡ made.Module b → BuiltNamed t.modules b
   named_one zero i b e is =
-      let first = ap (λ (z : Instance). z.made) (some_is (top_of d) i e) in
+      let first = ap (λ (z : Instance). z.made) (same_Some (top_of d) i e) in
       let same : d.built ≡ b = cc in
       subst (BuiltNamed t.modules) same p.named
   named_one (suc n) i b e is = let g = p.group in g.named n i b e is

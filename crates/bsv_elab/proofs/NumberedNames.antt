@@ -5,8 +5,9 @@ use Rattle.std.specs.Char.{is_ascii_digit}
 use Rattle.std.specs.List.{list_all, list_any}
 use Rattle.std.proofs.lemmas.Bool.{false≢true, and_parts, and_from, or_left, or_right}
 use Rattle.std.proofs.lemmas.Fmt.{decimal_nonempty}
+use Rattle.bsv_lemmas.proofs.Lists.{all_joined}
 use Rattle.bsv_ast.specs.Names.{grammar_words, reserved_words, begins_name, is_word, is_lower}
-use Rattle.bsv_ast.proofs.Names.{lower_parts, lower_from, no_keyword, all_both, decimal_digits, digits_words}
+use Rattle.bsv_ast.proofs.Names.{lower_parts, lower_from, no_keyword, decimal_digits, digits_words}
 
 -- ---- a digit after a `_`
 
@@ -41,7 +42,7 @@ with_digits (b ∷ name) (d ∷ ds) digits some h =
     let first = and_parts (is_ascii_digit d) (list_all is_ascii_digit ds) digits in
     let words : list_all is_word (95 ∷ d ∷ ds) ≡ true = digits_words (d ∷ ds) digits in
     lower_from ((b ∷ name) ++ 95 ∷ d ∷ ds) (record {
-      named = and_from (begins_name b) (list_all is_word (name ++ 95 ∷ d ∷ ds)) named.0 (all_both is_word name (95 ∷ d ∷ ds) named.1 words);
+      named = and_from (begins_name b) (list_all is_word (name ++ 95 ∷ d ∷ ds)) named.0 (all_joined is_word name (95 ∷ d ∷ ds) named.1 words);
       small = p.small;
       free = no_keyword marked grammar_unmarked reserved_unmarked ((b ∷ name) ++ 95 ∷ d ∷ ds) (marked_in (b ∷ name) d ds first.0);
     })

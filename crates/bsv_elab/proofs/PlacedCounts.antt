@@ -1,17 +1,14 @@
 -- How many rules have a position: one has each of those that were given, and none has another.
-use Rattle.std.proofs.Common.{◌≡◌, ◌∙◌, ℕ, zero, suc, ◌+◌, ◌<◌, ◌≤◌, Bool, true, false, ⊎_elim, List, [], ◌∷◌, ◌++◌, Some, refl, ap, arith}
+use Rattle.std.proofs.Common.{◌≡◌, ◌∙◌, ℕ, zero, suc, ◌+◌, ◌<◌, ◌≤◌, ⊎_elim, List, [], ◌∷◌, ◌++◌, Some, refl, ap, arith}
 use Rattle.std.specs.Prelude.{◌==◌, slice_get}
 use Rattle.std.proofs.lemmas.Bool.{eq-eqb, ne_eqb, cases_lt, cases_eq}
+use Rattle.std.proofs.lemmas.Option.{same_Some}
 use Rattle.bsv_design.specs.declared.tree.BuiltRule.{BuiltRule}
 use Rattle.bsv_design.specs.declared.tree.Instance.{Instance}
 use Rattle.bsv_design.specs.declared.tree.Made.{Made}
 use Rattle.bsv_design.specs.declared.tree.Made.TheVariants as made
 use Rattle.bsv_design.specs.Trees.{rule_count}
-use Rattle.bsv_elab.proofs.NamedLists.{some_is}
-
-abbrev pub one_if : Bool → ℕ
-one_if true = 1
-one_if false = 0
+use Rattle.bsv_design.specs.Traces.{one_if}
 
 abbrev pub occurs : ℕ → List BuiltRule → ℕ
 occurs p [] = 0
@@ -91,7 +88,7 @@ is_of a b count h p some = ⊎_elim
 pub rule_counts : (p : ℕ) (rs : List BuiltRule) (k : ℕ) (r : BuiltRule) → slice_get rs k ≡ Some r → r.position ≡ p → 1 ≤ occurs p rs
 rule_counts p [] k r e is = absurd cc
 rule_counts p (q ∷ rs) zero r e is =
-    let one : one_if (q.position == p) ≡ 1 = ap one_if (eq-eqb q.position p (ap (λ (z : BuiltRule). z.position) (some_is q r e) ∙ is)) in
+    let one : one_if (q.position == p) ≡ 1 = ap one_if (eq-eqb q.position p (ap (λ (z : BuiltRule). z.position) (same_Some q r e) ∙ is)) in
     omega (arith, one)
 rule_counts p (q ∷ rs) (suc k) r e is = omega (arith, rule_counts p rs k r e is)
 
@@ -100,17 +97,17 @@ pub one_rule : (p : ℕ) (rs : List BuiltRule) (k l : ℕ) (r q : BuiltRule) →
 one_rule p [] k l r q most e f is at = absurd cc
 one_rule p (x ∷ rs) zero zero r q most e f is at = refl
 one_rule p (x ∷ rs) zero (suc l) r q most e f is at =
-    let one : one_if (x.position == p) ≡ 1 = ap one_if (eq-eqb x.position p (ap (λ (z : BuiltRule). z.position) (some_is x r e) ∙ is)) in
+    let one : one_if (x.position == p) ≡ 1 = ap one_if (eq-eqb x.position p (ap (λ (z : BuiltRule). z.position) (same_Some x r e) ∙ is)) in
     absurd (omega (arith, one, rule_counts p rs l q f at))
 one_rule p (x ∷ rs) (suc k) zero r q most e f is at =
-    let one : one_if (x.position == p) ≡ 1 = ap one_if (eq-eqb x.position p (ap (λ (z : BuiltRule). z.position) (some_is x q f) ∙ at)) in
+    let one : one_if (x.position == p) ≡ 1 = ap one_if (eq-eqb x.position p (ap (λ (z : BuiltRule). z.position) (same_Some x q f) ∙ at)) in
     absurd (omega (arith, one, rule_counts p rs k r e is))
 one_rule p (x ∷ rs) (suc k) (suc l) r q most e f is at = ap suc (one_rule p rs k l r q (omega arith) e f is at)
 
 pub made_counts : (p : ℕ) (is : List Instance) (n : ℕ) (i : Instance) → slice_get is n ≡ Some i → at_made p i.made ≤ occurs_in p is
 made_counts p [] n i e = absurd cc
 made_counts p (j ∷ is) zero i e =
-    let same : at_made p j.made ≡ at_made p i.made = ap (λ (z : Instance). at_made p z.made) (some_is j i e) in omega (arith, same)
+    let same : at_made p j.made ≡ at_made p i.made = ap (λ (z : Instance). at_made p z.made) (same_Some j i e) in omega (arith, same)
 made_counts p (j ∷ is) (suc n) i e = omega (arith, made_counts p is n i e)
 
 pub one_made : (p : ℕ) (is : List Instance) (m n : ℕ) (i j : Instance) → occurs_in p is ≤ 1 → slice_get is m ≡ Some i → slice_get is n ≡ Some j
@@ -118,10 +115,10 @@ pub one_made : (p : ℕ) (is : List Instance) (m n : ℕ) (i j : Instance) → o
 one_made p [] m n i j most e f h g = absurd cc
 one_made p (x ∷ is) zero zero i j most e f h g = refl
 one_made p (x ∷ is) zero (suc n) i j most e f h g =
-    let same : at_made p x.made ≡ at_made p i.made = ap (λ (z : Instance). at_made p z.made) (some_is x i e) in
+    let same : at_made p x.made ≡ at_made p i.made = ap (λ (z : Instance). at_made p z.made) (same_Some x i e) in
     absurd (omega (arith, same, made_counts p is n j f))
 one_made p (x ∷ is) (suc m) zero i j most e f h g =
-    let same : at_made p x.made ≡ at_made p j.made = ap (λ (z : Instance). at_made p z.made) (some_is x j f) in
+    let same : at_made p x.made ≡ at_made p j.made = ap (λ (z : Instance). at_made p z.made) (same_Some x j f) in
     absurd (omega (arith, same, made_counts p is m i e))
 one_made p (x ∷ is) (suc m) (suc n) i j most e f h g = ap suc (one_made p is m n i j (omega arith) e f h g)
 

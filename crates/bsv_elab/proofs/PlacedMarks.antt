@@ -4,6 +4,7 @@ use Rattle.std.specs.Prelude.{slice_get}
 use Rattle.std.specs.List.{list_all}
 use Rattle.std.specs.Str.{bytes_eq}
 use Rattle.std.proofs.lemmas.Bool.{and_parts}
+use Rattle.bsv_lemmas.proofs.Choices.{same_ok}
 use Rattle.bsv_types.specs.declared.attributes.Attribute.{Attribute as Asked}
 use Rattle.bsv_types.specs.declared.attributes.Attribute.TheVariants as asked
 use Rattle.bsv_types.specs.declared.modules.Module.{Module}
@@ -14,8 +15,9 @@ use Rattle.bsv_design.specs.declared.tree.Attribute.TheVariants as attribute
 use Rattle.bsv_design.specs.declared.tree.BuiltRule.{BuiltRule}
 use Rattle.bsv_elab.specs.declared.state.Marks.{Marks}
 use Rattle.bsv_elab.specs.Attributes.{position_of, positions_from, positions, side_by_side, listed, with_each, each_with_each, with_pairs, with_assert, with_list, marked, marked_all, attributes_of, marked_rules, no_marks, marks_of}
-use Rattle.bsv_elab.proofs.NamedLists.{ok_is, through, chosen}
+use Rattle.bsv_elab.proofs.NamedLists.{chosen}
 use Rattle.bsv_elab.proofs.NamedMakes.{Within, PairsWithin, MarksWithin, pairs_both, asserts_both}
+use Rattle.bsv_elab.proofs.FittingSteps.{went}
 
 module _ (low high : ℕ) where
   abbrev pub RulesWithin : List BuiltRule → Type 0
@@ -39,13 +41,13 @@ module _ (low high : ℕ) where
   position_within a [] name p h e = absurd cc
   position_within a (r ∷ rs) name p h e =
       chosen (bytes_eq r.name name) (Ok r.position) (position_of a rs name) p (Within low high p)
-      (λ f. subst (Within low high) (ok_is r.position p f) h.0) (λ f. position_within a rs name p h.1 f) e
+      (λ f. subst (Within low high) (same_ok r.position p f) h.0) (λ f. position_within a rs name p h.1 f) e
 
   positions_from_within : (a : Attribute) (rs : List BuiltRule) (found : List ℕ) (names : List (List ℕ)) (ps : List ℕ) → RulesWithin rs
       → AllWithin found → positions_from a rs found names ≡ Ok ps → AllWithin ps
-  positions_from_within a rs found [] ps h g e = subst AllWithin (ok_is found ps e) g
+  positions_from_within a rs found [] ps h g e = subst AllWithin (same_ok found ps e) g
   positions_from_within a rs found (n ∷ ns) ps h g e =
-      let q = through (position_of a rs n) _ ps e in
+      let q = went (position_of a rs n) _ ps e in
       positions_from_within a rs (found ++ q.0 ∷ []) ns ps h (within_both found (q.0 ∷ []) g (position_within a rs n q.0 h q.1, tt)) q.2
 
   positions_within : (a : Attribute) (rs : List BuiltRule) (names : List (List ℕ)) (ps : List ℕ) → RulesWithin rs
@@ -73,8 +75,8 @@ module _ (low high : ℕ) where
   list_within : (a : Attribute) (rs : List BuiltRule) (m n : Marks) (names : List (List ℕ)) → RulesWithin rs → MarksWithin low high m
       → with_list a rs m names ≡ Ok n → MarksWithin low high n
   list_within a rs m n names h g e =
-      let ps = through (positions a rs names) _ n e in
-      subst (MarksWithin low high) (ok_is (with_pairs m (listed a ps.0)) n ps.2)
+      let ps = went (positions a rs names) _ n e in
+      subst (MarksWithin low high) (same_ok (with_pairs m (listed a ps.0)) n ps.2)
       (record {
         pairs = pairs_both low high m.pairs (listed a ps.0) g.pairs
             (listed_within a ps.0 (positions_within a rs names ps.0 h ps.1));
@@ -92,46 +94,46 @@ module _ (low high : ℕ) where
 
   marked_within : (a : Asked) (rs : List BuiltRule) (rule : ℕ) (m n : Marks) → RulesWithin rs → Within low high rule ⊎ (of_module a ≡ true)
       → MarksWithin low high m → marked rs rule m a ≡ Ok n → MarksWithin low high n
-  marked_within asked.Synthesize rs rule m n h w g e = subst (MarksWithin low high) (ok_is m n e) g
+  marked_within asked.Synthesize rs rule m n h w g e = subst (MarksWithin low high) (same_ok m n e) g
   marked_within (asked.DescendingUrgency names) rs rule m n h w g e = list_within attribute.DescendingUrgency rs m n names h g e
   marked_within (asked.ExecutionOrder names) rs rule m n h w g e = list_within attribute.ExecutionOrder rs m n names h g e
   marked_within (asked.Preempts lefts rights) rs rule m n h w g e =
-      let ls = through (positions attribute.Preempts rs lefts) _ n e in
-      let qs = through (positions attribute.Preempts rs rights) _ n ls.2 in
-      subst (MarksWithin low high) (ok_is (with_pairs m (each_with_each ls.0 qs.0)) n qs.2) (record {
+      let ls = went (positions attribute.Preempts rs lefts) _ n e in
+      let qs = went (positions attribute.Preempts rs rights) _ n ls.2 in
+      subst (MarksWithin low high) (same_ok (with_pairs m (each_with_each ls.0 qs.0)) n qs.2) (record {
         pairs = pairs_both low high m.pairs (each_with_each ls.0 qs.0) g.pairs
             (all_within ls.0 qs.0 (positions_within attribute.Preempts rs lefts ls.0 h ls.1)
             (positions_within attribute.Preempts rs rights qs.0 h qs.1));
         asserts = g.asserts;
       })
-  marked_within asked.FireWhenEnabled rs rule m n h (inl w) g e = assert_within rule true m n w g (ok_is (with_assert m rule true) n e)
+  marked_within asked.FireWhenEnabled rs rule m n h (inl w) g e = assert_within rule true m n w g (same_ok (with_assert m rule true) n e)
   marked_within asked.FireWhenEnabled rs rule m n h (inr w) g e = absurd cc
-  marked_within asked.NoImplicitConditions rs rule m n h (inl w) g e = assert_within rule false m n w g (ok_is (with_assert m rule false) n e)
+  marked_within asked.NoImplicitConditions rs rule m n h (inl w) g e = assert_within rule false m n w g (same_ok (with_assert m rule false) n e)
   marked_within asked.NoImplicitConditions rs rule m n h (inr w) g e = absurd cc
 
   own_all_within : (given : List Asked) (rs : List BuiltRule) (rule : ℕ) (m n : Marks) → RulesWithin rs → list_all of_module given ≡ true
       → MarksWithin low high m → marked_all rs rule m given ≡ Ok n → MarksWithin low high n
   unfolding marked_all
-  own_all_within [] rs rule m n h w g e = subst (MarksWithin low high) (ok_is m n e) g
+  own_all_within [] rs rule m n h w g e = subst (MarksWithin low high) (same_ok m n e) g
   own_all_within (a ∷ more) rs rule m n h w g e =
-      let q = through (marked rs rule m a) _ n e in
+      let q = went (marked rs rule m a) _ n e in
       let p = and_parts (of_module a) (list_all of_module more) w in
       own_all_within more rs rule q.0 n h p.1 (marked_within a rs rule m q.0 h (inr p.0) g q.1) q.2
 
   rule_all_within : (given : List Asked) (rs : List BuiltRule) (rule : ℕ) (m n : Marks) → RulesWithin rs → Within low high rule
       → MarksWithin low high m → marked_all rs rule m given ≡ Ok n → MarksWithin low high n
   unfolding marked_all
-  rule_all_within [] rs rule m n h w g e = subst (MarksWithin low high) (ok_is m n e) g
+  rule_all_within [] rs rule m n h w g e = subst (MarksWithin low high) (same_ok m n e) g
   rule_all_within (a ∷ more) rs rule m n h w g e =
-      let q = through (marked rs rule m a) _ n e in
+      let q = went (marked rs rule m a) _ n e in
       rule_all_within more rs rule q.0 n h w (marked_within a rs rule m q.0 h (inl w) g q.1) q.2
 
   marked_rules_within : (sources : List Rule) (rs left : List BuiltRule) (m n : Marks) → RulesWithin rs → RulesWithin left → MarksWithin low high m
       → marked_rules sources rs m left ≡ Ok n → MarksWithin low high n
   unfolding marked_rules
-  marked_rules_within sources rs [] m n h w g e = subst (MarksWithin low high) (ok_is m n e) g
+  marked_rules_within sources rs [] m n h w g e = subst (MarksWithin low high) (same_ok m n e) g
   marked_rules_within sources rs (r ∷ left) m n h w g e =
-      let q = through (marked_all rs r.position m (attributes_of (slice_get sources r.rule))) _ n e in
+      let q = went (marked_all rs r.position m (attributes_of (slice_get sources r.rule))) _ n e in
       marked_rules_within sources rs left q.0 n h w.1
       (rule_all_within (attributes_of (slice_get sources r.rule)) rs r.position m q.0 h w.0 g q.1) q.2
 
@@ -139,6 +141,6 @@ module _ (low high : ℕ) where
       → marks_of m rs ≡ Ok n → MarksWithin low high n
   unfolding marks_of
   marks_of_within m rs n h w e =
-      let q = through (marked_all rs 0 no_marks m.attributes) _ n e in
+      let q = went (marked_all rs 0 no_marks m.attributes) _ n e in
       let own = own_all_within m.attributes rs 0 no_marks q.0 h w (record { pairs = tt; asserts = tt }) q.1 in
       marked_rules_within m.rules rs rs q.0 n h h own q.2

@@ -1,6 +1,7 @@
 -- The rules of a tree have positions of their own behind the methods of the top, and attributes name them.
 use Rattle.std.proofs.Common.{◌≡◌, ◌∙◌, ℕ, ◌+◌, ◌≤◌, ◌<◌, List, [], ◌∷◌, length, Some, Ok, refl, sym, ap, subst, arith}
 use Rattle.std.specs.Prelude.{slice_get}
+use Rattle.std.proofs.lemmas.Option.{same_Some}
 use Rattle.bsv_types.specs.declared.typed.Typed.{Typed}
 use Rattle.bsv_design.specs.declared.tree.Assert.{Assert}
 use Rattle.bsv_design.specs.declared.tree.Built.{Built}
@@ -12,7 +13,6 @@ use Rattle.bsv_design.specs.declared.tree.Pair.{Pair}
 use Rattle.bsv_design.specs.Calls.{made_of}
 use Rattle.bsv_design.specs.Trees.{Hierarchy, HasRule, methods_of, rule_count, ArePlaced, IsRule, PairsNameRules, AssertsNameRules}
 use Rattle.bsv_elab.specs.Building.{building}
-use Rattle.bsv_elab.proofs.NamedLists.{some_is}
 use Rattle.bsv_elab.proofs.NamedMakes.{Within, PairsWithin, AssertsWithin}
 use Rattle.bsv_elab.proofs.NamedTop.{whole, parts}
 use Rattle.bsv_elab.proofs.NamedWhole.{ModuleThere, module_there}
@@ -45,7 +45,7 @@ module _ (is : List Instance) (low high : ℕ) (fills : Fills low high (λ p. oc
       let m = c.there in
       let n = d.there in
       let number = one_made r.position is a.instance b.instance m.instance n.instance most m.at n.at c.counts d.counts in
-      let one : m.instance ≡ n.instance = some_is m.instance n.instance (sym m.at ∙ ap (slice_get is) number ∙ n.at) in
+      let one : m.instance ≡ n.instance = same_Some m.instance n.instance (sym m.at ∙ ap (slice_get is) number ∙ n.at) in
       let made_same = sym m.made_is ∙ ap (λ (z : Instance). z.made) one ∙ n.made_is in
       let built_same : a.built ≡ b.built = cc in
       let few : occurs r.position a.built.rules ≤ 1 = omega (

@@ -1,19 +1,12 @@
 -- How deep the body is that is left to carry out, and how many modules in modules.
-use Rattle.std.proofs.Common.{◌≡◌, ℕ, zero, suc, ◌+◌, ◌-◌, ◌*◌, ◌<◌, ◌≤◌, List, [], ◌∷◌, map, Option, Some, None, option_map, arith, suc-mul, ap}
+use Rattle.std.proofs.Common.{◌≡◌, ℕ, zero, suc, ◌+◌, ◌-◌, ◌*◌, ◌<◌, ◌≤◌, List, map, Option, Some, option_map, arith, suc-mul, ap}
 use Rattle.std.specs.Prelude.{slice_get}
+use Rattle.bsv_lemmas.proofs.Sums.{total, or_zero, within}
 use Rattle.bsv_types.specs.declared.modules.Module.{Module}
 use Rattle.bsv_types.specs.declared.modules.ModuleBranch.{ModuleBranch, fold-ModuleBranch}
 use Rattle.bsv_types.specs.declared.modules.ModuleStmt.{ModuleStmt, fold-ModuleStmt}
 use Rattle.bsv_types.specs.declared.modules.ModuleStmt.TheOpen.{ModuleStmt-F, ModuleBranch-F}
 use Rattle.bsv_elab.specs.declared.builder.Builder.{Builder}
-
-abbrev pub total : List ℕ → ℕ
-total [] = 0
-total (n ∷ ns) = n + total ns
-
-abbrev pub or_zero : Option ℕ → ℕ
-or_zero None = 0
-or_zero (Some n) = n
 
 abbrev pub stmt_size_step : ModuleStmt-F ℕ ℕ → ℕ
 stmt_size_step (ModuleStmt-F.Block xs) = 1 + total xs
@@ -51,12 +44,6 @@ level d w = d * (16 * w + 16)
 
 abbrev pub left : Builder → ℕ
 left b = level b.depth (modules_size b.typed.now.modules)
-
--- one of several is no larger than all
-pub within : {A : Type 0} (size : A → ℕ) (xs : List A) (k : ℕ) (x : A) → slice_get xs k ≡ Some x → size x ≤ total (map size xs)
-within size [] k x is = absurd cc
-within size (y ∷ ys) zero x is = let same : y ≡ x = cc in omega (arith, ap size same)
-within size (y ∷ ys) (suc k) x is = omega (arith, within size ys k x is)
 
 pub level_down : (d w : ℕ) → 0 < d → level d w ≡ level (d - 1) w + (16 * w + 16)
 unfolding level

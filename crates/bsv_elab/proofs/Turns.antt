@@ -1,6 +1,7 @@
 -- One turn of a loop, and its end.
-use Rattle.std.proofs.Common.{◌≡◌, ℕ, suc, ◌+◌, ◌-◌, ◌<◌, ◌≤◌, Ok, Err, ap, arith}
+use Rattle.std.proofs.Common.{◌≡◌, ℕ, ◌+◌, ◌-◌, ◌<◌, ◌≤◌, Ok, Err}
 use Rattle.std.specs.Prelude.{if◌then◌else◌}
+use Rattle.bsv_lemmas.proofs.Turns.{one_more, no_more}
 use Rattle.bsv_fail.specs.Given.{◌>>=◌}
 use Rattle.bsv_types.specs.declared.statements.Head.{Head}
 use Rattle.bsv_design.specs.declared.values.Fault.TheVariants as fault
@@ -9,12 +10,6 @@ use Rattle.bsv_elab.specs.declared.state.State.{State}
 use Rattle.bsv_elab.specs.Statics.{Here, Builds, truth_in}
 use Rattle.bsv_elab.specs.Making.{Bodies}
 use Rattle.bsv_elab.specs.Bodies.{turn, turns}
-
-one_more : {X : Type 0} (f : ℕ → X) (n at : ℕ) → at < n → f (n - at) ≡ f (suc (n - (at + 1)))
-one_more f n at below = let turn : n - at ≡ suc (n - (at + 1)) = omega arith in ap f turn
-
-no_more : {X : Type 0} (f : ℕ → X) (n at : ℕ) → n ≤ at → f (n - at) ≡ f 0
-no_more f n at done = let none : n - at ≡ 0 = omega arith in ap f none
 
 module _ (bodies : Bodies) (here : Here) (n at : ℕ) (h : Head) (a : Builds) (s : State) where
   pub turns_more : at < n → turns bodies here (n - at) h a s ≡ (truth_in here h.condition s >>= λ t. if t.0 then (turn bodies here h a t.1 >>= turns bodies here (n - (at + 1)) h a) else Ok t.1)

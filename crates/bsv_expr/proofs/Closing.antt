@@ -1,5 +1,7 @@
 -- A phrase closes each bracket that it opens; and where a reader was given too few brackets, so many are open.
 use Rattle.std.proofs.Common.{◌≡◌, inl, inr, ℕ, suc, ◌-◌, ◌≤◌, Bool, true, false, not, ◌&&◌, if◌then◌else◌, List, [], ◌∷◌, ◌++◌, Option, Some, None, Result, Ok, Err, refl, ap, subst, sym, arith}
+use Rattle.std.proofs.lemmas.Bool.{not-true}
+use Rattle.bsv_lemmas.proofs.Truths.{both_left, both_right}
 use Rattle.bsv_lex.specs.declared.terminal.Terminal.{Terminal}
 use Rattle.bsv_expr.specs.declared.lexeme.Lexeme.{Lexeme}
 use Rattle.bsv_expr.specs.declared.fault.ReadFault.{ReadFault}
@@ -9,7 +11,7 @@ use Rattle.bsv_expr.specs.Grammar.{Phrase, Grammar, Means, Fold, Maybe}
 use Rattle.bsv_expr.specs.Reading.{◌>>=◌, softened, take_leaf, on_some, refuse}
 use Rattle.bsv_expr.specs.Brackets.{openers, closers, open_behind, Reaches}
 use Rattle.bsv_expr.proofs.Ahead.{Tame}
-use Rattle.bsv_expr.proofs.Sets.{and_left, and_right, not_true, apart_in, append_left, append_right}
+use Rattle.bsv_expr.proofs.Sets.{apart_in, append_left, append_right}
 
 plain_token : (set : List Terminal) (count : ℕ) (t : Terminal) → is_apart (openers ++ closers) set ≡ true → is_in set t ≡ true → open_behind count t ≡ count
 unfolding open_behind
@@ -54,10 +56,10 @@ module _ {H : Type 0} {T : H → Type 0} (source : List ℕ) (Inner : (h : H) �
   balanced (Grammar.both f p q) tame x ts rest d l k r = balanced p tame.0 d.left ts d.middle d.first l k (balanced q tame.1 d.right d.middle rest d.second l k r)
   balanced (Grammar.bind fs ms p c) tame x ts rest d l k r = balanced p tame.0 d.left ts d.middle d.first l k (balanced (c d.left) (tame.1 d.left).1 x d.middle rest d.second l k r)
   balanced (Grammar.between f o p c) tame x ts rest d l k r =
-      let starting : is_in openers d.opening.terminal ≡ true = subst (λ t. is_in openers t ≡ true) (sym d.by) (and_left (is_in openers o) (not (is_in openers c) && is_in closers c) tame.0) in
-      let close : (not (is_in openers c) && is_in closers c) ≡ true = and_right (is_in openers o) (not (is_in openers c) && is_in closers c) tame.0 in
-      let other : is_in openers d.closing.terminal ≡ false = subst (λ t. is_in openers t ≡ false) (sym d.closes) (not_true (is_in openers c) (and_left (not (is_in openers c)) (is_in closers c) close)) in
-      let ending : is_in closers d.closing.terminal ≡ true = subst (λ t. is_in closers t ≡ true) (sym d.closes) (and_right (not (is_in openers c)) (is_in closers c) close) in
+      let starting : is_in openers d.opening.terminal ≡ true = subst (λ t. is_in openers t ≡ true) (sym d.by) (both_left (is_in openers o) (not (is_in openers c) && is_in closers c) tame.0) in
+      let close : (not (is_in openers c) && is_in closers c) ≡ true = both_right (is_in openers o) (not (is_in openers c) && is_in closers c) tame.0 in
+      let other : is_in openers d.closing.terminal ≡ false = subst (λ t. is_in openers t ≡ false) (sym d.closes) (not-true (is_in openers c) (both_left (not (is_in openers c)) (is_in closers c) close)) in
+      let ending : is_in closers d.closing.terminal ≡ true = subst (λ t. is_in closers t ≡ true) (sym d.closes) (both_right (not (is_in openers c)) (is_in closers c) close) in
       subst (λ us. Reaches l k us) (sym d.opens) (between_balanced l k d.opening d.closing d.middle rest starting other ending (balanced p tame.1 d.inner d.middle (d.closing ∷ rest) d.holds l (suc k)) r)
   balanced (Grammar.choose set p q) tame x ts rest (inl d) l k r = balanced p tame.0 x ts rest d l k r
   balanced (Grammar.choose set p q) tame x ts rest (inr d) l k r = balanced q tame.1 x ts rest d l k r

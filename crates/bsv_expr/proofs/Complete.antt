@@ -1,5 +1,7 @@
 -- Where one token ahead is enough, the reader reads what the grammar says.
 use Rattle.std.proofs.Common.{◌≡◌, ◌⊎◌, inl, inr, ℕ, zero, suc, ◌<◌, ◌≤◌, Bool, true, false, not, ◌&&◌, if◌then◌else◌, List, [], ◌∷◌, ◌++◌, length, Option, Some, None, Ok, refl, subst, sym, ◌∙◌, arith}
+use Rattle.std.proofs.lemmas.Bool.{not-true, or_left, cases_Bool}
+use Rattle.bsv_lemmas.proofs.Truths.{both_left, both_right}
 use denote.Enum.Bare.{true_same}
 use Rattle.bsv_ast.specs.declared.text.Span.{Span}
 use Rattle.bsv_lex.specs.contracts.terminal.Terminal.{the_type}
@@ -9,7 +11,7 @@ use Rattle.bsv_expr.specs.Lexemes.{same_terminal, is_in, starts, is_within, is_a
 use Rattle.bsv_expr.specs.Grammar.{Phrase, Grammar, Means, Fold, Folded, Both, Leaf, Maybe}
 use Rattle.bsv_expr.specs.Reading.{Read, softened, turns, read, take_leaf, expect, span_told}
 use Rattle.bsv_expr.proofs.Ahead.{nullable, first, more, test}
-use Rattle.bsv_expr.proofs.Sets.{and_left, and_right, not_true, true_or, split, apart_stops, within_starts, within_stops, left_stops, right_stops, left_starts, right_starts}
+use Rattle.bsv_expr.proofs.Sets.{apart_stops, within_starts, within_stops, left_stops, right_stops, left_starts, right_starts}
 use Rattle.bsv_expr.proofs.Shorter.{shorter}
 
 pub leaf_is : {C : Type 0} (source : List ℕ) (set : List Terminal) (tell : List ℕ → Lexeme → Option C) (x : C) (ts rest : List Lexeme) → Leaf set (tell source) x ts rest → take_leaf source set tell ts ≡ Ok (x, rest)
@@ -21,7 +23,7 @@ unfolding same_terminal
 the_same s t e = true_same the_type s t e
 
 pub expect_is : (source : List ℕ) (t : Terminal) (w : Lexeme) (rest : List Lexeme) → w.terminal ≡ t → expect source t (w ∷ rest) ≡ Ok (w.span, rest)
-expect_is source t w rest is = leaf_is source (t ∷ []) span_told w.span (w ∷ rest) rest (record { token = w; is = refl; of = true_or (same_terminal w.terminal t) false (the_same w.terminal t is); tells = refl })
+expect_is source t w rest is = leaf_is source (t ∷ []) span_told w.span (w ∷ rest) rest (record { token = w; is = refl; of = or_left (same_terminal w.terminal t) false (the_same w.terminal t is); tells = refl })
 
 module _ {H : Type 0} {T : H → Type 0} (source : List ℕ) (inner : (h : H) → List Lexeme → Read (T h)) (Inner : (h : H) → Phrase (T h)) (hole_first hole_more : H → List Terminal)
     (inner_complete : (h : H) (x : T h) (ts rest : List Lexeme) → Inner h x ts rest → starts (hole_more h) rest ≡ false → inner h ts ≡ Ok (x, rest))
@@ -153,7 +155,7 @@ module _ {H : Type 0} {T : H → Type 0} (source : List ℕ) (inner : (h : H) �
   between_good : {A C : Type 0} (f : Span → A → Span → C) (o : Terminal) (p : Grammar H T A) (c : Terminal) → is_in (more hole_first hole_more p) c ≡ false → Good p → Good (Grammar.between f o p c)
   unfolding Means read first
   between_good f o p c apart gp = record {
-    begins = λ x ts rest d. inl (subst (λ us. starts (o ∷ []) us ≡ true) (sym d.opens) (true_or (same_terminal d.opening.terminal o) false (the_same d.opening.terminal o d.by)));
+    begins = λ x ts rest d. inl (subst (λ us. starts (o ∷ []) us ≡ true) (sym d.opens) (or_left (same_terminal d.opening.terminal o) false (the_same d.opening.terminal o d.by)));
     completes = λ soft x ts rest d stop.
         let stops : starts (more hole_first hole_more p) (d.closing ∷ rest) ≡ false = subst (λ t. is_in (more hole_first hole_more p) t ≡ false) (sym d.closes) apart in
         rw (d.opens, expect_is source o d.opening d.middle d.by, gp.completes false d.inner d.middle (d.closing ∷ rest) d.holds stops, expect_is source c d.closing rest d.closes, d.is) refl;
@@ -207,7 +209,7 @@ module _ {H : Type 0} {T : H → Type 0} (source : List ℕ) (inner : (h : H) �
     stopped : (soft : Bool) (n : ℕ) (s : S) (ts : List Lexeme) → starts set ts ≡ false → turns soft set goes step (read source inner soft q) n s ts ≡ Ok (s, ts)
     unfolding turns
     stopped soft zero s ts e = refl
-    stopped soft (suc n) s ts e = elim (split (goes s)) [
+    stopped soft (suc n) s ts e = elim (cases_Bool (goes s)) [
       | inl is ↦ rw (is, e) refl
       | inr is ↦ rw is refl
     ]
@@ -282,44 +284,44 @@ module _ {H : Type 0} {T : H → Type 0} (source : List ℕ) (inner : (h : H) �
   good (Grammar.hole h) e names = hole_good h
   good (Grammar.made f p) e names = made_good f p (good p e names)
   good (Grammar.both f p q) e names =
-      let apart : is_apart (more hole_first hole_more p) (first hole_first hole_more q) ≡ true = and_left _ _ e in
-      let parts : (test hole_first hole_more p && test hole_first hole_more q) ≡ true = and_right (is_apart (more hole_first hole_more p) (first hole_first hole_more q)) _ e in
-      both_good f p q apart (good p (and_left _ _ parts) names.0) (good q (and_right (test hole_first hole_more p) _ parts) names.1)
+      let apart : is_apart (more hole_first hole_more p) (first hole_first hole_more q) ≡ true = both_left _ _ e in
+      let parts : (test hole_first hole_more p && test hole_first hole_more q) ≡ true = both_right (is_apart (more hole_first hole_more p) (first hole_first hole_more q)) _ e in
+      both_good f p q apart (good p (both_left _ _ parts) names.0) (good q (both_right (test hole_first hole_more p) _ parts) names.1)
   good (Grammar.bind fs ms p k) e names =
-      let full = and_left (not (nullable p)) (is_apart (more hole_first hole_more p) fs && (is_within (more hole_first hole_more p) ms && test hole_first hole_more p)) e in
-      let e2 = and_right (not (nullable p)) (is_apart (more hole_first hole_more p) fs && (is_within (more hole_first hole_more p) ms && test hole_first hole_more p)) e in
-      let e3 = and_right (is_apart (more hole_first hole_more p) fs) (is_within (more hole_first hole_more p) ms && test hole_first hole_more p) e2 in
-      bind_good fs ms p k (not_true (nullable p) full) (and_left (is_apart (more hole_first hole_more p) fs) (is_within (more hole_first hole_more p) ms && test hole_first hole_more p) e2)
-      (and_left (is_within (more hole_first hole_more p) ms) (test hole_first hole_more p) e3) (good p (and_right (is_within (more hole_first hole_more p) ms) (test hole_first hole_more p) e3) names.0) names.1
+      let full = both_left (not (nullable p)) (is_apart (more hole_first hole_more p) fs && (is_within (more hole_first hole_more p) ms && test hole_first hole_more p)) e in
+      let e2 = both_right (not (nullable p)) (is_apart (more hole_first hole_more p) fs && (is_within (more hole_first hole_more p) ms && test hole_first hole_more p)) e in
+      let e3 = both_right (is_apart (more hole_first hole_more p) fs) (is_within (more hole_first hole_more p) ms && test hole_first hole_more p) e2 in
+      bind_good fs ms p k (not-true (nullable p) full) (both_left (is_apart (more hole_first hole_more p) fs) (is_within (more hole_first hole_more p) ms && test hole_first hole_more p) e2)
+      (both_left (is_within (more hole_first hole_more p) ms) (test hole_first hole_more p) e3) (good p (both_right (is_within (more hole_first hole_more p) ms) (test hole_first hole_more p) e3) names.0) names.1
   good (Grammar.between f o p c) e names =
-      between_good f o p c (not_true (is_in (more hole_first hole_more p) c) (and_left (not (is_in (more hole_first hole_more p) c)) (test hole_first hole_more p) e)) (good p (and_right (not (is_in (more hole_first hole_more p) c)) (test hole_first hole_more p) e) names)
+      between_good f o p c (not-true (is_in (more hole_first hole_more p) c) (both_left (not (is_in (more hole_first hole_more p) c)) (test hole_first hole_more p) e)) (good p (both_right (not (is_in (more hole_first hole_more p) c)) (test hole_first hole_more p) e) names)
   good (Grammar.choose set p q) e names =
       let a = first hole_first hole_more p in
-      let e1 = and_right (not (nullable p)) (not (nullable q) && (is_within a set && (is_apart set (first hole_first hole_more q) && (test hole_first hole_more p && test hole_first hole_more q)))) e in
-      let e2 = and_right (not (nullable q)) (is_within a set && (is_apart set (first hole_first hole_more q) && (test hole_first hole_more p && test hole_first hole_more q))) e1 in
-      let e3 = and_right (is_within a set) (is_apart set (first hole_first hole_more q) && (test hole_first hole_more p && test hole_first hole_more q)) e2 in
-      let e4 = and_right (is_apart set (first hole_first hole_more q)) (test hole_first hole_more p && test hole_first hole_more q) e3 in
-      choose_good set p q (not_true (nullable p) (and_left (not (nullable p)) (not (nullable q) && (is_within a set && (is_apart set (first hole_first hole_more q) && (test hole_first hole_more p && test hole_first hole_more q)))) e))
-      (not_true (nullable q) (and_left (not (nullable q)) (is_within a set && (is_apart set (first hole_first hole_more q) && (test hole_first hole_more p && test hole_first hole_more q))) e1))
-      (and_left (is_within a set) (is_apart set (first hole_first hole_more q) && (test hole_first hole_more p && test hole_first hole_more q)) e2)
-      (and_left (is_apart set (first hole_first hole_more q)) (test hole_first hole_more p && test hole_first hole_more q) e3)
-      (good p (and_left (test hole_first hole_more p) (test hole_first hole_more q) e4) names.0) (good q (and_right (test hole_first hole_more p) (test hole_first hole_more q) e4) names.1)
+      let e1 = both_right (not (nullable p)) (not (nullable q) && (is_within a set && (is_apart set (first hole_first hole_more q) && (test hole_first hole_more p && test hole_first hole_more q)))) e in
+      let e2 = both_right (not (nullable q)) (is_within a set && (is_apart set (first hole_first hole_more q) && (test hole_first hole_more p && test hole_first hole_more q))) e1 in
+      let e3 = both_right (is_within a set) (is_apart set (first hole_first hole_more q) && (test hole_first hole_more p && test hole_first hole_more q)) e2 in
+      let e4 = both_right (is_apart set (first hole_first hole_more q)) (test hole_first hole_more p && test hole_first hole_more q) e3 in
+      choose_good set p q (not-true (nullable p) (both_left (not (nullable p)) (not (nullable q) && (is_within a set && (is_apart set (first hole_first hole_more q) && (test hole_first hole_more p && test hole_first hole_more q)))) e))
+      (not-true (nullable q) (both_left (not (nullable q)) (is_within a set && (is_apart set (first hole_first hole_more q) && (test hole_first hole_more p && test hole_first hole_more q))) e1))
+      (both_left (is_within a set) (is_apart set (first hole_first hole_more q) && (test hole_first hole_more p && test hole_first hole_more q)) e2)
+      (both_left (is_apart set (first hole_first hole_more q)) (test hole_first hole_more p && test hole_first hole_more q) e3)
+      (good p (both_left (test hole_first hole_more p) (test hole_first hole_more q) e4) names.0) (good q (both_right (test hole_first hole_more p) (test hole_first hole_more q) e4) names.1)
   good (Grammar.maybe set p) e names =
       let a = first hole_first hole_more p in
-      let e1 = and_right (not (nullable p)) (is_within a set && test hole_first hole_more p) e in
-      maybe_good set p (not_true (nullable p) (and_left (not (nullable p)) (is_within a set && test hole_first hole_more p) e)) (and_left (is_within a set) (test hole_first hole_more p) e1) (good p (and_right (is_within a set) (test hole_first hole_more p) e1) names)
+      let e1 = both_right (not (nullable p)) (is_within a set && test hole_first hole_more p) e in
+      maybe_good set p (not-true (nullable p) (both_left (not (nullable p)) (is_within a set && test hole_first hole_more p) e)) (both_left (is_within a set) (test hole_first hole_more p) e1) (good p (both_right (is_within a set) (test hole_first hole_more p) e1) names)
   good (Grammar.fold set goes step p q) e names =
-      let e1 = and_right (not (nullable q)) (is_within (first hole_first hole_more q) set && (is_apart (more hole_first hole_more p) set && (is_apart (more hole_first hole_more q) set && (test hole_first hole_more p && test hole_first hole_more q)))) e in
-      let e2 = and_right (is_within (first hole_first hole_more q) set) (is_apart (more hole_first hole_more p) set && (is_apart (more hole_first hole_more q) set && (test hole_first hole_more p && test hole_first hole_more q))) e1 in
-      let e3 = and_right (is_apart (more hole_first hole_more p) set) (is_apart (more hole_first hole_more q) set && (test hole_first hole_more p && test hole_first hole_more q)) e2 in
-      let e4 = and_right (is_apart (more hole_first hole_more q) set) (test hole_first hole_more p && test hole_first hole_more q) e3 in
-      fold_good set goes step q (not_true (nullable q) (and_left (not (nullable q)) (is_within (first hole_first hole_more q) set && (is_apart (more hole_first hole_more p) set && (is_apart (more hole_first hole_more q) set && (test hole_first hole_more p && test hole_first hole_more q)))) e))
-      (and_left (is_within (first hole_first hole_more q) set) (is_apart (more hole_first hole_more p) set && (is_apart (more hole_first hole_more q) set && (test hole_first hole_more p && test hole_first hole_more q))) e1)
-      (and_left (is_apart (more hole_first hole_more q) set) (test hole_first hole_more p && test hole_first hole_more q) e3)
-      (good q (and_right (test hole_first hole_more p) (test hole_first hole_more q) e4) names.1) p
-      (and_left (is_apart (more hole_first hole_more p) set) (is_apart (more hole_first hole_more q) set && (test hole_first hole_more p && test hole_first hole_more q)) e2)
-      (good p (and_left (test hole_first hole_more p) (test hole_first hole_more q) e4) names.0)
+      let e1 = both_right (not (nullable q)) (is_within (first hole_first hole_more q) set && (is_apart (more hole_first hole_more p) set && (is_apart (more hole_first hole_more q) set && (test hole_first hole_more p && test hole_first hole_more q)))) e in
+      let e2 = both_right (is_within (first hole_first hole_more q) set) (is_apart (more hole_first hole_more p) set && (is_apart (more hole_first hole_more q) set && (test hole_first hole_more p && test hole_first hole_more q))) e1 in
+      let e3 = both_right (is_apart (more hole_first hole_more p) set) (is_apart (more hole_first hole_more q) set && (test hole_first hole_more p && test hole_first hole_more q)) e2 in
+      let e4 = both_right (is_apart (more hole_first hole_more q) set) (test hole_first hole_more p && test hole_first hole_more q) e3 in
+      fold_good set goes step q (not-true (nullable q) (both_left (not (nullable q)) (is_within (first hole_first hole_more q) set && (is_apart (more hole_first hole_more p) set && (is_apart (more hole_first hole_more q) set && (test hole_first hole_more p && test hole_first hole_more q)))) e))
+      (both_left (is_within (first hole_first hole_more q) set) (is_apart (more hole_first hole_more p) set && (is_apart (more hole_first hole_more q) set && (test hole_first hole_more p && test hole_first hole_more q))) e1)
+      (both_left (is_apart (more hole_first hole_more q) set) (test hole_first hole_more p && test hole_first hole_more q) e3)
+      (good q (both_right (test hole_first hole_more p) (test hole_first hole_more q) e4) names.1) p
+      (both_left (is_apart (more hole_first hole_more p) set) (is_apart (more hole_first hole_more q) set && (test hole_first hole_more p && test hole_first hole_more q)) e2)
+      (good p (both_left (test hole_first hole_more p) (test hole_first hole_more q) e4) names.0)
   good (Grammar.named fs ms p) e names =
-      let e1 = and_right (not (nullable p)) (is_within (first hole_first hole_more p) fs && is_within (more hole_first hole_more p) ms) e in
-      named_good fs ms p (not_true (nullable p) (and_left (not (nullable p)) (is_within (first hole_first hole_more p) fs && is_within (more hole_first hole_more p) ms) e))
-      (and_left (is_within (first hole_first hole_more p) fs) (is_within (more hole_first hole_more p) ms) e1) (and_right (is_within (first hole_first hole_more p) fs) (is_within (more hole_first hole_more p) ms) e1) names
+      let e1 = both_right (not (nullable p)) (is_within (first hole_first hole_more p) fs && is_within (more hole_first hole_more p) ms) e in
+      named_good fs ms p (not-true (nullable p) (both_left (not (nullable p)) (is_within (first hole_first hole_more p) fs && is_within (more hole_first hole_more p) ms) e))
+      (both_left (is_within (first hole_first hole_more p) fs) (is_within (more hole_first hole_more p) ms) e1) (both_right (is_within (first hole_first hole_more p) fs) (is_within (more hole_first hole_more p) ms) e1) names

@@ -1,5 +1,6 @@
 -- A reader that was given too few brackets stands in front of so many open ones.
 use Rattle.std.proofs.Common.{◌≡◌, ℕ, zero, suc, ◌+◌, ◌≤◌, Bool, true, false, ◌&&◌, List, [], ◌∷◌, length, Option, Some, None, Ok, Err, subst, sym, arith}
+use Rattle.bsv_lemmas.proofs.Truths.{both_left as and_left}
 use Rattle.bsv_ast.specs.declared.text.Span.{Span}
 use Rattle.bsv_lex.specs.declared.terminal.Terminal.{Terminal}
 use Rattle.bsv_expr.specs.declared.lexeme.Lexeme.{Lexeme}
@@ -9,7 +10,6 @@ use Rattle.bsv_expr.specs.Grammar.{Phrase, Grammar, Means}
 use Rattle.bsv_expr.specs.Reading.{Read, softened, turns, read, span_told}
 use Rattle.bsv_expr.specs.Brackets.{openers, Reaches}
 use Rattle.bsv_expr.proofs.Ahead.{guarded, Tame}
-use Rattle.bsv_expr.proofs.Sets.{and_left}
 use Rattle.bsv_expr.proofs.Tools.{next, Next}
 use Rattle.bsv_expr.proofs.Sound.{sound}
 use Rattle.bsv_expr.proofs.Closing.{opening, lower_limit, Balanced, balanced, bonus, at_once, behind, fails, soft_fails, chosen, no_leaf}

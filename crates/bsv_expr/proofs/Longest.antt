@@ -1,5 +1,7 @@
 -- Softly a reader reads at least as far as any phrase of the grammar, unless it was given too few brackets.
 use Rattle.std.proofs.Common.{◌≡◌, ◌⊎◌, inl, inr, ℕ, zero, suc, ◌<◌, ◌≤◌, Bool, true, false, not, ◌&&◌, if◌then◌else◌, List, [], ◌∷◌, length, Option, Some, None, Result, Ok, Err, refl, ap, arith}
+use Rattle.std.proofs.lemmas.Bool.{not-true, or_cases}
+use Rattle.bsv_lemmas.proofs.Truths.{both_left, both_right}
 use Rattle.bsv_lex.specs.declared.terminal.Terminal.{Terminal}
 use Rattle.bsv_expr.specs.declared.lexeme.Lexeme.{Lexeme}
 use Rattle.bsv_expr.specs.declared.fault.ReadFault.{ReadFault}
@@ -8,7 +10,7 @@ use Rattle.bsv_expr.specs.Lexemes.{is_in, starts, is_within, is_apart}
 use Rattle.bsv_expr.specs.Grammar.{Phrase, Grammar, Means, Fold, Maybe}
 use Rattle.bsv_expr.specs.Reading.{◌>>=◌, Read, softened, turns, read, take_leaf, expect, span_told, on_some, refuse}
 use Rattle.bsv_expr.proofs.Ahead.{nullable, first, more, test}
-use Rattle.bsv_expr.proofs.Sets.{and_left, and_right, not_true, or_either, apart_stops, within_starts}
+use Rattle.bsv_expr.proofs.Sets.{apart_stops, within_starts}
 use Rattle.bsv_expr.proofs.Shorter.{no_longer, shorter}
 use Rattle.bsv_expr.proofs.Sound.{sound}
 use Rattle.bsv_expr.proofs.Complete.{Good, Within, Names, good, leaf_is}
@@ -123,16 +125,16 @@ module _ {S A : Type 0} (set : List Terminal) (goes_on : S → Bool) (step_of : 
 
 -- the parts of a test
 three : (a b c : Bool) → (a && (b && c)) ≡ true → (a ≡ true) × (b ≡ true) × (c ≡ true)
-three a b c e = let l = and_right a (b && c) e in (and_left a (b && c) e, and_left b c l, and_right b c l)
+three a b c e = let l = both_right a (b && c) e in (both_left a (b && c) e, both_left b c l, both_right b c l)
 
 four : (a b c d : Bool) → (a && (b && (c && d))) ≡ true → (a ≡ true) × (b ≡ true) × (c ≡ true) × (d ≡ true)
-four a b c d e = let l = three b c d (and_right a (b && (c && d)) e) in (and_left a (b && (c && d)) e, l.0, l.1, l.2)
+four a b c d e = let l = three b c d (both_right a (b && (c && d)) e) in (both_left a (b && (c && d)) e, l.0, l.1, l.2)
 
 six : (a b c d m n : Bool) → (a && (b && (c && (d && (m && n))))) ≡ true → (a ≡ true) × (b ≡ true) × (c ≡ true) × (d ≡ true) × (m ≡ true) × (n ≡ true)
 six a b c d m n e =
-    let r = and_right a (b && (c && (d && (m && n)))) e in
-    let l = four c d m n (and_right b (c && (d && (m && n))) r) in
-    (and_left a (b && (c && (d && (m && n)))) e, and_left b (c && (d && (m && n))) r, l.0, l.1, l.2, l.3)
+    let r = both_right a (b && (c && (d && (m && n)))) e in
+    let l = four c d m n (both_right b (c && (d && (m && n))) r) in
+    (both_left a (b && (c && (d && (m && n)))) e, both_left b (c && (d && (m && n))) r, l.0, l.1, l.2, l.3)
 
 module _ {H : Type 0} {T : H → Type 0} (source : List ℕ) (inner : (h : H) → List Lexeme → Read (T h)) (Inner : (h : H) → Phrase (T h))
     (inner_sound : (h : H) (ts : List Lexeme) (x : T h) (rest : List Lexeme) → inner h ts ≡ Ok (x, rest) → Inner h x ts rest)
@@ -152,17 +154,17 @@ module _ {H : Type 0} {T : H → Type 0} (source : List ℕ) (inner : (h : H) �
         bind_far (read source inner true p ts) (λ a. Ok (f a.0, a.1)) ts ts (left_out p t null ts) (λ y us le. as_far (f y) us refl le)
     left_out (Grammar.both f p q) t null ts =
         let parts = three (is_apart (more hole_first hole_more p) (first hole_first hole_more q)) (test hole_first hole_more p) (test hole_first hole_more q) t in
-        bind_far (read source inner true p ts) (λ a. read source inner true q a.1 >>= λ b. Ok (f a.0 b.0, b.1)) ts ts (left_out p parts.1 (and_left (nullable p) (nullable q) null) ts)
-        (λ y us le. bind_far (read source inner true q us) (λ b. Ok (f y b.0, b.1)) us ts (left_out q parts.2 (and_right (nullable p) (nullable q) null) us)
+        bind_far (read source inner true p ts) (λ a. read source inner true q a.1 >>= λ b. Ok (f a.0 b.0, b.1)) ts ts (left_out p parts.1 (both_left (nullable p) (nullable q) null) ts)
+        (λ y us le. bind_far (read source inner true q us) (λ b. Ok (f y b.0, b.1)) us ts (left_out q parts.2 (both_right (nullable p) (nullable q) null) us)
         (λ z vs beyond. as_far (f y z) vs refl (omega arith)))
     left_out (Grammar.bind fs ms p k) t null ts =
-        let full : nullable p ≡ false = not_true (nullable p) (and_left (not (nullable p)) (is_apart (more hole_first hole_more p) fs && (is_within (more hole_first hole_more p) ms && test hole_first hole_more p)) t) in absurd cc
+        let full : nullable p ≡ false = not-true (nullable p) (both_left (not (nullable p)) (is_apart (more hole_first hole_more p) fs && (is_within (more hole_first hole_more p) ms && test hole_first hole_more p)) t) in absurd cc
     left_out (Grammar.between f o p c) t null ts = absurd cc
     left_out (Grammar.choose set p q) t null ts =
         let parts = six (not (nullable p)) (not (nullable q)) (is_within (first hole_first hole_more p) set) (is_apart set (first hole_first hole_more q)) (test hole_first hole_more p) (test hole_first hole_more q) t in
-        elim (or_either (nullable p) (nullable q) null) [
-          | inl e ↦ let full : nullable p ≡ false = not_true (nullable p) parts.0 in absurd cc
-          | inr e ↦ let full : nullable q ≡ false = not_true (nullable q) parts.1 in absurd cc
+        elim (or_cases (nullable p) (nullable q) null) [
+          | inl e ↦ let full : nullable p ≡ false = not-true (nullable p) parts.0 in absurd cc
+          | inr e ↦ let full : nullable q ≡ false = not-true (nullable q) parts.1 in absurd cc
         ]
     left_out (Grammar.maybe {A} set p) t null ts =
         if_far {A = Option A} (starts set ts) (softened true (read source inner true p ts) (Ok (None, ts)) (λ a. Ok (Some a.0, a.1))) (Ok (None, ts)) ts
@@ -175,7 +177,7 @@ module _ {H : Type 0} {T : H → Type 0} (source : List ℕ) (inner : (h : H) �
         (λ y us le. further (turns true set goes_on step_of (read source inner true q) (length us) y us) us ts
         (turns_left set goes_on step_of (read source inner true q) (memory source inner inner_memory q true) (read_no_longer q true) (length us) y us) le)
     left_out (Grammar.named fs ms p) t null ts =
-        let full : nullable p ≡ false = not_true (nullable p) (and_left (not (nullable p)) (is_within (first hole_first hole_more p) fs && is_within (more hole_first hole_more p) ms) t) in absurd cc
+        let full : nullable p ≡ false = not-true (nullable p) (both_left (not (nullable p)) (is_within (first hole_first hole_more p) fs && is_within (more hole_first hole_more p) ms) t) in absurd cc
 
 module _ {H : Type 0} {T : H → Type 0} (source : List ℕ) (inner : (h : H) → List Lexeme → Read (T h)) (Inner : (h : H) → Phrase (T h)) where
   -- softly the reader reads as far as any phrase of the grammar
@@ -322,11 +324,11 @@ module _ {H : Type 0} {T : H → Type 0} (source : List ℕ) (inner : (h : H) �
   reaches (Grammar.between f o p c) t names firm x ts rest d = as_far x rest ((fine (Grammar.between f o p c) t names).completes true x ts rest d (none_starts [] rest refl)) (omega arith)
   reaches (Grammar.choose set p q) t names firm x ts rest d =
       let parts = six (not (nullable p)) (not (nullable q)) (is_within (first hole_first hole_more p) set) (is_apart set (first hole_first hole_more q)) (test hole_first hole_more p) (test hole_first hole_more q) t in
-      choose_reaches set p q (not_true (nullable p) parts.0) (not_true (nullable q) parts.1) parts.2 parts.3 (fine p parts.4 names.0) (fine q parts.5 names.1) (reaches p parts.4 names.0 firm.0) (reaches q parts.5 names.1 firm.1) x ts rest d
+      choose_reaches set p q (not-true (nullable p) parts.0) (not-true (nullable q) parts.1) parts.2 parts.3 (fine p parts.4 names.0) (fine q parts.5 names.1) (reaches p parts.4 names.0 firm.0) (reaches q parts.5 names.1 firm.1) x ts rest d
   reaches (Grammar.maybe set p) t names firm x ts rest d =
       let parts = three (not (nullable p)) (is_within (first hole_first hole_more p) set) (test hole_first hole_more p) t in
-      maybe_reaches set p t (not_true (nullable p) parts.0) parts.1 (fine p parts.2 names) (reaches p parts.2 names firm) x ts rest d
+      maybe_reaches set p t (not-true (nullable p) parts.0) parts.1 (fine p parts.2 names) (reaches p parts.2 names firm) x ts rest d
   reaches (Grammar.fold set goes_on step_of p q) t names firm x ts rest d =
       let parts = six (not (nullable q)) (is_within (first hole_first hole_more q) set) (is_apart (more hole_first hole_more p) set) (is_apart (more hole_first hole_more q) set) (test hole_first hole_more p) (test hole_first hole_more q) t in
-      fold_reaches set goes_on step_of q (not_true (nullable q) parts.0) parts.1 parts.3 (fine q parts.5 names.1) (reaches q parts.5 names.1 firm.1) p parts.2 (fine p parts.4 names.0) (reaches p parts.4 names.0 firm.0) x ts rest d
+      fold_reaches set goes_on step_of q (not-true (nullable q) parts.0) parts.1 parts.3 (fine q parts.5 names.1) (reaches q parts.5 names.1 firm.1) p parts.2 (fine p parts.4 names.0) (reaches p parts.4 names.0 firm.0) x ts rest d
   reaches (Grammar.named fs ms p) t names firm x ts rest d = firm x ts rest d

@@ -1,21 +1,11 @@
 -- Sets of words: what is in one, in both or in none.
-use Rattle.std.proofs.Common.{◌≡◌, ◌⊎◌, inl, inr, Bool, true, false, not, ◌&&◌, ◌||◌, List, [], ◌∷◌, ◌++◌, refl, subst, sym}
+use Rattle.std.proofs.Common.{◌≡◌, inl, inr, Bool, true, false, not, ◌||◌, List, [], ◌∷◌, ◌++◌, refl, subst, sym}
+use Rattle.std.proofs.lemmas.Bool.{or_left as true_or, not-true, or_right as or_true, false_from_ne_true, or_cases}
+use Rattle.bsv_lemmas.proofs.Truths.{both_right, both_left}
 use Rattle.bsv_lex.specs.declared.terminal.Terminal.{Terminal}
 use Rattle.bsv_expr.specs.declared.lexeme.Lexeme.{Lexeme}
 use Rattle.bsv_expr.specs.Lexemes.{same_terminal, is_in, starts, is_within, is_apart}
 use Rattle.bsv_expr.proofs.Tools.{same_is}
-
-pub and_left : (a b : Bool) → (a && b) ≡ true → a ≡ true
-and_left true b e = refl
-and_left false b e = e
-
-pub and_right : (a b : Bool) → (a && b) ≡ true → b ≡ true
-and_right true b e = e
-and_right false b e = absurd cc
-
-pub not_true : (a : Bool) → not a ≡ true → a ≡ false
-not_true true e = sym e
-not_true false e = refl
 
 pub or_left : (a b : Bool) → (a || b) ≡ false → a ≡ false
 or_left true b e = e
@@ -25,42 +15,21 @@ pub or_right : (a b : Bool) → (a || b) ≡ false → b ≡ false
 or_right true b e = absurd cc
 or_right false b e = e
 
-pub true_or : (a b : Bool) → a ≡ true → (a || b) ≡ true
-true_or true b e = refl
-true_or false b e = absurd cc
-
-pub or_true : (a b : Bool) → b ≡ true → (a || b) ≡ true
-or_true true b e = refl
-or_true false b e = e
-
-pub or_either : (a b : Bool) → (a || b) ≡ true → (a ≡ true) ⊎ (b ≡ true)
-or_either true b e = inl refl
-or_either false b e = inr e
-
--- a truth value is one of two
-pub split : (a : Bool) → (a ≡ true) ⊎ (a ≡ false)
-split true = inl refl
-split false = inr refl
-
-absent : (a : Bool) → (a ≡ true → ⊥) → a ≡ false
-absent true no_way = absurd (no_way refl)
-absent false no_way = refl
-
 pub apart_in : (xs ys : List Terminal) (t : Terminal) → is_apart xs ys ≡ true → is_in ys t ≡ true → is_in xs t ≡ false
 apart_in [] ys t e of = refl
-apart_in (x ∷ xs) ys t e of = absent (is_in (x ∷ xs) t) (λ found.
-    elim (or_either (same_terminal t x) (is_in xs t) found) [
-      | inl is ↦ let other : is_in ys x ≡ false = not_true (is_in ys x) (and_left (not (is_in ys x)) (is_apart xs ys) e) in
+apart_in (x ∷ xs) ys t e of = false_from_ne_true (is_in (x ∷ xs) t) (λ found.
+    elim (or_cases (same_terminal t x) (is_in xs t) found) [
+      | inl is ↦ let other : is_in ys x ≡ false = not-true (is_in ys x) (both_left (not (is_in ys x)) (is_apart xs ys) e) in
           let same : is_in ys x ≡ true = subst (λ u. is_in ys u ≡ true) (same_is t x is) of in absurd cc
-      | inr rest ↦ let other : is_in xs t ≡ false = apart_in xs ys t (and_right (not (is_in ys x)) (is_apart xs ys) e) of in absurd cc
+      | inr rest ↦ let other : is_in xs t ≡ false = apart_in xs ys t (both_right (not (is_in ys x)) (is_apart xs ys) e) of in absurd cc
     ])
 
 pub within_in : (xs ys : List Terminal) (t : Terminal) → is_within xs ys ≡ true → is_in xs t ≡ true → is_in ys t ≡ true
 within_in [] ys t e of = absurd cc
 within_in (x ∷ xs) ys t e of =
-    elim (or_either (same_terminal t x) (is_in xs t) of) [
-      | inl is ↦ subst (λ u. is_in ys u ≡ true) (sym (same_is t x is)) (and_left (is_in ys x) (is_within xs ys) e)
-      | inr rest ↦ within_in xs ys t (and_right (is_in ys x) (is_within xs ys) e) rest
+    elim (or_cases (same_terminal t x) (is_in xs t) of) [
+      | inl is ↦ subst (λ u. is_in ys u ≡ true) (sym (same_is t x is)) (both_left (is_in ys x) (is_within xs ys) e)
+      | inr rest ↦ within_in xs ys t (both_right (is_in ys x) (is_within xs ys) e) rest
     ]
 
 pub append_left : (xs ys : List Terminal) (t : Terminal) → is_in (xs ++ ys) t ≡ false → is_in xs t ≡ false
@@ -75,7 +44,7 @@ append_right (x ∷ xs) ys t e = append_right xs ys t (or_right (same_terminal t
 pub in_left : (xs ys : List Terminal) (t : Terminal) → is_in xs t ≡ true → is_in (xs ++ ys) t ≡ true
 in_left [] ys t e = absurd cc
 in_left (x ∷ xs) ys t e =
-    elim (or_either (same_terminal t x) (is_in xs t) e) [
+    elim (or_cases (same_terminal t x) (is_in xs t) e) [
       | inl is ↦ true_or (same_terminal t x) (is_in (xs ++ ys) t) is
       | inr rest ↦ or_true (same_terminal t x) (is_in (xs ++ ys) t) (in_left xs ys t rest)
     ]
@@ -94,7 +63,7 @@ within_starts xs ys [] e of = of
 within_starts xs ys (w ∷ ts) e of = within_in xs ys w.terminal e of
 
 pub within_stops : (xs ys : List Terminal) (ts : List Lexeme) → is_within xs ys ≡ true → starts ys ts ≡ false → starts xs ts ≡ false
-within_stops xs ys ts e of = absent (starts xs ts) (λ found. let other : starts ys ts ≡ true = within_starts xs ys ts e found in absurd cc)
+within_stops xs ys ts e of = false_from_ne_true (starts xs ts) (λ found. let other : starts ys ts ≡ true = within_starts xs ys ts e found in absurd cc)
 
 pub left_stops : (xs ys : List Terminal) (ts : List Lexeme) → starts (xs ++ ys) ts ≡ false → starts xs ts ≡ false
 left_stops xs ys [] e = refl

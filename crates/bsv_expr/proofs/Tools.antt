@@ -1,5 +1,6 @@
 -- Steps of reading, taken apart.
-use Rattle.std.proofs.Common.{◌≡◌, ℕ, Bool, true, false, ◌||◌, if◌then◌else◌, List, [], ◌∷◌, Option, Some, None, Result, Ok, Err, refl, subst, sym}
+use Rattle.std.proofs.Common.{◌≡◌, ℕ, Bool, true, false, if◌then◌else◌, List, [], ◌∷◌, Option, Some, None, Result, Ok, Err, refl, subst, sym}
+use Rattle.bsv_lemmas.proofs.Truths.{from_or_false}
 use Rattle.bsv_lex.specs.declared.terminal.Terminal.{Terminal}
 use Rattle.bsv_expr.specs.declared.lexeme.Lexeme.{Lexeme}
 use Rattle.bsv_expr.specs.declared.fault.ReadFault.{ReadFault}
@@ -45,10 +46,6 @@ pub same_is : (a b : Terminal) → same_terminal a b ≡ true → a ≡ b
 unfolding same_terminal
 same_is a b e = same_true the_type tt a b e
 
-or_false : (a : Bool) → (a || false) ≡ true → a ≡ true
-or_false true e = refl
-or_false false e = e
-
 -- a word that stands next
 pub record Next (t : Terminal) (s : Span) (ts us : List Lexeme) : Type 0 where
   pub token : Lexeme
@@ -62,7 +59,7 @@ some_is x y e = cc
 pub next : (source : List ℕ) (t : Terminal) (ts : List Lexeme) (s : Span) (us : List Lexeme) → expect source t ts ≡ Ok (s, us) → Next t s ts us
 next source t ts s us e =
     let l : Leaf (t ∷ []) (span_told source) s ts us = leaf source (t ∷ []) span_told ts s us e in
-    record { token = l.token; is = l.is; by = same_is l.token.terminal t (or_false (same_terminal l.token.terminal t) l.of); at = sym (some_is l.token.span s l.tells) }
+    record { token = l.token; is = l.is; by = same_is l.token.terminal t (from_or_false (same_terminal l.token.terminal t) l.of); at = sym (some_is l.token.span s l.tells) }
 
 pub same_spans : {A C : Type 0} (f : Span → A → Span → C) (a b s t : Span) (x : A) → a ≡ s → b ≡ t → f a x b ≡ f s x t
 same_spans f a b s t x first second = rw (first, second) refl

@@ -1,15 +1,10 @@
 -- The turns of a loop of a reader.
-use Rattle.std.proofs.Common.{◌≡◌, ℕ, suc, ◌+◌, ◌-◌, ◌<◌, ◌≤◌, Bool, ◌&&◌, if◌then◌else◌, List, Ok, ap, arith}
+use Rattle.std.proofs.Common.{◌≡◌, ℕ, ◌+◌, ◌-◌, ◌<◌, ◌≤◌, Bool, ◌&&◌, if◌then◌else◌, List, Ok}
+use Rattle.bsv_lemmas.proofs.Turns.{one_more, no_more}
 use Rattle.bsv_lex.specs.declared.terminal.Terminal.{Terminal}
 use Rattle.bsv_expr.specs.declared.lexeme.Lexeme.{Lexeme}
 use Rattle.bsv_expr.specs.Lexemes.{starts}
 use Rattle.bsv_expr.specs.Reading.{Read, softened, turns}
-
-one_more : {X : Type 0} (f : ℕ → X) (n at : ℕ) → at < n → f (n - at) ≡ f (suc (n - (at + 1)))
-one_more f n at below = let turn : n - at ≡ suc (n - (at + 1)) = omega arith in ap f turn
-
-no_more : {X : Type 0} (f : ℕ → X) (n at : ℕ) → n ≤ at → f (n - at) ≡ f 0
-no_more f n at done = let none : n - at ≡ 0 = omega arith in ap f none
 
 module _ {S A : Type 0} (soft : Bool) (set : List Terminal) (goes : S → Bool) (step : S → A → S) (item : List Lexeme → Read A) where
   pub turns_more : (n at : ℕ) (s : S) (ts : List Lexeme) → at < n → turns soft set goes step item (n - at) s ts ≡ (if goes s && starts set ts then softened soft (item ts) (Ok (s, ts)) (λ a. turns soft set goes step item (n - (at + 1)) (step s a.0) a.1) else Ok (s, ts))

@@ -4,7 +4,7 @@
 -- nothing of proofs/.
 use Rattle.std.proofs.Common.{◌≡◌, ◌<◌, ◌≤◌, Bool, true, false, refl, sym, ◌∙◌, arith}
 use Rattle.std.specs.Prelude.{◌&&◌, not, nat_eq, nat_lt, nat_le, if◌then◌else◌}
-use Rattle.std.proofs.lemmas.Bool.{ltb-true, eqb-true}
+use Rattle.std.proofs.lemmas.Bool.{ltb-true, eqb-true, and_parts, not-true}
 use Rattle.std.proofs.lemmas.Bool.Decides.{nat_tests}
 use Rattle.bsv_prim.specs.Table.{goes_before, in_one_element, converse}
 use Rattle.bsv_prim.specs.Laws.{TableLaws}
@@ -17,15 +17,6 @@ use Rattle.bsv_fifo.specs.QueueLists.{leaves}
 use Rattle.bsv_fifo.specs.QueueTable.{QueueRow, queue_table}
 
 -- ---- tests of every method
-
-pub both_true : (a b : Bool) → (a && b) ≡ true → (a ≡ true) × (b ≡ true)
-both_true true true h = (refl, refl)
-both_true true false h = absurd (let x : ⊥ = cc in x)
-both_true false b h = absurd (let x : ⊥ = cc in x)
-
-pub not_true : (a : Bool) → not a ≡ true → a ≡ false
-not_true true h = cc
-not_true false h = refl
 
 -- what a test says, where its condition holds
 abbrev pub implies : Bool → Bool → Bool
@@ -56,11 +47,11 @@ every f = f Enq && last_five f
 
 pub every_at : (f : Method → Bool) → every f ≡ true → (m : Method) → f m ≡ true
 every_at f h m =
-    let five = both_true (f Enq) (last_five f) h in
-    let four = both_true (f Deq) (last_four f) five.1 in
-    let three = both_true (f First) (last_three f) four.1 in
-    let two = both_true (f NotFull) (last_two f) three.1 in
-    let one = both_true (f NotEmpty) (f Clear) two.1 in
+    let five = and_parts (f Enq) (last_five f) h in
+    let four = and_parts (f Deq) (last_four f) five.1 in
+    let three = and_parts (f First) (last_three f) four.1 in
+    let two = and_parts (f NotFull) (last_two f) three.1 in
+    let one = and_parts (f NotEmpty) (f Clear) two.1 in
     elim m as (λ n. f n ≡ true) [ Enq ↦ five.0 | Deq ↦ four.0 | First ↦ three.0 | NotFull ↦ two.0 | NotEmpty ↦ one.0 | Clear ↦ one.1 ]
 
 -- a test of every pair
@@ -148,11 +139,11 @@ module _ (row : QueueRow) (is : IsTable row) where
   seen : (m n : Method) → row.sees m n ≡ true → Seen m n
   seen m n e =
       let all = implied (row.sees m n) (changes m && (every (λ k. not (row.sees k m)) && same_rel (row.relation m n) Sb)) (pair_at (is_seen_rightly row) is.seen m n) e in
-      let action = both_true (changes m) (every (λ k. not (row.sees k m)) && same_rel (row.relation m n) Sb) all in
-      let rest = both_true (every (λ k. not (row.sees k m))) (same_rel (row.relation m n) Sb) action.1 in
+      let action = and_parts (changes m) (every (λ k. not (row.sees k m)) && same_rel (row.relation m n) Sb) all in
+      let rest = and_parts (every (λ k. not (row.sees k m))) (same_rel (row.relation m n) Sb) action.1 in
       record {
         action = action.0;
-        sees_none = λ k. not_true (row.sees k m) (every_at (λ j. not (row.sees j m)) rest.0 k);
+        sees_none = λ k. not-true (row.sees k m) (every_at (λ j. not (row.sees j m)) rest.0 k);
         before = same_rel_is (row.relation m n) Sb rest.1;
       }
 

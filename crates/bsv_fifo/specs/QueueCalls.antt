@@ -4,7 +4,7 @@
 use Rattle.std.proofs.Common.{◌≡◌, ℕ, Bool, true, false, List, [], ◌∷◌, ◌++◌, length, drop, refl, ap, sym, ◌∙◌, arith, length-append, inl, inr}
 use Rattle.std.specs.Prelude.{◌⊎◌, ◌&&◌, ◌||◌, not, nat_lt}
 use Rattle.std.specs.List.{AllByRecursion}
-use Rattle.std.proofs.lemmas.Bool.{ltb-true, lt-ltb}
+use Rattle.std.proofs.lemmas.Bool.{ltb-true, lt-ltb, and_parts, not-true, or_cases}
 use Rattle.bsv_bits.specs.Words.{Bits}
 use Rattle.bsv_prim.specs.Table.{Table, Call, word_at, goes_before}
 use Rattle.bsv_prim.specs.Calls.{IsOrderly, MayPrecede, after_call, after_calls, look, seen_by}
@@ -17,13 +17,9 @@ use Rattle.bsv_fifo.specs.declared.method.Method.{Method}
 use Rattle.bsv_fifo.specs.declared.method.Method.TheVariants.{Enq, Deq, First, NotFull, NotEmpty, Clear}
 use Rattle.bsv_fifo.specs.Queues.{queue_method, changes, waits, queue_guard, queue_result, changed, items_of, queue_apply, FitsQueue}
 use Rattle.bsv_fifo.specs.QueueTable.{QueueRow, queue_table}
-use Rattle.bsv_fifo.specs.ByTable.{both_true, not_true, implies, implied, implied_not, every, every_at, every_pair, pair_at, same_rel, is_same}
+use Rattle.bsv_fifo.specs.ByTable.{implies, implied, implied_not, every, every_at, every_pair, pair_at, same_rel, is_same}
 use Rattle.bsv_fifo.specs.QueueLists.{items_after, leaves_items, leaves, drop_append, length_drop}
 use Rattle.bsv_fifo.specs.QueueRuns.{IsOnce, items_follow}
-
-either_true : (a b : Bool) → (a || b) ≡ true → (a ≡ true) ⊎ (b ≡ true)
-either_true true b h = inl refl
-either_true false b h = inr h
 
 -- ---- the tests
 
@@ -124,12 +120,12 @@ swap_values depth m n xs args brgs a b g h =
 
 swap : (depth : ℕ) (m n : Method) (xs args brgs : List Bits) → may_swap m n ≡ true → queue_guard depth m xs ≡ true → queue_guard depth n xs ≡ true → Swap depth m n xs args brgs
 swap depth m n xs args brgs e g h =
-    elim (either_true (swaps m n) (swaps n m || (not (changes m) && not (changes n))) e) [
+    elim (or_cases (swaps m n) (swaps n m || (not (changes m) && not (changes n))) e) [
       | inl s ↦ swap_enq depth m n xs args brgs s g h
-      | inr r ↦ elim (either_true (swaps n m) (not (changes m) && not (changes n)) r) [
+      | inr r ↦ elim (or_cases (swaps n m) (not (changes m) && not (changes n)) r) [
         | inl s ↦ turned depth m n xs args brgs (swap_enq depth n m xs brgs args s h g)
-        | inr v ↦ let both = both_true (not (changes m)) (not (changes n)) v in
-            swap_values depth m n xs args brgs (not_true (changes m) both.0) (not_true (changes n) both.1) g h
+        | inr v ↦ let both = and_parts (not (changes m)) (not (changes n)) v in
+            swap_values depth m n xs args brgs (not-true (changes m) both.0) (not-true (changes n) both.1) g h
       ]
     ]
 
@@ -196,7 +192,7 @@ module _ (row : QueueRow) (once : IsOnce row) (is : AreCallsRight row) where
       let one = implied (changes m) _ (pair_at (is_unguarded row) is.unguarded m n) a in
       let two = implied (same_rel (row.relation m n) Sb) _ one (is_same (row.relation m n) Sb e) in
       let three = implied_not (row.sees m n) (not (waits n)) two s in
-      unguarded_ready row.depth n xs (not_true (waits n) three)
+      unguarded_ready row.depth n xs (not-true (waits n) three)
 
   pub queue_commute : CommuteLaw t
   queue_commute = record {
@@ -214,8 +210,8 @@ module _ (row : QueueRow) (once : IsOnce row) (is : AreCallsRight row) where
   past p cs y f o h test =
       let n = queue_method y.method in
       let at = every_at (λ m. not (row.sees m (queue_method y.method)) && implies (goes_before (row.relation m (queue_method y.method))) (keeps m (queue_method y.method))) test in
-      let unseen = λ (m : Method). not_true (row.sees m (queue_method y.method)) (both_true _ _ (at m)).0 in
-      let kept_by = all_weaker {P = λ c. MayPrecede t c y} {Q = λ c. keeps (queue_method c.method) (queue_method y.method) ≡ true} (λ c e. implied (goes_before (row.relation (queue_method c.method) (queue_method y.method))) (keeps (queue_method c.method) (queue_method y.method)) (both_true _ _ (at (queue_method c.method))).1 e) cs h in
+      let unseen = λ (m : Method). not-true (row.sees m (queue_method y.method)) (and_parts _ _ (at m)).0 in
+      let kept_by = all_weaker {P = λ c. MayPrecede t c y} {Q = λ c. keeps (queue_method c.method) (queue_method y.method) ≡ true} (λ c e. implied (goes_before (row.relation (queue_method c.method) (queue_method y.method))) (keeps (queue_method c.method) (queue_method y.method)) (and_parts _ _ (at (queue_method c.method))).1 e) cs h in
       rw (items_follow row once p cs f o, sees_none y.method cs unseen) (keep_all row.width row.depth (queue_method y.method) (items_of p) cs kept_by)
 
   through : (p : Part) (cs : List Call) (y : Call) → AllByRecursion (λ c. MayPrecede t c y) cs → looks_through row (queue_method y.method) ≡ true
@@ -223,19 +219,19 @@ module _ (row : QueueRow) (once : IsOnce row) (is : AreCallsRight row) where
   through p cs y h test =
       kept row.width row.depth (queue_method y.method) (items_of (look t y.method p cs)) (items_of (after_calls t p cs))
       (ap items_of (sym (look_whole t y.method p cs
-      (all_weaker {P = λ c. MayPrecede t c y} {Q = λ c. (t.sees c.method y.method ≡ true) ⊎ ((q : Part) → after_call t q c ≡ q)} (λ c e. seen_or_idle c (either_true _ _ (implied (goes_before (row.relation (queue_method c.method) (queue_method y.method))) _ (at (queue_method c.method)) e))) cs h))))
+      (all_weaker {P = λ c. MayPrecede t c y} {Q = λ c. (t.sees c.method y.method ≡ true) ⊎ ((q : Part) → after_call t q c ≡ q)} (λ c e. seen_or_idle c (or_cases _ _ (implied (goes_before (row.relation (queue_method c.method) (queue_method y.method))) _ (at (queue_method c.method)) e))) cs h))))
     where
       at : (m : Method) → implies (goes_before (row.relation m (queue_method y.method))) (row.sees m (queue_method y.method) || not (changes m)) ≡ true
       at = every_at (λ m. implies (goes_before (row.relation m (queue_method y.method))) (row.sees m (queue_method y.method) || not (changes m))) test
 
       seen_or_idle : (c : Call) → (row.sees (queue_method c.method) (queue_method y.method) ≡ true) ⊎ (not (changes (queue_method c.method)) ≡ true) → (t.sees c.method y.method ≡ true) ⊎ ((q : Part) → after_call t q c ≡ q)
       seen_or_idle c (inl s) = inl s
-      seen_or_idle c (inr i) = inr (λ q. leaves (queue_method c.method) q c.args (not_true (changes (queue_method c.method)) i))
+      seen_or_idle c (inr i) = inr (λ q. leaves (queue_method c.method) q c.args (not-true (changes (queue_method c.method)) i))
 
   looks : (p : Part) (cs : List Call) (y : Call) → FitsQueue row.width row.depth p → IsOrderly t p cs → AllByRecursion (λ c. MayPrecede t c y) cs
       → Keeps row.width row.depth (queue_method y.method) (items_of (look t y.method p cs)) (items_of (after_calls t p cs))
   looks p cs y f o h =
-      elim (either_true (looks_past row (queue_method y.method)) (looks_through row (queue_method y.method)) (every_at (is_looking row) is.looking (queue_method y.method))) [
+      elim (or_cases (looks_past row (queue_method y.method)) (looks_through row (queue_method y.method)) (every_at (is_looking row) is.looking (queue_method y.method))) [
         | inl test ↦ past p cs y f o h test
         | inr test ↦ through p cs y h test
       ]

@@ -1,11 +1,11 @@
 -- What a queue's row needs, that its table keeps the laws.
 -- Proof alone, with the words of the proof: it stands in specs/ since the `laws` of an impl may cite
 -- nothing of proofs/.
-use Rattle.std.proofs.Common.{◌≡◌, ℕ, zero, suc, ◌+◌, ◌<◌, ◌≤◌, Bool, true, false, List, [], ◌∷◌, length, replicate, refl, ap, sym, ◌∙◌, arith, Option, None}
+use Rattle.std.proofs.Common.{◌≡◌, ℕ, zero, suc, ◌+◌, ◌<◌, ◌≤◌, true, false, List, [], ◌∷◌, length, replicate, refl, ap, sym, ◌∙◌, arith, Option, None}
 use Rattle.std.specs.Prelude.{◌⊎◌, MatchOption, not, nat_lt}
 use Rattle.std.specs.List.{AllByRecursion}
 use Rattle.std.proofs.lemmas.Bool.Decides.{nat_tests}
-use Rattle.std.proofs.Math.Pow.{pow_pos}
+use Rattle.std.proofs.lemmas.Bool.{not-true}
 use Rattle.bsv_bits.specs.Words.{Bits, bit, zero_word}
 use Rattle.bsv_prim.specs.Signals.{Signals, word_of}
 use Rattle.bsv_prim.specs.Speaks.{SpeaksOf}
@@ -19,11 +19,12 @@ use Rattle.bsv_fifo.specs.declared.method.Method.{Method}
 use Rattle.bsv_fifo.specs.declared.method.Method.TheVariants.{Enq, Deq, First, NotFull, NotEmpty, Clear}
 use Rattle.bsv_fifo.specs.Queues.{queue_method, changes, waits, queue_guard, queue_result, queue_result_width, items_of, FitsQueue, count_width, ShowsItems, queue_register_width, front}
 use Rattle.bsv_fifo.specs.QueueTable.{QueueRow, queue_table}
-use Rattle.bsv_fifo.specs.ByTable.{IsTable, every, every_at, not_true, is_seen_action, unseen_by_itself, queue_table_laws}
+use Rattle.bsv_fifo.specs.ByTable.{IsTable, every, every_at, is_seen_action, unseen_by_itself, queue_table_laws}
 use Rattle.bsv_fifo.specs.QueueLists.{closed}
 use Rattle.bsv_fifo.specs.QueueRuns.{IsOnce, called_unseen, none_seen, ready_at_start, applied, items_closed, fits_within}
 use Rattle.bsv_fifo.specs.QueueCalls.{AreCallsRight, unguarded_ready, queue_commute, queue_look}
 use Rattle.bsv_fifo.specs.CountWidth.{some_count_width, few_count_width}
+use Rattle.bsv_prim.specs.WireKinds.{bit_is_word, zero_is_word}
 
 -- the signals tell of the last call of a method
 abbrev pub IsTold : Signals → ℕ → ℕ → Option (List Bits) → Type 0
@@ -72,13 +73,6 @@ front_shown width depth [] registers s r = cc
 front_shown width depth (x ∷ xs) registers s r = s.item 0 (omega arith)
 
 -- ---- words
-
-zero_is_word : (width : ℕ) → 1 ≤ width → width ≤ 128 → IsWordOf width (zero_word width)
-zero_is_word width some most = record { word = record { some = some; most = most; below = pow_pos width }; same_width = refl }
-
-bit_is_word : (b : Bool) → IsWordOf 1 (bit b)
-bit_is_word true = record { word = record { some = omega arith; most = omega arith; below = omega arith }; same_width = refl }
-bit_is_word false = record { word = record { some = omega arith; most = omega arith; below = omega arith }; same_width = refl }
 
 module _ (row : QueueRow) (is : IsQueue row) where
   abbrev t : Table
@@ -147,7 +141,7 @@ module _ (row : QueueRow) (is : IsQueue row) where
 
   no_clear : (n : ℕ) → t.sees 5 n ≡ false
   no_clear n =
-      not_true (row.sees Clear (queue_method n)) (every_at (λ m. not (row.sees Clear m)) is.clear_unseen (queue_method n))
+      not-true (row.sees Clear (queue_method n)) (every_at (λ m. not (row.sees Clear m)) is.clear_unseen (queue_method n))
 
   seen : (n : ℕ) (cs : List Call) → AllByRecursion (λ c. t.sees c.method n ≡ true) cs → Seen row (queue_method n) (latest 0 None cs) (latest 1 None cs)
   seen n cs h = record { enq = called_unseen t n 0 cs h; deq = called_unseen t n 1 cs h }

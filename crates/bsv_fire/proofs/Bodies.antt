@@ -5,6 +5,7 @@ use Rattle.std.specs.List.{AllByRecursion}
 use Rattle.std.proofs.lemmas.Bool.{and_parts, eqb-true}
 use Rattle.std.proofs.lemmas.List.{length-map, map-append}
 use Rattle.std.proofs.lemmas.Option.{slice_get_within}
+use Rattle.bsv_lemmas.proofs.Places.{mapped_at}
 use Rattle.bsv_bits.specs.Words.{Bits, word_not}
 use Rattle.bsv_prim.specs.Table.{Table}
 use Rattle.bsv_design.specs.declared.element.Call.{Call}
@@ -20,7 +21,6 @@ use Rattle.bsv_design.specs.Schemes.{design_scheme, given, kinds_of, calls_of}
 use Rattle.bsv_design.specs.Traces.{kind_at}
 use Rattle.bsv_design.specs.Widths.{args_fit, gives_word, has_width, method_fits, node_width, result_width, widths_from}
 use Rattle.bsv_guard.specs.ElementLaws.{IsUse}
-use Rattle.bsv_guard.proofs.Lists.{mapped_at}
 use Rattle.bsv_guard.proofs.Nodes.{arguments_before, chained, where_width}
 use Rattle.bsv_net.specs.declared.node.NetNode.{NetNode}
 use Rattle.bsv_net.specs.declared.node.NetNode.TheVariants as net

@@ -3,8 +3,11 @@ use Rattle.std.proofs.Common.{◌≡◌, ◌≢◌, ◌∙◌, ◌<◌, ◌≤�
 use Rattle.std.specs.Prelude.{slice_get, option_map}
 use Rattle.std.specs.List.{list_any}
 use Rattle.std.proofs.lemmas.Bool.{and_parts, cases_lt, ltb-true}
-use Rattle.std.proofs.lemmas.List.{length-map}
+use Rattle.std.proofs.lemmas.List.{length-map, length-set}
 use Rattle.std.proofs.lemmas.Option.{slice_get_past}
+use Rattle.std.proofs.lemmas.List.Folds.{list_any-append}
+use Rattle.bsv_lemmas.proofs.Places.{mapped_at, set_elsewhere, set_there}
+use Rattle.bsv_lemmas.proofs.Truths.{or_false}
 use Rattle.bsv_bits.specs.Words.{Bits, bit}
 use Rattle.bsv_design.specs.declared.element.Element.{Element}
 use Rattle.bsv_design.specs.Bodies.{Answers, Target, at, target, words}
@@ -14,7 +17,7 @@ use Rattle.bsv_design.specs.Traces.{Site, kind_at}
 use Rattle.bsv_design.specs.Widths.{has_width, method_fits, result_fits}
 use Rattle.bsv_graph.specs.Orders.{In}
 use Rattle.bsv_graph.proofs.LeastLemmas.{in_left, in_parts, in_right}
-use Rattle.bsv_guard.proofs.Lists.{item_of, mapped_at}
+use Rattle.bsv_guard.proofs.Lists.{item_of}
 use Rattle.bsv_clock.specs.Clocks.{is_in, may_fire}
 use Rattle.bsv_clock.specs.Settling.{fires, is_stopped, or_no_numbers, stops_in}
 use Rattle.bsv_clock.proofs.Stopping.{stops_true, stops_within}
@@ -31,12 +34,12 @@ use Rattle.bsv_fire.proofs.Bodies.{body_told}
 use Rattle.bsv_fire.proofs.FireTold.{fire_told, fires_where, once, stands_below}
 use Rattle.bsv_ports.proofs.Scene.{Scene, S, does, looks, TellsFiring, TellsSite}
 use Rattle.bsv_fire.proofs.Frame.{IsGround, Tells, TellsElement}
-use Rattle.bsv_fire.proofs.Front.{any_append, not_yet, or_false}
 use Rattle.bsv_fire.proofs.Ready.{ready_opens, ready_told}
-use Rattle.bsv_fire.proofs.Setting.{length-set, node_elsewhere, node_there, set_elsewhere, set_there}
+use Rattle.bsv_fire.proofs.Setting.{node_elsewhere, node_there}
 use Rattle.bsv_fire.proofs.Steps.{all_stopped_grows, fire_grows, ready_grows}
 use Rattle.bsv_fire.proofs.Traces.{arguments_stand, call_is_fit, calls_told, fits, own_words, same_as_wired, sites_are, value_is, word_told, words_have}
 use Rattle.bsv_fire.proofs.Wiring.{IsWired}
+use Rattle.bsv_graph.proofs.Fronts.{not_yet}
 
 module _ (z : Scene) (g : Ground) (ground : IsGround z g) (stand rest : List ℕ) (n : ℕ) (split : z.made.urgency ≡ stand ++ n ∷ rest) (e : Element) (is : slice_get z.b.elements n ≡ Some e) (x : Growing) (tells : Tells z x stand) (r : Answers) (wiring : IsWired z g.base x.ports n r) (grows : Grows (placed g x n e).nodes z.full) where
   -- ---- what is placed
@@ -256,7 +259,7 @@ module _ (z : Scene) (g : Ground) (ground : IsGround z g) (stand rest : List ℕ
   any_stopped ms m = list_any (λ f. fires (does z) f && stops_in z.made f m) ms
 
   any_one_more : (t : ℕ → Bool) → (list_any t stand || t n) ≡ list_any t (stand ++ n ∷ [])
-  any_one_more t = ap (λ (b : Bool). list_any t stand || b) (sym (or_false (t n))) ∙ sym (any_append t stand (n ∷ []))
+  any_one_more t = ap (λ (b : Bool). list_any t stand || b) (sym (or_false (t n))) ∙ sym (list_any-append t stand (n ∷ []))
 
   -- no element that there is not is stopped
   none_stops : (f m : ℕ) → length z.b.elements ≤ m → stops_in z.made f m ≡ false

@@ -24,7 +24,8 @@ use Rattle.bsv_fire.specs.Grounds.{Ground}
 use Rattle.bsv_fire.specs.Growing.{asked_and, unless}
 use Rattle.bsv_ports.proofs.Scene.{Scene, S, does, looks}
 use Rattle.bsv_fire.proofs.Frame.{IsGround}
-use Rattle.bsv_fire.proofs.Front.{any_in_front, in_front}
+use Rattle.bsv_fire.proofs.Front.{any_in_front}
+use Rattle.bsv_graph.proofs.Fronts.{in_front}
 
 pub unless_grows : (p : Placed) (o : Option ℕ) → Grows p.nodes (unless p o).nodes
 unless_grows p None = grows_refl p.nodes

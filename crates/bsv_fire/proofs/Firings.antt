@@ -3,7 +3,8 @@ use Rattle.std.proofs.Common.{◌≡◌, ◌∙◌, ◌<◌, ◌≤◌, ◌⊎�
 use Rattle.std.specs.Prelude.{slice_get, unwrap_or}
 use Rattle.std.proofs.lemmas.Bool.{cases_lt}
 use Rattle.std.proofs.lemmas.List.{length-map}
-use Rattle.std.proofs.lemmas.Option.{slice_get_past}
+use Rattle.std.proofs.lemmas.Option.{slice_get_past, same_Some}
+use Rattle.bsv_lemmas.proofs.Places.{mapped_at}
 use Rattle.bsv_bits.specs.Words.{Bits, bit}
 use Rattle.bsv_prim.specs.Table.{word_at}
 use Rattle.bsv_prim.specs.declared.part.Part.{Part}
@@ -23,7 +24,6 @@ use Rattle.bsv_guard.proofs.Given.{given_arguments}
 use Rattle.bsv_clock.proofs.Clocks.{clock_fed}
 use Rattle.bsv_clock.proofs.Steadily.{steady_scheme}
 use Rattle.bsv_design.specs.declared.kind.Kind.{Kind}
-use Rattle.bsv_guard.proofs.Lists.{mapped_at}
 use Rattle.bsv_clock.specs.Hardware.{TellsElements, cells_of, cell_widths, inputs_of}
 use Rattle.bsv_clock.specs.Clocks.{IsClock, is_in}
 use Rattle.bsv_clock.specs.Grounds.{BelongTogether, Fit, IsLawful, IsScheduleOf}
@@ -41,7 +41,6 @@ use Rattle.bsv_fire.specs.Growing.{Growing}
 use Rattle.bsv_ports.specs.CallSites.{or_none}
 use Rattle.bsv_ports.proofs.Scene.{Scene, looks}
 use Rattle.bsv_fire.proofs.Frame.{Tells}
-use Rattle.bsv_fire.proofs.Structure.{some_same}
 use Rattle.bsv_net.proofs.WidthsFit.{cells_have, inputs_have}
 use Rattle.bsv_fire.proofs.Whole.{fires_is, fired_fires, fired_below, look_is}
 
@@ -180,7 +179,7 @@ module _ (b : Blueprint) (right : IsDesign b) (needs : List (List Need)) (made :
     site_told n i k y z there at_z =
         let l = fired_below T made q s together fired after clock n i in
         let found = told.firing.calls n (among n l) k y.target (use_of n k y there) in
-        let same : found.0 ≡ z = some_same found.0 z (sym found.1 ∙ (sym (ap (λ (ss : List (List NetSite)). slice_get (or_none (slice_get ss n)) k) is.sites) ∙ at_z)) in
+        let same : found.0 ≡ z = same_Some found.0 z (sym found.1 ∙ (sym (ap (λ (ss : List (List NetSite)). slice_get (or_none (slice_get ss n)) k) is.sites) ∙ at_z)) in
         let tells = told.firing.told n (among n l) (fired_fires T made q s together fired after clock n i) k y found.0 there found.1 in
         subst (λ (w : NetSite). firing.TellsSite vs y w) same (record {
           taken = tells.taken;

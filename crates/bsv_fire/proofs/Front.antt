@@ -1,64 +1,16 @@
 -- What stands in front of an element in a list of numbers.
-use Rattle.std.proofs.Common.{◌≡◌, ◌∙◌, ◌+◌, ◌<◌, ◌≤◌, ◌⊎◌, inl, inr, ℕ, Bool, true, false, ◌||◌, List, [], ◌∷◌, ◌++◌, refl, ap, ap₂, arith, length}
+use Rattle.std.proofs.Common.{◌≡◌, ◌∙◌, inl, inr, ℕ, Bool, false, ◌||◌, List, [], ◌∷◌, ◌++◌, refl, ap, ap₂}
 use Rattle.std.specs.List.{list_any}
-use Rattle.std.proofs.lemmas.Bool.{cases_eq}
-use Rattle.bsv_graph.specs.Orders.{In, IsOnce, place_of}
-use Rattle.bsv_graph.proofs.LeastLemmas.{once_apart}
-use Rattle.bsv_graph.proofs.OrderedLemmas.{place_here, place_there}
-
--- an element behind some others, in which it is not, has their number as its place
-pub place_behind : (us ws : List ℕ) (f : ℕ) → ¬ In us f → length us ≤ place_of (us ++ ws) f
-place_behind [] ws f out = omega arith
-place_behind (u ∷ us) ws f out =
-    let rest = place_behind us ws f (λ i. out (inr i)) in
-    let here = place_there u f (1 + place_of (us ++ ws) f) (λ e. out (inl e)) in
-    omega (arith, rest, here)
-
-pub place_next : (us rest : List ℕ) (n : ℕ) → ¬ In us n → place_of (us ++ n ∷ rest) n ≡ length us
-place_next [] rest n out = place_here n n (1 + place_of rest n) refl
-place_next (u ∷ us) rest n out =
-    let next = place_next us rest n (λ i. out (inr i)) in
-    let here = place_there u n (1 + place_of (us ++ n ∷ rest) n) (λ e. out (inl e)) in
-    omega (arith, next, here)
-
-pub is_or_not : (us : List ℕ) (f : ℕ) → In us f ⊎ ¬ In us f
-is_or_not [] f = inr (λ i. i)
-is_or_not (u ∷ us) f = of (cases_eq f u) (is_or_not us f)
-  where
-    of : (f ≡ u) ⊎ (f ≡ u → ⊥) → In us f ⊎ ¬ In us f → In (u ∷ us) f ⊎ ¬ In (u ∷ us) f
-    of (inl e) k = inl (inl e)
-    of (inr m) (inl i) = inl (inr i)
-    of (inr m) (inr o) = inr (λ i. elim i [ inl e ↦ m e | inr j ↦ o j ])
-
-pub not_yet : (us rest : List ℕ) (n : ℕ) → IsOnce (us ++ n ∷ rest) → ¬ In us n
-not_yet us rest n once i = once_apart us (n ∷ rest) n once i (inl refl)
-
--- what has an earlier place stands in front
-pub in_front : (us rest : List ℕ) (n f : ℕ) → IsOnce (us ++ n ∷ rest) → place_of (us ++ n ∷ rest) f < place_of (us ++ n ∷ rest) n → In us f
-in_front us rest n f once l = of (is_or_not us f)
-  where
-    of : In us f ⊎ ¬ In us f → In us f
-    of (inl i) = i
-    of (inr o) = absurd (let m = place_behind us (n ∷ rest) f o in let e = place_next us rest n (not_yet us rest n once) in omega (arith, l, m, e))
+use Rattle.std.proofs.lemmas.List.Folds.{list_any-append}
+use Rattle.bsv_lemmas.proofs.Truths.{or_false}
+use Rattle.bsv_graph.specs.Orders.{In}
 
 -- ---- tests
-
-pub any_append : (t : ℕ → Bool) (us ws : List ℕ) → list_any t (us ++ ws) ≡ (list_any t us || list_any t ws)
-any_append t [] ws = refl
-any_append t (u ∷ us) ws = of (t u) (any_append t us ws)
-  where
-    of : (b : Bool) → list_any t (us ++ ws) ≡ (list_any t us || list_any t ws) → (b || list_any t (us ++ ws)) ≡ ((b || list_any t us) || list_any t ws)
-    of true e = refl
-    of false e = e
 
 pub none_of : (t : ℕ → Bool) (ws : List ℕ) → ((f : ℕ) → In ws f → t f ≡ false) → list_any t ws ≡ false
 none_of t [] h = refl
 none_of t (w ∷ ws) h = ap₂ (λ (a b : Bool). a || b) (h w (inl refl)) (none_of t ws (λ f i. h f (inr i)))
 
-pub or_false : (b : Bool) → (b || false) ≡ b
-or_false true = refl
-or_false false = refl
-
 -- a test that nothing passes from an element on
 pub any_in_front : (t : ℕ → Bool) (us ws : List ℕ) → ((f : ℕ) → In ws f → t f ≡ false) → list_any t (us ++ ws) ≡ list_any t us
-any_in_front t us ws h = any_append t us ws ∙ ap (λ (b : Bool). list_any t us || b) (none_of t ws h) ∙ or_false (list_any t us)
+any_in_front t us ws h = list_any-append t us ws ∙ ap (λ (b : Bool). list_any t us || b) (none_of t ws h) ∙ or_false (list_any t us)

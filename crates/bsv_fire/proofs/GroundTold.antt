@@ -4,6 +4,7 @@ use Rattle.std.specs.Prelude.{slice_get}
 use Rattle.std.specs.List.{flat_map}
 use Rattle.std.proofs.lemmas.List.{length-map}
 use Rattle.std.proofs.lemmas.Option.{slice_get_within, slice_get-get_or}
+use Rattle.bsv_lemmas.proofs.Places.{mapped_at, at_left, at_right}
 use Rattle.bsv_bits.specs.Words.{Bits, bit}
 use Rattle.bsv_prim.specs.Table.{word_at}
 use Rattle.bsv_design.specs.declared.element.Element.{Element}
@@ -21,7 +22,6 @@ use Rattle.bsv_design.specs.Schemes.{Scheme, Outline, Asking, given, outline, po
 use Rattle.bsv_design.specs.States.{part_at}
 use Rattle.bsv_graph.specs.Edges.{numbers_below}
 use Rattle.bsv_guard.proofs.Given.{given_arguments}
-use Rattle.bsv_guard.proofs.Lists.{mapped_at}
 use Rattle.bsv_clock.specs.Hardware.{Shows, cells_in, cells_of, inputs_from, inputs_of, input_widths_of}
 use Rattle.bsv_clock.specs.Clocks.{is_asked}
 use Rattle.bsv_net.specs.declared.node.NetNode.{NetNode}
@@ -34,7 +34,8 @@ use Rattle.bsv_fire.specs.Grounds.{Ground}
 use Rattle.bsv_ports.proofs.FirstNodes.{MethodsFirst, argument_at, asked_at, inputs_before, part_shown, register_start, registers_before, start_of, word_behind}
 use Rattle.bsv_ports.proofs.Scene.{Scene, S}
 use Rattle.bsv_fire.proofs.Frame.{IsGround}
-use Rattle.bsv_net.proofs.Numbers.{count_below, got_before, got_behind, number_at}
+use Rattle.bsv_net.proofs.Numbers.{number_at}
+use Rattle.bsv_graph.proofs.Below.{count_below}
 
 -- ---- which node stands where
 
@@ -50,18 +51,18 @@ module _ (inputs registers : ℕ) where
 
   pub input_there : (k : ℕ) → k < inputs → slice_get (first_nodes inputs registers) k ≡ Some (net.Input k)
   input_there k l =
-      got_before (map net.Input (numbers_below inputs)) behind_inputs k (omega (arith, many))
+      at_left (map net.Input (numbers_below inputs)) behind_inputs k (omega (arith, many))
       ∙ mapped_at net.Input (numbers_below inputs) k k (number_at inputs k l)
 
   behind_there : (k : ℕ) → slice_get (first_nodes inputs registers) (inputs + k) ≡ slice_get behind_inputs k
   behind_there k =
       ap (λ n. slice_get (first_nodes inputs registers) (n + k)) (sym many)
-      ∙ got_behind (map net.Input (numbers_below inputs)) behind_inputs k
+      ∙ at_right (map net.Input (numbers_below inputs)) behind_inputs k
 
   pub register_there : (k : ℕ) → k < registers → slice_get (first_nodes inputs registers) (inputs + k) ≡ Some (net.Register k)
   register_there k l =
       behind_there k
-      ∙ (got_before (map net.Register (numbers_below registers)) (net.Constant (bit false) ∷ net.Constant (bit true) ∷ []) k (omega (arith, many_registers))
+      ∙ (at_left (map net.Register (numbers_below registers)) (net.Constant (bit false) ∷ net.Constant (bit true) ∷ []) k (omega (arith, many_registers))
       ∙ mapped_at net.Register (numbers_below registers) k k (number_at registers k l))
 
   bits_there : (k : ℕ) → slice_get (first_nodes inputs registers) (inputs + registers + k) ≡ slice_get (net.Constant (bit false) ∷ net.Constant (bit true) ∷ []) k
@@ -69,7 +70,7 @@ module _ (inputs registers : ℕ) where
       ap (slice_get (first_nodes inputs registers)) (omega arith)
       ∙ (behind_there (registers + k)
       ∙ (ap (λ n. slice_get behind_inputs (n + k)) (sym many_registers)
-      ∙ got_behind (map net.Register (numbers_below registers)) (net.Constant (bit false) ∷ net.Constant (bit true) ∷ []) k))
+      ∙ at_right (map net.Register (numbers_below registers)) (net.Constant (bit false) ∷ net.Constant (bit true) ∷ []) k))
 
   pub none_there : slice_get (first_nodes inputs registers) (inputs + registers) ≡ Some (net.Constant (bit false))
   none_there = ap (slice_get (first_nodes inputs registers)) (omega arith) ∙ bits_there 0

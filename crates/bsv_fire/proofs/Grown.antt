@@ -1,14 +1,14 @@
 -- The net as it grows tells of all elements that stand in it, and so the whole net tells of all.
 use Rattle.std.proofs.Common.{◌≡◌, ◌∙◌, ◌<◌, ℕ, zero, suc, List, [], ◌∷◌, ◌++◌, Option, Some, None, refl, sym, ap, subst, arith, append_assoc, append-nil, length}
 use Rattle.std.specs.Prelude.{slice_get, replicate}
-use Rattle.std.proofs.lemmas.List.{length-map}
+use Rattle.std.proofs.lemmas.List.{length-map, length-replicate}
+use Rattle.bsv_lemmas.proofs.Places.{mapped_at, item_there}
 use Rattle.bsv_design.specs.declared.element.Element.{Element}
 use Rattle.bsv_design.specs.declared.kind.Kind.{Kind}
 use Rattle.bsv_design.specs.Bodies.{Answers, Target}
 use Rattle.bsv_design.specs.Kinds.{kind_table}
 use Rattle.bsv_design.specs.Schemes.{design_scheme, kinds_of, outline}
 use Rattle.bsv_guard.specs.ElementLaws.{IsUse}
-use Rattle.bsv_guard.proofs.Lists.{mapped_at}
 use Rattle.bsv_net.specs.declared.node.NetNode.{NetNode}
 use Rattle.bsv_net.specs.declared.node.Site.{Site as NetSite}
 use Rattle.bsv_net.specs.declared.wires.MethodPort.{MethodPort}
@@ -22,7 +22,7 @@ use Rattle.bsv_fire.proofs.Element.{element_told}
 use Rattle.bsv_fire.proofs.FireTold.{stands_below}
 use Rattle.bsv_ports.proofs.Scene.{Scene, S}
 use Rattle.bsv_fire.proofs.Frame.{IsGround, Tells, placed_port}
-use Rattle.bsv_fire.proofs.Setting.{in_replicate, replicate_long, there_is}
+use Rattle.bsv_fire.proofs.Setting.{in_replicate}
 use Rattle.bsv_fire.proofs.PortsPlaced.{PortsTold, seen_placed}
 use Rattle.bsv_fire.proofs.Steps.{element_grows, grown_grows}
 use Rattle.bsv_fire.proofs.Wired.{SeesPorts}
@@ -35,11 +35,11 @@ none_told z ns grows = record {
   nodes = grows;
   elements = λ n i. absurd i;
   firing = record { fire = λ n i. absurd i; calls = λ n i. absurd i; told = λ n i. absurd i; others = λ n o. none (slice_get (replicate count []) n) (λ ss e. in_replicate count n [] ss e) };
-  long = replicate_long count 0;
-  long_stoppers = replicate_long count None;
-  long_readies = replicate_long count 0;
-  long_results = replicate_long count None;
-  long_sites = replicate_long count [];
+  long = length-replicate count 0;
+  long_stoppers = length-replicate count None;
+  long_readies = length-replicate count 0;
+  long_results = length-replicate count None;
+  long_sites = length-replicate count [];
   free = λ n e. refl;
   stopped_is = λ n k e. absurd (nobody (slice_get (replicate count None) n) k (λ o f. in_replicate count n None o f) e);
   rooms = rooms;
@@ -60,7 +60,7 @@ none_told z ns grows = record {
     rooms : (i : ℕ) (k : Kind) → slice_get (kinds_of z.b) i ≡ Some k
         → (ps : List (Option MethodPort)) × (slice_get (no_ports (kinds_of z.b)) i ≡ Some ps) × (length ps ≡ (kind_table k).methods)
     rooms i k there =
-        (replicate (kind_table k).methods None, mapped_at (λ (c : Kind). replicate (kind_table c).methods None) (kinds_of z.b) i k there, replicate_long (kind_table k).methods None)
+        (replicate (kind_table k).methods None, mapped_at (λ (c : Kind). replicate (kind_table c).methods None) (kinds_of z.b) i k there, length-replicate (kind_table k).methods None)
 
     empty_slot : (o : Option (Option MethodPort)) (p : MethodPort) → ((x : Option MethodPort) → o ≡ Some x → x ≡ None) → placed o ≡ Some p → ⊥
     empty_slot None p h e = let f : ⊥ = cc in f
@@ -96,7 +96,7 @@ module _ (z : Scene) (g : Ground) (ground : IsGround z g) (ports_told : PortsTol
   number_told : (stand rest : List ℕ) (n : ℕ) → z.made.urgency ≡ stand ++ n ∷ rest → (o : Option Element) → slice_get z.b.elements n ≡ o → n < length z.b.elements
       → (x : Growing) → Tells z x stand → Grows (with_number g x n o).nodes z.full → Tells z (with_number g x n o) (stand ++ n ∷ [])
   number_told stand rest n split None is l x tells grows =
-      let s = there_is z.b.elements n l in
+      let s = item_there z.b.elements n l in
       let t = s.1 in
       absurd (let f : ⊥ = cc in f)
   number_told stand rest n split (Some e) is l x tells grows = with_element_told stand rest n split e is x tells grows

@@ -1,7 +1,6 @@
 pub mod Frame
 pub mod GroundTold
 pub mod Whole
-pub mod Settings
 pub mod Structure
 pub mod Firings
 pub mod Promise

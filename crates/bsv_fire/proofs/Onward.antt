@@ -6,7 +6,7 @@ use Rattle.bsv_graph.specs.Edges.{numbers_below}
 use Rattle.bsv_net.specs.declared.node.NetNode.TheVariants as net
 use Rattle.bsv_fire.specs.Grounds.{Ground}
 use Rattle.bsv_fire.specs.Growing.{Growing, with_method, with_seen}
-use Rattle.bsv_ports.proofs.Zeros.{numbers_more}
+use Rattle.bsv_graph.proofs.Below.{numbers_more}
 
 abbrev pub one_seen : Ground → Kind → ℕ → ℕ → Growing → ℕ → Growing
 one_seen g k i y x m = cond ((kind_table k).sees m y) (with_method g k i m x) x

@@ -1,7 +1,6 @@
 -- The pieces of a method, where the signals tell the calls that it sees: they rest on those calls alone, and on the
 -- registers of the part.
 use Rattle.std.proofs.Common.{◌≡◌, ◌∙◌, ℕ, ◌<◌, ◌⊎◌, Bool, true, false, cond, ◌&&◌, List, [], ◌∷◌, Option, None, MatchOption, refl, sym, ap, ap₂, subst}
-use Rattle.std.specs.Prelude.{if◌then◌else◌}
 use Rattle.std.specs.List.{AllByRecursion}
 use Rattle.bsv_bits.specs.Operators.{operate}
 use Rattle.bsv_bits.specs.Words.{Bits, bit, word_not, word_slice, word_concat, word_extend}
@@ -9,14 +8,12 @@ use Rattle.bsv_prim.specs.declared.part.Part.{Part}
 use Rattle.bsv_prim.specs.Calls.{IsOrderly, Tells, latest, look, seen_by}
 use Rattle.bsv_prim.specs.Laws.{Laws}
 use Rattle.bsv_prim.specs.Shape.{Shape, Given, IsCalled, ArgumentOf, Fixed, Inverted, Both, Chosen, Cut, Joined, Extended}
-use Rattle.bsv_prim.specs.Signals.{Signals, is_one, word_of}
+use Rattle.bsv_prim.specs.Signals.{Signals, word_of}
 use Rattle.bsv_prim.specs.Speaks.{SpeaksOf}
 use Rattle.bsv_prim.specs.Table.{Table, Call, CallFits, word_at}
 use Rattle.bsv_prim.specs.Widths.{HasWidth}
 use Rattle.bsv_ports.proofs.Latest.{latest_seen, latest_unseen}
-
-if_one : (c d a p b q : Bits) → c ≡ d → a ≡ p → b ≡ q → (if is_one c then a else b) ≡ (if is_one d then p else q)
-if_one c d a p b q e f g = ap₂ (λ (x y : Bits). if is_one x then y else b) e f ∙ ap (λ (y : Bits). if is_one d then p else y) g
+use Rattle.bsv_net.proofs.PieceMeans.{if_one}
 
 all_seen : (t : Table) (y : ℕ) (cs : List Call) → AllByRecursion (λ c. t.sees c.method y ≡ true) (seen_by t y cs)
 all_seen t y [] = tt

@@ -23,7 +23,7 @@ use Rattle.bsv_clock.specs.Grounds.{BelongTogether}
 use Rattle.bsv_clock.specs.Settling.{deeds, look_of}
 use Rattle.bsv_clock.proofs.CallLists.{seen_on}
 use Rattle.bsv_clock.proofs.Clocks.{clock_fed}
-use Rattle.bsv_clock.proofs.Steadily.{emptied_fits, looked_at, part_fits, steady_scheme}
+use Rattle.bsv_clock.proofs.Steadily.{emptied_fits, looked_at, steady_scheme}
 use Rattle.bsv_net.specs.declared.node.NetNode.{NetNode}
 use Rattle.bsv_net.specs.declared.wires.MethodPort.{MethodPort}
 use Rattle.bsv_net.specs.AtHand.{called_in, args_in}
@@ -38,6 +38,7 @@ use Rattle.bsv_fire.proofs.Frame.{IsGround, placed_port}
 use Rattle.bsv_fire.proofs.PieceSignals.{TellsSeen, guard_means, result_means}
 use Rattle.bsv_ports.proofs.CallSitesTold.{node_word}
 use Rattle.bsv_fire.proofs.Wired.{SeesPorts, wired, wired_in, wired_signals}
+use Rattle.bsv_guard.proofs.Turns.{fits_at}
 
 -- ---- bits and nodes
 
@@ -158,10 +159,10 @@ module _ (z : Scene) (g : Ground) (ground : IsGround z g) (ports : Ports) (t : T
     here = part_at start t.part
 
     was_fit : (kind_table k).Fits (part_at z.s t.part)
-    was_fit = part_fits (S z).kinds z.s z.fit.parts t.part k is
+    was_fit = fits_at (S z).kinds z.s z.fit.parts t.part k is
 
     here_fits : (kind_table k).Fits here
-    here_fits = part_fits (S z).kinds start start_fits t.part k is
+    here_fits = fits_at (S z).kinds start start_fits t.part k is
 
     here_is : here ≡ (kind_table k).emptied (part_at z.s t.part)
     here_is = emptied_at (S z).kinds z.s z.fit.parts t.part k is

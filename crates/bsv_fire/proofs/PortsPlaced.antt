@@ -1,9 +1,10 @@
 -- The methods that an element's methods see are placed before it, and nothing that stood in the net is lost.
-use Rattle.std.proofs.Common.{◌≡◌, ◌≢◌, ◌∙◌, ◌<◌, ◌||◌, ◌⊎◌, inl, inr, ℕ, zero, suc, Bool, true, false, cond, List, [], ◌∷◌, ◌++◌, Option, Some, None, refl, sym, ap, ap₂, subst, arith, length, map}
+use Rattle.std.proofs.Common.{◌≡◌, ◌≢◌, ◌∙◌, ◌<◌, ◌⊎◌, inl, inr, ℕ, zero, suc, Bool, true, false, cond, List, [], ◌∷◌, ◌++◌, Option, Some, None, refl, sym, ap, ap₂, subst, arith, length, map}
 use Rattle.std.specs.Prelude.{slice_get, slice_set, nat_lt, ◌==◌}
 use Rattle.std.proofs.lemmas.Bool.{cases_eq, eq-eqb, lt-ltb, and_from}
-use Rattle.std.proofs.lemmas.List.{length-map}
+use Rattle.std.proofs.lemmas.List.{length-map, length-set}
 use Rattle.std.proofs.lemmas.Option.{slice_get_within}
+use Rattle.bsv_lemmas.proofs.Places.{set_elsewhere, set_there, item_there}
 use Rattle.bsv_design.specs.declared.element.Call.{Call}
 use Rattle.bsv_design.specs.declared.element.Element.{Element}
 use Rattle.bsv_design.specs.declared.kind.Kind.{Kind}
@@ -14,7 +15,6 @@ use Rattle.bsv_design.specs.Schemes.{calls_of, design_scheme, kinds_of, outline}
 use Rattle.bsv_design.specs.Traces.{kind_at}
 use Rattle.bsv_graph.specs.Edges.{numbers_below}
 use Rattle.bsv_graph.specs.Orders.{In}
-use Rattle.bsv_graph.proofs.LeastLemmas.{in_parts}
 use Rattle.bsv_guard.specs.ElementLaws.{IsUse}
 use Rattle.bsv_guard.specs.Fitting.{IsMethodOf}
 use Rattle.bsv_guard.proofs.Lists.{item_of}
@@ -33,10 +33,10 @@ use Rattle.bsv_fire.proofs.Bodies.{use_of}
 use Rattle.bsv_fire.proofs.FireTold.{more_urgent, stands_below}
 use Rattle.bsv_ports.proofs.Scene.{Scene, S, TellsFiring, TellsPort, last_call}
 use Rattle.bsv_fire.proofs.Frame.{IsGround, Tells, placed_port}
-use Rattle.bsv_net.proofs.Numbers.{number_at}
-use Rattle.bsv_fire.proofs.Setting.{length-set, set_elsewhere, set_there, there_is}
 use Rattle.bsv_fire.proofs.Steps.{one_seen, with_ports_grows, with_seen_grows}
 use Rattle.bsv_fire.proofs.Wired.{SeesPorts}
+use Rattle.bsv_clock.proofs.Sight.{some_use}
+use Rattle.bsv_graph.proofs.EdgeLemmas.{below_in, in_below}
 
 -- ---- places of methods
 
@@ -89,16 +89,6 @@ in_at [] k x e = absurd (let f : ⊥ = cc in f)
 in_at (y ∷ xs) zero x e = let same : y ≡ x = cc in inl (sym same)
 in_at (y ∷ xs) (suc k) x e = inr (in_at xs k x e)
 
-below_in : (n m : ℕ) → m < n → In (numbers_below n) m
-below_in n m l = in_at (numbers_below n) m m (number_at n m l)
-
-in_below : (n m : ℕ) → In (numbers_below n) m → m < n
-in_below zero m i = absurd i
-in_below (suc n) m i = elim (in_parts (numbers_below n) (n ∷ []) m i) [
-  | inl h ↦ (let l = in_below n m h in omega (arith, l))
-  | inr h ↦ elim h [ inl e ↦ omega (arith, e) | inr f ↦ absurd f ]
-]
-
 -- ---- what uses a method
 
 pub use_below : (z : Scene) (f : ℕ) (t : Target) → IsUse (S z) f t → f < length (S z).elements
@@ -109,20 +99,11 @@ use_below z f t u = of (slice_get z.b.elements f) refl u.is
     of None e h = absurd (let g : ⊥ = cc in g)
     of (Some x) e h = omega (arith, slice_get_within z.b.elements f x e, length-map z.b.elements outline)
 
-some_at : (p : Target → Bool) (ts : List Target) (k : ℕ) (t : Target) → slice_get ts k ≡ Some t → p t ≡ true → for_some p ts ≡ true
-some_at p [] k t e h = absurd (let f : ⊥ = cc in f)
-some_at p (x ∷ ts) zero t e h = let same : x ≡ t = cc in ap (λ (b : Bool). b || for_some p ts) (ap p same ∙ h)
-some_at p (x ∷ ts) (suc k) t e h = or_true (p x) (for_some p ts) (some_at p ts k t e h)
-  where
-    or_true : (a b : Bool) → b ≡ true → (a || b) ≡ true
-    or_true true b e = refl
-    or_true false b e = e
-
 -- an element feeds one whose method sees one of its own
 pub feeds_where : (z : Scene) (f n : ℕ) (x y : Target) → IsUse (S z) f x → IsUse (S z) n y → is_seen (S z).kinds x y ≡ true → feeds (S z) f n ≡ true
 unfolding feeds
 feeds_where z f n x y u v h =
-    some_at (λ x. for_some (is_seen (S z).kinds x) ((S z).uses n)) ((S z).uses f) u.index x u.is (some_at (is_seen (S z).kinds x) ((S z).uses n) v.index y v.is h)
+    some_use (λ x. for_some (is_seen (S z).kinds x) ((S z).uses n)) ((S z).uses f) u.index x u.is (some_use (is_seen (S z).kinds x) ((S z).uses n) v.index y v.is h)
 
 -- ---- one method after the other
 
@@ -243,7 +224,7 @@ module _ (z : Scene) (g : Ground) (told : PortsTold z g) (stand : List ℕ) wher
               → Added x (cond b (with_port x i m own) x) × ((p : MethodPort) × (placed_port (cond b (with_port x i m own) x).ports i m ≡ Some p))
           of true h grows = (one_added h grows, (own.port, is_placed x.ports i m ps row within own.port))
           of false h grows =
-              let slot = there_is ps m within in
+              let slot = item_there ps m within in
               let is : slice_get (or_none (slice_get x.ports i)) m ≡ Some slot.0 = ap (λ (r : Option (List (Option MethodPort))). slice_get (or_none r) m) row ∙ slot.1 in
               (none_added x t, not_open (slice_get (or_none (slice_get x.ports i)) m) slot.0 is h)
 

@@ -1,15 +1,15 @@
 -- The promise of a circuit in which all elements stand, out of what the net tells in each scene.
 use Rattle.std.proofs.Common.{◌≡◌, ◌∙◌, ◌<◌, ◌≤◌, ◌+◌, ◌⊎◌, inl, inr, ℕ, zero, suc, Bool, true, false, List, [], ◌∷◌, Option, Some, None, refl, sym, ap, subst, arith, length, map, option_map}
-use Rattle.std.specs.Prelude.{slice_get, unwrap_or, nat_lt, ◌&&◌}
-use Rattle.std.proofs.lemmas.Bool.{and_parts, eqb-true, cases_lt}
+use Rattle.std.specs.Prelude.{slice_get, unwrap_or, nat_lt}
+use Rattle.std.proofs.lemmas.Bool.{and_parts, cases_lt}
 use Rattle.std.proofs.Math.Nat.{ℕ_set}
 use Rattle.std.proofs.Math.Logic.{∥∥₁_elim}
 use Rattle.std.proofs.lemmas.List.{length-map}
-use Rattle.std.proofs.lemmas.Option.{slice_get_within, slice_get_past}
-use mathlib.Core.Sum.{⊎_set}
+use Rattle.std.proofs.lemmas.Option.{slice_get_within, slice_get_past, same_Some}
+use Rattle.bsv_lemmas.proofs.Places.{mapped_at}
+use Rattle.bsv_lemmas.proofs.Choices.{option_set}
 use mathlib.Core.List.{is_set as list_set}
 use Rattle.bsv_bits.specs.Words.{Bits}
-use Rattle.bsv_prim.specs.Table.{Table}
 use Rattle.bsv_prim.specs.declared.part.Part.{Part}
 use Rattle.bsv_design.specs.declared.design.Design.{Design}
 use Rattle.bsv_design.specs.declared.element.Call.{Call}
@@ -29,7 +29,7 @@ use Rattle.bsv_design.specs.Widths.{args_fit, call_fits, has_width, method_fits,
 use Rattle.bsv_graph.specs.Edges.{numbers_below}
 use Rattle.bsv_graph.specs.Orders.{In}
 use Rattle.bsv_guard.specs.Fitting.{HaveWidths}
-use Rattle.bsv_guard.proofs.Lists.{mapped_at, item_of, holds_at_all}
+use Rattle.bsv_guard.proofs.Lists.{item_of, holds_at_all}
 use Rattle.bsv_clock.specs.Hardware.{Shows, cell, cells_of, cell_widths, inputs_of, input_widths}
 use Rattle.bsv_clock.specs.Clocks.{IsClock}
 use Rattle.bsv_clock.specs.Grounds.{Fit, IsLawful, IsScheduleOf, KeepsRules}
@@ -54,32 +54,22 @@ use Rattle.bsv_net.proofs.WidthsFit.{cells_have}
 use Rattle.bsv_fire.proofs.Firings.{scene, tells_firing, same_words}
 use Rattle.bsv_fire.proofs.Frame.{Tells}
 use Rattle.bsv_fire.proofs.GroundTold.{register_there}
-use Rattle.bsv_net.proofs.Numbers.{count_below, number_at}
-use Rattle.bsv_fire.proofs.Structure.{Holds, some_same}
-
-bits_set : IsSet Bits
-bits_set = hlevel ℕ_set
-
-option_set : {A : Type 0} → IsSet A → IsSet (Option A)
-option_set set = hlevel (⊎_set, set)
+use Rattle.bsv_net.proofs.Numbers.{number_at}
+use Rattle.bsv_fire.proofs.Structure.{Holds}
+use Rattle.bsv_graph.proofs.Below.{count_below}
+use Rattle.bsv_clock.proofs.Propositions.{bits_set}
+use Rattle.bsv_fire.proofs.Bodies.{args_many}
 
 told_prop : (T : Scheme) (q : Asking) (s : List Part) (fired : List ℕ) (c : Circuit) (vs : List Bits) → IsProp (TellsFiring false T q s fired c vs)
 told_prop T q s fired c vs = hlevel (option_set bits_set, list_set bits_set, bits_set)
 
 -- ---- what stands beside the nodes
 
-args_long : (t : Table) (m : ℕ) (us : List ℕ) (k : ℕ) (args : List ℕ) → args_fit t m us k args ≡ true → k + length args ≡ t.arity m
-args_long t m us k [] h = let e = eqb-true k (t.arity m) h in omega arith
-args_long t m us k (a ∷ args) h =
-    let first = and_parts (nat_lt k (t.arity m) && has_width (slice_get us a) (t.argument_width m k)) (args_fit t m us (k + 1) args) h in
-    let rest = args_long t m us (k + 1) args first.1 in
-    omega arith
-
 call_long : (o : Option Kind) (us : List ℕ) (c : Call) → method_fits o us c ≡ true → length c.args ≡ arity_of o c.method
 call_long None us c h = absurd (let n : ⊥ = cc in n)
 call_long (Some k) us c h =
     let parts = and_parts (nat_lt c.method (kind_table k).methods) (args_fit (kind_table k) c.method us 0 c.args) h in
-    let long = args_long (kind_table k) c.method us 0 c.args parts.1 in
+    let long = args_many (kind_table k) c.method us 0 c.args parts.1 in
     omega arith
 
 nothing_given : (us : List ℕ) (b : Bool) (o : Option ℕ) → result_fits us b o ≡ true → b ≡ false → o ≡ None
@@ -174,7 +164,7 @@ module _ (d : Design) (needs : List (List Need)) (made : Schedule) (rules : Keep
       let e = found.element in
       let call = item_of target e.calls k t (ap (λ (ts : List Target). slice_get ts k) (sym (uses_are n e found.there)) ∙ used) in
       let y_is : site found.places call.item ≡ y =
-      some_same (site found.places call.item) y
+      same_Some (site found.places call.item) y
       (sym (mapped_at (site found.places) e.calls k call.item call.is) ∙ (ap (λ (ss : List NetSite). slice_get ss k) (sym found.are_sites) ∙ at_y)) in
       let long : length call.item.args ≡ arity_of (kind_at T.kinds (target call.item)) call.item.method =
       ∥∥₁_elim d.right (ℕ_set _ _) (λ (right : IsDesign b).

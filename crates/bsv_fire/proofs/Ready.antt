@@ -2,8 +2,9 @@
 use Rattle.std.proofs.Common.{◌≡◌, ◌∙◌, ℕ, suc, ◌+◌, Bool, true, false, cond, ◌&&◌, List, [], ◌∷◌, ◌++◌, map, Option, Some, None, refl, sym, ap, ap₂, subst, arith, append_assoc, append-nil}
 use Rattle.std.specs.Prelude.{slice_get}
 use Rattle.std.proofs.lemmas.List.{map-append}
+use Rattle.bsv_lemmas.proofs.Places.{mapped_at}
+use Rattle.bsv_lemmas.proofs.Truths.{both_turned}
 use Rattle.bsv_bits.specs.Words.{Bits, bit}
-use Rattle.bsv_prim.specs.declared.part.Part.{Part}
 use Rattle.bsv_design.specs.declared.element.Call.{Call}
 use Rattle.bsv_design.specs.declared.element.Condition.{Condition}
 use Rattle.bsv_design.specs.declared.element.Element.{Element}
@@ -11,12 +12,10 @@ use Rattle.bsv_design.specs.declared.kind.Kind.{Kind}
 use Rattle.bsv_design.specs.declared.schedule.Need.{Need}
 use Rattle.bsv_design.specs.Bodies.{Answers, at, target, words}
 use Rattle.bsv_design.specs.Guards.{is_guarded, needs_from, needs_of}
-use Rattle.bsv_design.specs.Kinds.{kind_laws}
 use Rattle.bsv_design.specs.Running.{is_one}
 use Rattle.bsv_design.specs.Schemes.{Look, all_hold, all_open, design_scheme, given, guard_of, is_open, ready, required}
 use Rattle.bsv_design.specs.Traces.{Site, Demand, demand_at, kind_at, site_at}
 use Rattle.bsv_guard.proofs.Extends.{each_open}
-use Rattle.bsv_guard.proofs.Lists.{mapped_at}
 use Rattle.bsv_net.specs.declared.node.NetNode.{NetNode}
 use Rattle.bsv_net.specs.Placing.{Placed}
 use Rattle.bsv_net.proofs.Grows.{Grows, grows_trans}
@@ -31,6 +30,7 @@ use Rattle.bsv_ports.proofs.Scene.{Scene, S, looks}
 use Rattle.bsv_fire.proofs.Frame.{IsGround}
 use Rattle.bsv_fire.proofs.Traces.{EachIsOpen, ks, own_words, fits, words_have, condition_is_fit, sites_are, demands_are, same_as_wired, truths_told}
 use Rattle.bsv_fire.proofs.Wiring.{IsWired}
+use Rattle.bsv_design.proofs.Elements.{unguarded}
 
 -- ---- what is asked
 
@@ -38,10 +38,6 @@ use Rattle.bsv_fire.proofs.Wiring.{IsWired}
 abbrev pub opens : List Kind → Look → List Call → List Bool
 opens kinds look [] = []
 opens kinds look (c ∷ cs) = cond (is_guarded (kind_at kinds (target c)) c.method) (is_open kinds look (target c) ∷ opens kinds look cs) (opens kinds look cs)
-
-unguarded : (k : Option Kind) (m : ℕ) (p : Part) → is_guarded k m ≡ false → guard_of k m p ≡ true
-unguarded None m p h = refl
-unguarded (Some k) m p h = (kind_laws k).guards.never m p h
 
 plain : (t h : Bool) → required false t h ≡ h
 plain t true = refl
@@ -61,12 +57,6 @@ all_holds : (ws : List Bits) (cs : List Condition) → all_hold false (map (dema
 all_holds ws [] = refl
 all_holds ws (c ∷ cs) = ap₂ (λ (a b : Bool). a && b) (plain (is_one (at ws c.taken)) (is_one (at ws c.truth))) (all_holds ws cs)
 
-swapped : (a b : Bool) → (a && b) ≡ (b && a)
-swapped true true = refl
-swapped true false = refl
-swapped false true = refl
-swapped false false = refl
-
 needs_at : (kinds : List Kind) (es : List Element) (n : ℕ) (e : Element) → slice_get es n ≡ Some e → or_none (slice_get (needs_of kinds es) n) ≡ needs_from kinds 0 e.calls
 needs_at kinds es n e is = ap or_none (mapped_at (λ (x : Element). needs_from kinds 0 x.calls) es n e is)
 
@@ -82,7 +72,7 @@ module _ (z : Scene) (n : ℕ) (e : Element) (is : slice_get z.b.elements n ≡ 
   ready_is =
       ap₂ (λ (ds : List Demand) (xs : List Site). all_hold false ds && all_open false (ks z n e is) (looks z) xs) (demands_are z n e is) (sites_are z n e is)
       ∙ ap₂ (λ (a b : Bool). a && b) (all_holds (own_words z n e is) e.conditions) (all_opens (ks z n e is) (looks z) (own_words z n e is) e.calls)
-      ∙ swapped (all_true holds) (all_true opened)
+      ∙ both_turned (all_true holds) (all_true opened)
 
   pub all_are_open : all_true opened ≡ true → EachIsOpen z n e is
   all_are_open h k c there =

@@ -2,6 +2,8 @@
 use Rattle.std.proofs.Common.{◌≡◌, ◌∙◌, ◌<◌, ℕ, Bool, true, false, ◌&&◌, ◌||◌, List, [], ◌∷◌, Option, Some, None, refl, sym, ap, subst, length}
 use Rattle.std.specs.Prelude.{slice_get, slice_set, ◌==◌}
 use Rattle.std.proofs.lemmas.Bool.{eqb-true, eqb-false}
+use Rattle.std.proofs.lemmas.List.{length-set}
+use Rattle.bsv_lemmas.proofs.Places.{set_elsewhere, set_there}
 use Rattle.bsv_bits.specs.Words.{Bits, bit}
 use Rattle.bsv_clock.specs.Clocks.{is_in}
 use Rattle.bsv_net.specs.declared.node.NetNode.{NetNode}
@@ -9,7 +11,6 @@ use Rattle.bsv_net.specs.Equations.{Values, Satisfies}
 use Rattle.bsv_net.proofs.Gates.{either_means}
 use Rattle.bsv_net.proofs.Grows.{Grows, grows_trans}
 use Rattle.bsv_fire.specs.Growing.{all_stopped, with_stopper, or_nobody}
-use Rattle.bsv_fire.proofs.Setting.{length-set, set_elsewhere, set_there}
 use Rattle.bsv_fire.proofs.Steps.{all_stopped_grows}
 
 -- what is known of a node that tells whether an element is stopped: where there is none, nothing stops it

@@ -2,7 +2,9 @@
 use Rattle.std.proofs.Common.{◌≡◌, ◌≢◌, ◌∙◌, ◌<◌, ◌⊎◌, inl, inr, ℕ, Bool, true, false, cond, List, [], ◌∷◌, ◌++◌, Option, Some, None, refl, sym, ap, subst, arith, length, option_map, append-nil, append_assoc}
 use Rattle.std.specs.Prelude.{slice_get, slice_set, nat_lt, ◌==◌}
 use Rattle.std.proofs.lemmas.Bool.{eqb-true, eqb-false}
-use Rattle.std.proofs.lemmas.Option.{slice_get_within}
+use Rattle.std.proofs.lemmas.Option.{slice_get_within, same_Some}
+use Rattle.std.proofs.lemmas.List.{length-set, length-replicate}
+use Rattle.bsv_lemmas.proofs.Places.{set_there, set_elsewhere}
 use Rattle.bsv_design.specs.declared.element.Call.{Call}
 use Rattle.bsv_design.specs.declared.element.Element.{Element}
 use Rattle.bsv_design.specs.declared.kind.Kind.{Kind}
@@ -17,7 +19,6 @@ use Rattle.bsv_fire.specs.Bodies.{sites}
 use Rattle.bsv_fire.specs.Grounds.{Ground}
 use Rattle.bsv_ports.specs.Ports.{port}
 use Rattle.bsv_fire.specs.Growing.{Growing, element_body, is_open, with_port, with_method, with_seen, with_seen_in, with_ports, with_element, with_number, grown, none_placed}
-use Rattle.bsv_fire.proofs.Settings.{length-set, set_there, set_elsewhere, long_replicate}
 
 -- beside the nodes, the ports and who is stopped, both hold the same
 pub record HoldSame (x y : Growing) : Type 0 where
@@ -80,9 +81,6 @@ pub record Holds (es : List Element) (x : Growing) (placed : List ℕ) : Type 0 
       → (places : List ℕ) × (slice_get x.results n ≡ Some (option_map (node_at places) e.result))
       × (slice_get x.sites n ≡ Some (sites places e.calls))
 
-pub some_same : {X : Type 0} (x y : X) → Some x ≡ Some y → x ≡ y
-some_same x y h = cc
-
 pub last_or_front : (xs : List ℕ) (n k : ℕ) → In (xs ++ n ∷ []) k → (In xs k) ⊎ (k ≡ n)
 last_or_front [] n k (inl e) = inr e
 last_or_front [] n k (inr i) = absurd i
@@ -137,7 +135,7 @@ module _ (g : Ground) where
     each_stands : (k : ℕ) (f : Element) → In (placed ++ n ∷ []) k → slice_get g.elements k ≡ Some f → (b : Bool) → (n == k) ≡ b → Stands k f
     each_stands k f i at true q =
         let e_is : n ≡ k = eqb-true n k q in
-        let f_is : e ≡ f = some_same e f (sym there ∙ (ap (slice_get g.elements) e_is ∙ at)) in
+        let f_is : e ≡ f = same_Some e f (sym there ∙ (ap (slice_get g.elements) e_is ∙ at)) in
         subst (λ (m : ℕ). Stands m f) e_is (subst (λ (d : Element). Stands n d) f_is it_stands)
     each_stands k f i at false q = other_stands k f (eqb-false n k q) (of (last_or_front placed n k i)) at
       where
@@ -179,9 +177,9 @@ module _ (g : Ground) where
 
 pub none_holds : (ks : List Kind) (es : List Element) (ns : List NetNode) → Holds es (none_placed ks (length es) ns) []
 none_holds ks es ns = record {
-  long_fires = long_replicate (length es) 0;
-  long_readies = long_replicate (length es) 0;
-  long_results = long_replicate (length es) None;
-  long_sites = long_replicate (length es) [];
+  long_fires = length-replicate (length es) 0;
+  long_readies = length-replicate (length es) 0;
+  long_results = length-replicate (length es) None;
+  long_sites = length-replicate (length es) [];
   each = λ n e i at. absurd i;
 }

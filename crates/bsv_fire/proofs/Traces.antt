@@ -5,6 +5,7 @@ use Rattle.std.specs.List.{AllByRecursion}
 use Rattle.std.proofs.lemmas.Bool.{and_parts}
 use Rattle.std.proofs.lemmas.List.{length-map}
 use Rattle.std.proofs.lemmas.Option.{slice_get-map}
+use Rattle.bsv_lemmas.proofs.Places.{mapped_at}
 use Rattle.bsv_bits.specs.Words.{Bits, bit}
 use Rattle.bsv_prim.specs.Table.{IsWordOf}
 use Rattle.bsv_design.specs.declared.element.Call.{Call}
@@ -24,7 +25,7 @@ use Rattle.bsv_guard.proofs.BodyFits.{call_fit, width_is, word_there}
 use Rattle.bsv_guard.proofs.DesignFits.{element_words}
 use Rattle.bsv_guard.proofs.Extends.{answer_open}
 use Rattle.bsv_guard.proofs.Fits.{answers_fit}
-use Rattle.bsv_guard.proofs.Lists.{holds_at_all, item_of, mapped_at}
+use Rattle.bsv_guard.proofs.Lists.{holds_at_all, item_of}
 use Rattle.bsv_guard.proofs.Nodes.{arguments_before, has_one, same_words}
 use Rattle.bsv_clock.specs.Grounds.{BelongTogether}
 use Rattle.bsv_clock.proofs.Clocks.{clock_fed}

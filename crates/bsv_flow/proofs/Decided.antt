@@ -1,8 +1,8 @@
 -- What the files hold decides what is loaded, or what the first refusal is.
-use Rattle.std.proofs.Common.{◌≡◌, ℕ, zero, suc, ◌+◌, ◌<◌, ◌≤◌, ◌⊎◌, inl, inr, List, [], ◌∷◌, ◌++◌, length, map, take, codes, Option, Some, Result, Ok, Err, refl, ap, subst, sym, ◌∙◌, add-one, length-append, arith}
+use Rattle.std.proofs.Common.{◌≡◌, ℕ, zero, suc, ◌+◌, ◌<◌, ◌≤◌, ◌⊎◌, inl, inr, List, [], ◌∷◌, ◌++◌, length, map, take, codes, Option, Some, Result, Ok, Err, refl, ap, subst, sym, ◌∙◌, add-one, arith}
 use Rattle.std.specs.List.{slice_get}
 use Rattle.std.proofs.lemmas.Bool.{cases_lt}
-use Rattle.std.proofs.lemmas.List.{map-append}
+use Rattle.std.proofs.lemmas.List.{map-append, length_push}
 use Rattle.std.proofs.lemmas.Option.{slice_get_within, slice_get_cases}
 use Rattle.bsv_ast.specs.declared.package.Package.{Package}
 use Rattle.bsv_flow.specs.declared.loading.Loaded.{Loaded}
@@ -34,9 +34,6 @@ next_sources contents queue more n name sources are at =
     ∙ ap (map contents) (sym (take_next queue more n name at))
     ∙ ap (λ k. map contents (take k (queue ++ more))) (sym (add-one n))
 
-length_next : (packages : List Package) (x : Package) → length (packages ++ x ∷ []) ≡ length packages + 1
-length_next packages x = length-append packages (x ∷ [])
-
 loaded_is : (files names : List (List ℕ)) (sources texts : List (List ℕ)) (packages trees : List Package) → files ≡ names → sources ≡ texts → packages ≡ trees
     → ◌≡◌ {A = Loaded} (record { files = files; sources = sources; packages = packages }) (record { files = names; sources = texts; packages = trees })
 loaded_is files names sources texts packages trees e f g = cc
@@ -46,7 +43,7 @@ module _ (first : List ℕ) (contents : List ℕ → List ℕ) where
   pub queue_within : (queue : List (List ℕ)) (packages : List Package) → Loads first contents queue packages → (length packages ≤ length queue) × (length queue ≤ 64)
   queue_within queue packages Loads.begin = (omega arith, omega arith)
   queue_within queue packages (Loads.next {queue = q} {packages = ps} {file = name} {x = x} before at yields le) =
-      (omega (arith, length_next ps x, slice_get_within q (length ps) name at, with_items_longer first q (items_of x)), le)
+      (omega (arith, length_push ps x, slice_get_within q (length ps) name at, with_items_longer first q (items_of x)), le)
 
   -- after so many packages, loading came to these files and packages, and to a file that is a package
   record Step (n : ℕ) : Type 0 where
@@ -67,7 +64,7 @@ module _ (first : List ℕ) (contents : List ℕ → List ℕ) where
       elim (cases_lt n (length ps)) [
         | inl inside ↦ continues q ps before n inside
         | inr last ↦
-            let is : length ps ≡ n = omega (arith, length_next ps x) in
+            let is : length ps ≡ n = omega (arith, length_push ps x) in
             record { queue = q; packages = ps; name = name; x = x; before = before; count = is; at = subst (λ k. slice_get q k ≡ Some name) is at; yields = yields; within = le }
       ]
 
@@ -86,10 +83,10 @@ module _ (first : List ℕ) (contents : List ℕ → List ℕ) where
 
   pub once : (queue other : List (List ℕ)) (packages others : List Package) → Loads first contents queue packages → Loads first contents other others → length packages ≡ length others → Same queue other packages others
   once queue other packages others Loads.begin Loads.begin e = (refl, refl)
-  once queue other packages others Loads.begin (Loads.next {packages = us} {x = y} before at yields le) e = absurd (omega (arith, length_next us y))
-  once queue other packages others (Loads.next {packages = ps} {x = x} before at yields le) Loads.begin e = absurd (omega (arith, length_next ps x))
+  once queue other packages others Loads.begin (Loads.next {packages = us} {x = y} before at yields le) e = absurd (omega (arith, length_push us y))
+  once queue other packages others (Loads.next {packages = ps} {x = x} before at yields le) Loads.begin e = absurd (omega (arith, length_push ps x))
   once queue other packages others (Loads.next {queue = q} {packages = ps} {file = name} {x = x} before at yields le) (Loads.next {queue = r} {packages = us} {file = also} {x = y} earlier there too less) e =
-      let count : length ps ≡ length us = omega (arith, length_next ps x, length_next us y) in
+      let count : length ps ≡ length us = omega (arith, length_push ps x, length_push us y) in
       let same : Same q r ps us = once q r ps us before earlier count in
       let file : name ≡ also = same_file q r (length ps) (length us) name also same.0 count at there in
       same_next q r ps us x y same (same_package name also x y file yields too)
@@ -200,7 +197,7 @@ module _ (first : List ℕ) (contents : List ℕ → List ℕ) where
       elim (slice_get_cases queue (length packages)).1 [
         | inl found ↦
             at_file found.0 (record { queue = queue; packages = packages; before = before; at = found.2 })
-            (λ x more. goes_on n (with_imports first queue x) (packages ++ x ∷ []) more (omega (arith, length_next packages x)))
+            (λ x more. goes_on n (with_imports first queue x) (packages ++ x ∷ []) more (omega (arith, length_push packages x)))
         | inr past ↦ ends queue packages before past.0
       ]
 

@@ -3,19 +3,12 @@ use Rattle.std.proofs.Common.{◌≡◌, ℕ, ◌+◌, ◌<◌, ◌==◌, ◌||�
 use Rattle.std.proofs.lemmas.List.{take_more}
 use Rattle.std.proofs.lemmas.List.Folds.{list_any-append}
 use Rattle.std.specs.List.{list_any}
+use Rattle.bsv_lemmas.proofs.Truths.{or_false, or_true}
 use Rattle.bsv_flow.specs.Queues.{is_slash, folder}
 
 any_more : (xs : List ℕ) (b : ℕ) (is : Bool) → (b == 47) ≡ is → list_any is_slash (xs ++ b ∷ []) ≡ (list_any is_slash xs || is)
 any_more xs b true e = list_any-append is_slash xs (b ∷ []) ∙ rw e refl
 any_more xs b false e = list_any-append is_slash xs (b ∷ []) ∙ rw e refl
-
-or_true : (p : Bool) → (p || true) ≡ true
-or_true true = refl
-or_true false = refl
-
-or_false : (p : Bool) → (p || false) ≡ p
-or_false true = refl
-or_false false = refl
 
 whole_folder : (xs : List ℕ) (b : ℕ) → (b == 47) ≡ true → folder (xs ++ b ∷ []) ≡ xs ++ b ∷ []
 whole_folder [] b e = rw e refl

@@ -1,8 +1,10 @@
 -- A tree has one schedule, or one first refusal of scheduling.
-use Rattle.std.proofs.Common.{◌≡◌, ◌∙◌, ℕ, zero, suc, ◌<◌, ◌⊎◌, inl, inr, List, [], ◌∷◌, length, Some, None, Result, Ok, Err, refl, sym, ap, subst, arith}
+use Rattle.std.proofs.Common.{◌≡◌, ◌∙◌, ℕ, ◌<◌, ◌⊎◌, inl, inr, List, [], length, Some, Result, Ok, Err, refl, sym, ap, subst}
 use Rattle.std.specs.Prelude.{slice_get}
 use Rattle.std.proofs.lemmas.List.{length-map}
-use Rattle.std.proofs.lemmas.Option.{same_Some}
+use Rattle.std.proofs.lemmas.Option.{same_Some, none-some}
+use Rattle.bsv_lemmas.proofs.Places.{item_there}
+use Rattle.bsv_lemmas.proofs.Choices.{same_ok, same_err}
 use Rattle.bsv_design.specs.declared.schedule.Schedule.{Schedule}
 use Rattle.bsv_design.specs.declared.tree.Attribute.TheVariants as attribute
 use Rattle.bsv_design.specs.declared.tree.Pair.{Pair}
@@ -67,53 +69,38 @@ not_breached h r kept tells = kept tells.element tells.earlier tells.later tells
 no_value : {A B : Type 0} (x : A) (y : B) → ◌≡◌ {A = Result A B} (Ok x) (Err y) → ⊥
 no_value x y e = cc
 
-same_value : {A B : Type 0} (x y : A) → ◌≡◌ {A = Result A B} (Ok x) (Ok y) → x ≡ y
-same_value x y e = cc
-
-same_fault : {A B : Type 0} (x y : B) → ◌≡◌ {A = Result A B} (Err x) (Err y) → x ≡ y
-same_fault x y e = cc
-
--- what stands at a place of a list
-there : {A : Type 0} (xs : List A) (k : ℕ) → k < length xs → (x : A) × (slice_get xs k ≡ Some x)
-there [] k within = absurd (omega (arith, within))
-there (x ∷ xs) zero within = (x, refl)
-there (x ∷ xs) (suc k) within = there xs k (omega (arith, within))
-
-no_refusal : (r : Refusal) → None ≡ Some r → ⊥
-no_refusal r e = cc
-
 module _ (s : Subject) where
   -- ---- the execution order
 
   order_answer : (r : Refusal) (u : IsUnexecuted s r) → executing.IsExecutionAnswer (related s) (Err u.fault)
-  order_answer r u = (u.refuses, λ (e : u.fault ≡ order.OutOfMemory). no_refusal r (sym (ap (order_told s) e) ∙ u.told))
+  order_answer r u = (u.refuses, λ (e : u.fault ≡ order.OutOfMemory). none-some r (sym (ap (order_told s) e) ∙ u.told))
 
   pub one_unexecuted : (r t : Refusal) → IsUnexecuted s r → IsUnexecuted s t → r ≡ t
   one_unexecuted r t u v =
       let e = execution.one (related s) (Err u.fault) (Err v.fault) (order_answer r u) (order_answer t v) in
-      same_Some r t (sym u.told ∙ ap (order_told s) (same_fault u.fault v.fault e) ∙ v.told)
+      same_Some r t (sym u.told ∙ ap (order_told s) (same_err u.fault v.fault e) ∙ v.told)
 
   pub not_executed : (xs : List ℕ) (r : Refusal) → Executes (related s) xs → IsUnexecuted s r → ⊥
   not_executed xs r x u = no_value xs u.fault (execution.one (related s) (Ok xs) (Err u.fault) x (order_answer r u))
 
   pub one_execution : (xs ys : List ℕ) → Executes (related s) xs → Executes (related s) ys → xs ≡ ys
-  one_execution xs ys x y = same_value xs ys (execution.one (related s) (Ok xs) (Ok ys) x y)
+  one_execution xs ys x y = same_ok xs ys (execution.one (related s) (Ok xs) (Ok ys) x y)
 
   -- ---- the urgency order
 
   urgency_answer : (r : Refusal) (u : IsUnurged s r) → urging.IsUrgencyAnswer (related s) s.scheme.pairs (Err u.fault)
-  urgency_answer r u = (u.declines, λ (e : u.fault ≡ urgency.OutOfMemory). no_refusal r (sym (ap (urgency_told s) e) ∙ u.told))
+  urgency_answer r u = (u.declines, λ (e : u.fault ≡ urgency.OutOfMemory). none-some r (sym (ap (urgency_told s) e) ∙ u.told))
 
   pub one_unurged : (r t : Refusal) → IsUnurged s r → IsUnurged s t → r ≡ t
   one_unurged r t u v =
       let e = urged.one (related s) s.scheme.pairs (Err u.fault) (Err v.fault) (urgency_answer r u) (urgency_answer t v) in
-      same_Some r t (sym u.told ∙ ap (urgency_told s) (same_fault u.fault v.fault e) ∙ v.told)
+      same_Some r t (sym u.told ∙ ap (urgency_told s) (same_err u.fault v.fault e) ∙ v.told)
 
   pub not_urged : (xs : List ℕ) (r : Refusal) → Urges (related s) xs → IsUnurged s r → ⊥
   not_urged xs r x u = no_value xs u.fault (urged.one (related s) s.scheme.pairs (Ok xs) (Err u.fault) x (urgency_answer r u))
 
   one_urgency : (xs ys : List ℕ) → Urges (related s) xs → Urges (related s) ys → xs ≡ ys
-  one_urgency xs ys x y = same_value xs ys (urged.one (related s) s.scheme.pairs (Ok xs) (Ok ys) x y)
+  one_urgency xs ys x y = same_ok xs ys (urged.one (related s) s.scheme.pairs (Ok xs) (Ok ys) x y)
 
   -- ---- both orders and the stops
 
@@ -142,7 +129,7 @@ module _ (s : Subject) where
       let one = mark_answer y r (subst (λ (made : Schedule). IsUnasserted s made r) same u) in
       let other = mark_answer y t v in
       let e = marks.one s.scheme y (Err one.0) (Err other.0) one.1 other.1 in
-      sym one.2 ∙ ap mark_told (same_fault one.0 other.0 e) ∙ other.2
+      sym one.2 ∙ ap mark_told (same_err one.0 other.0 e) ∙ other.2
 
   not_asserted : (x y : Schedule) (r : Refusal) → x ≡ y → IsAccepted s.scheme x → IsUnasserted s y r → ⊥
   not_asserted x y r same accepted u =
@@ -150,18 +137,18 @@ module _ (s : Subject) where
       let here = subst (λ (made : Schedule). IsAccepted s.scheme made) same accepted in
       no_value tt other.0 (marks.one s.scheme y (Ok tt) (Err other.0) here other.1)
 
-  -- ---- there is an answer
+  -- ---- item_there is an answer
 
   unexecuted_by : (fault : OrderFault) (r : Refusal) → executing.RefusesExecution (related s) fault → order_told s fault ≡ Some r → (t : Refusal) × IsUnexecuted s t
   unexecuted_by fault r refuses told = (r, record { fault = fault; refuses = refuses; told = told })
 
   execution_cycle : (k : ℕ) → ExecutionCycle (related s) k → k < length (related s).ordering → (r : Refusal) × IsUnexecuted s r
   execution_cycle k cycle within =
-      let at = there (related s).ordering k within in
+      let at = item_there (related s).ordering k within in
       let p : Pair = record { attribute = attribute.ExecutionOrder; before = at.0.from; after = at.0.to } in
       unexecuted_by (order.ExecutionCycle p) (pair_told refusal.ExecutionCycle s p) (k, cycle, record { attribute = refl; edge = at.1 }) refl
 
-  -- the execution order, or why there is none
+  -- the execution order, or why item_there is none
   executed_or_not : ((xs : List ℕ) × Executes (related s) xs) ⊎ ((r : Refusal) × IsUnexecuted s r)
   executed_or_not = elim (executes_or_refused (related s)) [
     | inl x ↦ inl x
@@ -178,14 +165,14 @@ module _ (s : Subject) where
   unfolding relating
   urging_at k within =
       let long : length (edges_of is_urging s.scheme.pairs) ≡ length (urging.urging_pairs s.scheme.pairs) = length-map (urging.urging_pairs s.scheme.pairs) edge_of in
-      there (urging.urging_pairs s.scheme.pairs) k (subst (λ n. k < n) long within)
+      item_there (urging.urging_pairs s.scheme.pairs) k (subst (λ n. k < n) long within)
 
   urgency_cycle : (k : ℕ) → UrgencyCycle (related s) k → k < length (related s).urging → (r : Refusal) × IsUnurged s r
   urgency_cycle k cycle within =
       let at = urging_at k within in
       unurged_by (urgency.UrgencyCycle at.0) (pair_told refusal.UrgencyCycle s at.0) (k, cycle, at.1) refl
 
-  -- the urgency order, or why there is none
+  -- the urgency order, or why item_there is none
   urged_or_not : IsAcyclic (feed_edges (related s)) → ((xs : List ℕ) × Urges (related s) xs) ⊎ ((r : Refusal) × IsUnurged s r)
   urged_or_not feeds = elim (urges_or_declined (related s) feeds) [
     | inl x ↦ inl x
@@ -256,7 +243,7 @@ module _ (h : Hierarchy) where
   by_execution kept (inl x) = by_urgency kept x.0 x.1 (urged_or_not s x.1.feeds)
   by_execution kept (inr u) = inr (u.0, Unscheduled.executing kept u.1)
 
-  -- there is a schedule, or a first refusal
+  -- item_there is a schedule, or a first refusal
   pub decided : ((made : Schedule) × IsScheduled (subject h) made) ⊎ ((r : Refusal) × Unscheduled h r)
   decided = elim (tree_decides h) [
     | inl kept ↦ by_execution kept (executed_or_not s)

@@ -4,6 +4,7 @@ use Rattle.std.proofs.lemmas.List.{take_more}
 use Rattle.std.proofs.lemmas.List.Elements.{filter-append}
 use Rattle.std.proofs.lemmas.List.Folds.{list_any-append}
 use Rattle.std.specs.List.{list_any}
+use Rattle.bsv_lemmas.proofs.Truths.{or_false, or_true}
 use Rattle.bsv_flow.specs.Positions.{is_line_feed, last_line}
 
 alone : (b : ℕ) (is : Bool) → (b == 10) ≡ is → length (filter is_line_feed (b ∷ [])) ≡ (if is then 1 else 0)
@@ -13,14 +14,6 @@ alone b false e = rw e refl
 any_more : (xs : List ℕ) (b : ℕ) (is : Bool) → (b == 10) ≡ is → list_any is_line_feed (xs ++ b ∷ []) ≡ (list_any is_line_feed xs || is)
 any_more xs b true e = list_any-append is_line_feed xs (b ∷ []) ∙ rw e refl
 any_more xs b false e = list_any-append is_line_feed xs (b ∷ []) ∙ rw e refl
-
-or_true : (p : Bool) → (p || true) ≡ true
-or_true true = refl
-or_true false = refl
-
-or_false : (p : Bool) → (p || false) ≡ p
-or_false true = refl
-or_false false = refl
 
 last_ended : (xs : List ℕ) (b : ℕ) → (b == 10) ≡ true → last_line (xs ++ b ∷ []) ≡ []
 last_ended [] b e = rw e refl

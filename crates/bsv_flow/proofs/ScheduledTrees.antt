@@ -3,6 +3,7 @@ use Rattle.std.proofs.Common.{◌≡◌, ◌∙◌, ℕ, zero, suc, ◌-◌, ◌
 use Rattle.std.specs.Prelude.{slice_get, Bool, false, Result, Ok, Err}
 use Rattle.std.specs.List.{list_any}
 use Rattle.std.proofs.Math.Path.{fun_ext}
+use Rattle.bsv_lemmas.proofs.Places.{at_left}
 use Rattle.bsv_bits.specs.Words.{Bits}
 use Rattle.bsv_design.specs.declared.design.Design.{Design}
 use Rattle.bsv_design.specs.declared.design.NamedPart.{NamedPart}
@@ -30,7 +31,6 @@ use Rattle.bsv_schedule.specs.stopping.Stops.{AreStops}
 use Rattle.bsv_schedule.specs.urging.Orders.{Urges}
 use Rattle.bsv_guard.specs.Lifted.{AreLifted}
 use Rattle.bsv_guard.proofs.Alike as same
-use Rattle.bsv_guard.proofs.Given.{length-filled}
 use Rattle.bsv_inline.specs.Flattening.{top_name}
 use Rattle.bsv_schedule.specs.executing.Answers.{RefusesExecution}
 use Rattle.bsv_schedule.specs.declared.executing.fault.OrderFault.{OrderFault}
@@ -44,7 +44,7 @@ use Rattle.bsv_clock.specs.Obeying.{Obeys}
 use Rattle.bsv_attr.proofs.Alike as marks
 use Rattle.bsv_attr.proofs.Attributes.{obeys}
 use Rattle.bsv_schedule.proofs.OrderLaws.{ordering_before, urging_stands}
-use Rattle.bsv_schedule.proofs.RelationsLemmas.{agrees_design}
+use Rattle.bsv_schedule.proofs.RelationsLemmas.{agrees_design, pairs_are}
 use Rattle.bsv_clock.specs.Grounds.{IsScheduleOf, KeepsRules}
 use Rattle.bsv_clock.proofs.Belonging as belonging
 use Rattle.bsv_net.specs.declared.net.Net.{Net}
@@ -59,13 +59,9 @@ use Rattle.bsv_flow.specs.declared.refusal.Refusal.TheVariants as refusal
 use Rattle.bsv_flow.specs.Attributes.{attribute_word}
 use Rattle.bsv_flow.specs.Breaches.{element_name, outline_name, or_no_name}
 use Rattle.bsv_flow.specs.Schedulings.{subject, design_subject, related, IsOrdered, IsScheduled, order_told, urgency_told, pair_told, demand_name, call_name, names_in, implicit_told, stopper_told, condition_at, call_of, call_at, call_text, texts_in, IsUnexecuted, IsUnurged, IsUnasserted, Unscheduled, IsCompiledOf, IsVerilogOf}
+use Rattle.bsv_design.proofs.Elements.{length-filled}
 
 -- ---- names of conditions and calls
-
-got_front : {A : Type 0} (xs ys : List A) (k : ℕ) → k < length xs → slice_get (xs ++ ys) k ≡ slice_get xs k
-got_front [] ys k l = absurd (omega (arith, l))
-got_front (x ∷ xs) ys zero l = refl
-got_front (x ∷ xs) ys (suc k) l = got_front xs ys k (omega (arith, l))
 
 got_behind : {A : Type 0} (xs ys : List A) (k : ℕ) → length xs ≤ k → slice_get (xs ++ ys) k ≡ slice_get ys (k - length xs)
 got_behind [] ys k l = let e : k ≡ k - 0 = omega arith in ap (slice_get ys) e
@@ -93,7 +89,7 @@ pub of_condition : (ps : List NamedPart) (e : Element) (place : ℕ) → place <
 of_condition ps e place l =
     let front : List (List ℕ) = map (λ (c : Condition). or_no_name c.implicit) e.conditions in
     let long : place < length front = omega (arith, l, map_long (λ (c : Condition). or_no_name c.implicit) e.conditions) in
-    sym (ap or_no_name (got_front front (map (call_text ps) e.calls) place long) ∙ condition_got e.conditions place e refl)
+    sym (ap or_no_name (at_left front (map (call_text ps) e.calls) place long) ∙ condition_got e.conditions place e refl)
 
 call_got : (ps : List NamedPart) (cs : List Call) (k : ℕ) → or_no_name (slice_get (map (call_text ps) cs) k) ≡ call_of ps (slice_get cs k)
 call_got ps [] k = refl
@@ -139,16 +135,11 @@ implicit_same d rule place e name call r at named called told =
     ∙ ap (λ (x : List ℕ). refusal.NoImplicit (element_name (design_scheme (blueprint d)) rule) x)
     (called ∙ ap (λ (xs : List (List ℕ)). or_no_name (slice_get xs place)) (sym (texts_same d rule e at)))
 
--- the pairs of a design are those of its scheme
-own_pairs : (d : Design) → d.pairs ≡ (design_scheme (blueprint d)).pairs
-unfolding design_scheme
-own_pairs d = refl
-
 pub declined : (d : Design) (f : UrgencyFault) (r : Refusal) → RefusesUrgency (related (design_subject d)) d.pairs f
     → urgency_told (design_subject d) f ≡ Some r → IsUnurged (design_subject d) r
 declined d f r declines told = record {
   fault = f;
-  declines = subst (λ (ps : List Pair). RefusesUrgency (related (design_subject d)) ps f) (own_pairs d) declines;
+  declines = subst (λ (ps : List Pair). RefusesUrgency (related (design_subject d)) ps f) (pairs_are d) declines;
   told = told;
 }
 
@@ -338,7 +329,7 @@ pub schedule_there : (d : Design) (made : Schedule) (execution urgency : List �
 schedule_there d made execution urgency e u executes urges stops =
     let R = related (design_subject d) in
     record {
-      agrees = belonging.agrees d;
+      agrees = agrees_design d;
       named = belonging.named d;
       executes = subst (λ (xs : List ℕ). Executes R xs) (sym e) executes;
       urges = subst (λ (xs : List ℕ). Urges R xs) (sym u) urges;

@@ -1,5 +1,6 @@
 -- A fault of the check, with its place, is the refusal of what was loaded.
 use Rattle.std.proofs.Common.{◌≡◌, ◌∙◌, Some, Err, option_map, ap}
+use Rattle.std.proofs.lemmas.Option.{same_Some}
 use Rattle.bsv_check.specs.declared.fault.CheckFault.{CheckFault}
 use Rattle.bsv_check.specs.declared.fault.CheckFault.TheVariants as fault
 use Rattle.bsv_check.specs.Checked.{Refused, checked}
@@ -8,11 +9,8 @@ use Rattle.bsv_flow.specs.declared.loading.Loaded.{Loaded}
 use Rattle.bsv_flow.specs.declared.refusal.Refusal.{Refusal}
 use Rattle.bsv_flow.specs.Typings.{placed, told, with_place, typing_of}
 
-same_refusal : (x y : Refusal) → Some x ≡ Some y → x ≡ y
-same_refusal x y e = cc
-
 by_place : (l : Loaded) (q : Refused) (r : Refusal) → checked l.packages ≡ Err q → Some (placed l q) ≡ Some r → typing_of l ≡ Err r
-by_place l q r is told_so = ap (with_place l) is ∙ ap Err (same_refusal (placed l q) r told_so)
+by_place l q r is told_so = ap (with_place l) is ∙ ap Err (same_Some (placed l q) r told_so)
 
 pub told_as : (l : Loaded) (e : CheckFault) (r : Refusal) → Refusing e (λ q. checked l.packages ≡ Err q) → option_map (placed l) (told e) ≡ Some r → typing_of l ≡ Err r
 told_as l fault.OutOfMemory r is told_so = absurd cc

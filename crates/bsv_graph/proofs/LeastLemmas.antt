@@ -1,5 +1,5 @@
 use Rattle.std.proofs.Common.{◌≡◌, ◌≢◌, ℕ, ◌+◌, ◌<◌, ◌≤◌, ◌⊎◌, inl, inr, Bool, true, false, List, [], ◌∷◌, ◌++◌, length, get_or, set, replicate, refl, zero, suc, sym, ◌∙◌, ap, subst, arith, append_assoc, append-nil, length-set, get_or-set_same, get_or-set_other}
-use Rattle.std.proofs.lemmas.Bool.{cases_eq, cases_lt}
+use Rattle.std.proofs.lemmas.Bool.{cases_eq, cases_lt, cases_Bool}
 use Rattle.std.proofs.Common.{take, drop}
 use Rattle.std.proofs.lemmas.List.{get_or-replicate, length-replicate, take_all, drop_all}
 use Rattle.std.specs.Prelude.{IsTrue, All}
@@ -11,10 +11,6 @@ use Rattle.bsv_graph.specs.Reaching.{AreWithin, Marks}
 use Rattle.bsv_graph.specs.Ready.{IsStrict, IsReady, IsLeastReady, AreClear}
 use Rattle.bsv_graph.specs.Walks.{HasEdge, Walk, step, more}
 use Rattle.bsv_graph.specs.Orders.{In, IsOnce, IsOrderOf, Respects, IsUpTo, IsLeastOrder}
-
-pub bool_cases : (b : Bool) → (b ≡ true) ⊎ (b ≡ false)
-bool_cases true = inl refl
-bool_cases false = inr refl
 
 pub truth_cases : (b : Bool) → IsTrue b ⊎ ¬ IsTrue b
 truth_cases true = inl refl
@@ -55,7 +51,7 @@ module _ (t : Table) (bs : List Bool) (strict : IsStrict t) (closed : IsClosed t
 
   minimal : (k : ℕ) → k ≤ t.side → ((a : ℕ) → a < k → get_or bs a false ≡ true) ⊎ ((m : ℕ) × IsMinimal t bs k m)
   minimal zero h = inl (λ a l. absurd (omega arith))
-  minimal (suc k) h = go (bool_cases (get_or bs k false)) (minimal k (omega arith))
+  minimal (suc k) h = go (cases_Bool (get_or bs k false)) (minimal k (omega arith))
     where
       go : (get_or bs k false ≡ true) ⊎ (get_or bs k false ≡ false)
           → ((a : ℕ) → a < k → get_or bs a false ≡ true) ⊎ ((m : ℕ) × IsMinimal t bs k m)
@@ -240,7 +236,7 @@ pub filled_fresh : (n : ℕ) (placed : List Bool) (order : List ℕ) (i : ℕ) �
 filled_fresh n placed order i f a e h = let k : get_or placed a false ≡ true = (f.listed a h).1 in cc
 
 pub filled_open : (n : ℕ) (placed : List Bool) (order : List ℕ) (i : ℕ) → IsFilled n placed order i → (a : ℕ) → a < n → ¬ In order a → get_or placed a false ≡ false
-filled_open n placed order i f a l h = elim (bool_cases (get_or placed a false)) [ inl e ↦ absurd (h (f.marked a l e)) | inr e ↦ e ]
+filled_open n placed order i f a l h = elim (cases_Bool (get_or placed a false)) [ inl e ↦ absurd (h (f.marked a l e)) | inr e ↦ e ]
 
 pub filled_more : (n : ℕ) (placed : List Bool) (order : List ℕ) (i x : ℕ) → IsFilled n placed order i → x < n → get_or placed x false ≡ false
     → IsFilled n (set placed x true) (order ++ (x ∷ [])) (i + 1)

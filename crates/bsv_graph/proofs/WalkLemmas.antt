@@ -1,4 +1,4 @@
-use Rattle.std.proofs.Common.{◌≡◌, ℕ, ◌+◌, ◌<◌, ◌≤◌, add-one, ◌⊎◌, inl, inr, Bool, false, List, [], ◌∷◌, ◌++◌, refl, zero, suc, sym, ◌∙◌, ap, subst, arith}
+use Rattle.std.proofs.Common.{◌≡◌, ℕ, ◌+◌, ◌<◌, ◌≤◌, add-one, ◌⊎◌, inl, inr, List, [], ◌∷◌, ◌++◌, refl, zero, suc, sym, ◌∙◌, ap, subst, arith}
 use Rattle.std.proofs.Common.{length, take, get_or, drop-cons, take-append-drop}
 use Rattle.std.proofs.Common.{drop as drop_list}
 use Rattle.std.proofs.lemmas.List.{take_more, take_all, length-take-le}
@@ -215,9 +215,6 @@ pub keeps_acyclic : {es ps fs : List Edge} → Keeps es ps fs → IsAcyclic es �
 keeps_acyclic done f = f
 keeps_acyclic (keep {es} {ps} {fs} {p} m k) f = keeps_acyclic k (acyclic_with es p f m)
 keeps_acyclic (drop m k) f = keeps_acyclic k f
-
-pub false_not : (b : Bool) → b ≡ false → IsTrue b → ⊥
-false_not b e h = cc
 
 -- a list that one more element ends, in two parts round an element
 snoc_split : (ps before behind : List Edge) (p q : Edge) → ps ++ (p ∷ []) ≡ before ++ (q ∷ behind)

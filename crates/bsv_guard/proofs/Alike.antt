@@ -9,7 +9,8 @@ use Rattle.bsv_design.specs.Serial.{by_rank, run_whole, Serial, done, turn}
 use Rattle.bsv_design.specs.States.{plain, after_calls}
 use Rattle.bsv_design.specs.Traces.{Site, Trace}
 use Rattle.bsv_guard.specs.ElementLaws.{DoTheSame}
-use Rattle.bsv_guard.proofs.Given.{given_arguments, length-filled}
+use Rattle.bsv_guard.proofs.Given.{given_arguments}
+use Rattle.bsv_design.proofs.Elements.{length-filled}
 
 module _ (S T : Scheme) (al : AreAlike S T) where
   same_given : (q : Asking) (n : ℕ) → given S q n ≡ given T q n

@@ -1,9 +1,10 @@
 -- The calls of a design fit where its arguments and the answers do, and requests give words of their widths.
-use Rattle.std.proofs.Common.{◌≡◌, ◌∙◌, ℕ, zero, suc, ◌<◌, Bool, true, false, cond, List, [], ◌∷◌, length, map, Option, Some, None, refl, sym, ap, subst, arith}
+use Rattle.std.proofs.Common.{◌≡◌, ◌∙◌, ℕ, zero, suc, ◌<◌, Bool, true, false, cond, List, [], ◌∷◌, length, map, Option, Some, None, refl, sym, ap, subst}
 use Rattle.std.specs.Prelude.{slice_get, option_map, IsTrue, nat_lt}
 use Rattle.std.specs.List.{list_all}
 use Rattle.std.proofs.lemmas.Bool.{and_parts, ltb-true}
 use Rattle.std.proofs.lemmas.Option.{slice_get-map}
+use Rattle.bsv_lemmas.proofs.Places.{item_there}
 use Rattle.bsv_bits.specs.Words.{Bits, IsWord}
 use Rattle.bsv_bits.proofs.Modulo.{IsWord_zero}
 use Rattle.bsv_design.specs.declared.element.Call.{Call}
@@ -45,11 +46,6 @@ method_there : (o : Option Kind) (us : List ℕ) (c : Call) → method_fits o us
 method_there None us c h = absurd (let n : ⊥ = cc in n)
 method_there (Some kind) us c h = ltb-true c.method (kind_table kind).methods (and_parts (nat_lt c.method (kind_table kind).methods) _ h).0
 
-there : (us : List ℕ) (k : ℕ) → k < length us → (u : ℕ) × (slice_get us k ≡ Some u)
-there [] k l = absurd (omega arith)
-there (u ∷ us) zero l = (u, refl)
-there (u ∷ us) (suc k) l = there us k (omega arith)
-
 result_there : (us : List ℕ) (b : Bool) (k : ℕ) → result_fits us b (Some k) ≡ true → k < length us
 result_there us true k h = ltb-true k (length us) h
 result_there us false k h = absurd (let n : ⊥ = cc in n)
@@ -58,7 +54,7 @@ result_is : (us : List ℕ) (vs : List Bits) (b : Bool) (o : Option ℕ) → Hav
 result_is us vs b None have h w e = absurd (let n : ⊥ = cc in n)
 result_is us vs b (Some k) have h w e =
     let same : at vs k ≡ w = cc in
-    let width = there us k (result_there us b k h) in
+    let width = item_there us k (result_there us b k h) in
     subst IsWord same (word_there us vs have k width.0 width.1).word
 
 module _ (ks : List Kind) (e : Element) (is : IsElement ks e) where

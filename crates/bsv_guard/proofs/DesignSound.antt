@@ -3,13 +3,14 @@ use Rattle.std.proofs.Common.{◌≡◌, ◌∙◌, ℕ, true, false, List, [], 
 use Rattle.std.specs.Prelude.{slice_get, option_map}
 use Rattle.std.proofs.lemmas.Bool.{not-true}
 use Rattle.std.proofs.lemmas.Option.{slice_get-map}
+use Rattle.bsv_lemmas.proofs.Places.{mapped_at}
 use Rattle.bsv_bits.specs.Words.{Bits}
 use Rattle.bsv_design.specs.declared.element.Call.{Call}
 use Rattle.bsv_design.specs.declared.element.Condition.{Condition}
 use Rattle.bsv_design.specs.declared.element.Element.{Element}
 use Rattle.bsv_design.specs.declared.element.Role.TheVariants as role
 use Rattle.bsv_design.specs.declared.kind.Kind.{Kind}
-use Rattle.bsv_design.specs.Bodies.{Target, target, Answers, at, words}
+use Rattle.bsv_design.specs.Bodies.{target, Answers, at, words}
 use Rattle.bsv_design.specs.Branches.{AreExclusive, AgreeOnTaken, AreSameWhereTaken}
 use Rattle.bsv_design.specs.Designs.{Blueprint, IsElement, IsDesign}
 use Rattle.bsv_design.specs.Kinds.{kind_table}
@@ -17,8 +18,9 @@ use Rattle.bsv_design.specs.Schemes.{Outline, AreArgumentsOf, outline, ports_of,
 use Rattle.bsv_design.specs.Traces.{Site, Demand, acts, kind_at, site_at, demand_at, body_trace}
 use Rattle.bsv_design.specs.Widths.{acts_not}
 use Rattle.bsv_guard.specs.Sound.{IsSound, AreSamePlaces, AgreeOnReads, Place, place}
-use Rattle.bsv_guard.proofs.Lists.{holds_at_all, item_of, mapped_at}
+use Rattle.bsv_guard.proofs.Lists.{holds_at_all, item_of}
 use Rattle.bsv_guard.proofs.Nodes.{same_words}
+use Rattle.bsv_design.proofs.Elements.{site_targets}
 
 -- the words are as many as an element has arguments
 abbrev Fit : Option Element → List Bits → Type 0
@@ -45,10 +47,6 @@ nothing_runs ks = record {
   values_act_not = λ e n v r ws f k x g. absurd (let n : ⊥ = cc in n);
 }
 
-targets : (ks : List Kind) (ws : List Bits) (cs : List Call) → map (λ (x : Site). x.target) (map (site_at ks ws) cs) ≡ map target cs
-targets ks ws [] = refl
-targets ks ws (c ∷ cs) = ap (λ (ts : List Target). target c ∷ ts) (targets ks ws cs)
-
 places_of : (ks : List Kind) (vs ws : List Bits) (cs : List Call) → map place (map (site_at ks vs) cs) ≡ map place (map (site_at ks ws) cs)
 places_of ks vs ws [] = refl
 places_of ks vs ws (c ∷ cs) = ap (λ (ps : List Place). place (site_at ks vs c) ∷ ps) (places_of ks vs ws cs)
@@ -72,7 +70,7 @@ quiet ks c h = of (slice_get ks c.part) refl
 body_runs : (ks : List Kind) (e : Element) → IsElement ks e → RunsSoundly ks (Some e)
 unfolding body_trace
 body_runs ks e is = record {
-  uses = λ r ws f. targets ks (words e r ws) e.calls;
+  uses = λ r ws f. site_targets ks (words e r ws) e.calls;
   places = λ q r vs ws f g. record { calls = places_of ks (words e q vs) (words e r ws) e.calls; conditions = names_of (words e q vs) (words e r ws) e.conditions };
   exclusive = λ r ws f. is.exclusive r ws f;
   decided = λ q r ws f. is.decided q r ws f;

@@ -2,6 +2,7 @@
 use Rattle.std.proofs.Common.{◌≡◌, ◌∙◌, ℕ, zero, suc, Bool, true, false, cond, not, ◌&&◌, ◌||◌, List, [], ◌∷◌, Some, refl, sym, ap, ap₂, subst}
 use Rattle.std.specs.Prelude.{slice_get}
 use Rattle.std.proofs.lemmas.Bool.{and_parts, and_from}
+use Rattle.bsv_lemmas.proofs.Places.{mapped_at}
 use Rattle.bsv_bits.specs.Words.{Bits}
 use Rattle.bsv_design.specs.declared.kind.Kind.{Kind}
 use Rattle.bsv_design.specs.Bodies.{Target}
@@ -12,7 +13,6 @@ use Rattle.bsv_guard.specs.Sound.{IsSound}
 use Rattle.bsv_guard.specs.ElementLaws.{IsUse, ActsAlike, StaysOpen}
 use Rattle.bsv_guard.proofs.Agree.{decided_by_reads}
 use Rattle.bsv_guard.proofs.Given.{given_arguments}
-use Rattle.bsv_guard.proofs.Lists.{mapped_at}
 
 -- ---- one look
 
@@ -84,7 +84,7 @@ hold_again (x ∷ xs) (y ∷ ys) s =
     (held x.taken x.holds y.holds s.0.holds ∙ ap (λ (t : Bool). required true t y.holds) s.0.taken)
     (hold_again xs ys s.1)
 
-abbrev called : Site → Called
+abbrev pub called : Site → Called
 called x = record { target = x.target; arguments = x.arguments }
 
 -- what a call adds to those that are made

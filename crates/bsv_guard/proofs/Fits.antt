@@ -21,7 +21,7 @@ use Rattle.bsv_guard.proofs.Lists.{all_at}
 use Rattle.bsv_guard.proofs.Made.{all_made}
 
 -- 0 fits where a method is closed
-nothing_fits : (t : Table) → Laws t → (c : Call) → CallFits t c → t.is_action c.method ≡ false → IsWordOf (t.result_width c.method) (zero_word (t.result_width c.method))
+pub nothing_fits : (t : Table) → Laws t → (c : Call) → CallFits t c → t.is_action c.method ≡ false → IsWordOf (t.result_width c.method) (zero_word (t.result_width c.method))
 nothing_fits t laws c f read =
     let some = laws.widths.result t.opening c laws.fit.opening f read in
     record {

@@ -1,9 +1,9 @@
 -- Lists, and each two of their items.
 use Rattle.std.proofs.Common.{◌≡◌, ◌∙◌, ℕ, zero, suc, ◌<◌, Bool, true, List, [], ◌∷◌, map, Some, refl, sym, ap, subst, arith}
-use Rattle.std.specs.Prelude.{slice_get, option_map}
+use Rattle.std.specs.Prelude.{slice_get}
 use Rattle.std.specs.List.{AllByRecursion, list_all}
 use Rattle.std.proofs.lemmas.Bool.{and_parts}
-use Rattle.std.proofs.lemmas.Option.{slice_get-map, same_Some}
+use Rattle.std.proofs.lemmas.Option.{same_Some}
 
 -- an item of a list that was computed item by item
 pub record IsOf {A B : Type 0} (f : A → B) (xs : List A) (k : ℕ) (y : B) : Type 0 where
@@ -15,9 +15,6 @@ pub item_of : {A B : Type 0} (f : A → B) (xs : List A) (k : ℕ) (y : B) → s
 item_of f [] k y e = absurd (let h : ⊥ = cc in h)
 item_of f (x ∷ xs) zero y e = record { item = x; is = refl; gives = same_Some (f x) y e }
 item_of f (x ∷ xs) (suc k) y e = let h = item_of f xs k y e in record { item = h.item; is = h.is; gives = h.gives }
-
-pub mapped_at : {A B : Type 0} (f : A → B) (xs : List A) (k : ℕ) (x : A) → slice_get xs k ≡ Some x → slice_get (map f xs) k ≡ Some (f x)
-mapped_at f xs k x e = slice_get-map f xs k ∙ ap (option_map f) e
 
 pub all_at : {A : Type 0} (P : A → Type 0) (xs : List A) → AllByRecursion P xs → (k : ℕ) (x : A) → slice_get xs k ≡ Some x → P x
 all_at P [] h k x e = absurd (let n : ⊥ = cc in n)

@@ -1,8 +1,9 @@
 -- The calls that an element makes.
 use Rattle.std.proofs.Common.{◌≡◌, ◌∙◌, ℕ, zero, suc, ◌<◌, Bool, true, false, cond, not, ◌&&◌, List, [], ◌∷◌, map, Option, Some, None, refl, sym, ap, ap₂, subst, arith, inl, inr}
-use Rattle.std.specs.Prelude.{slice_get, IsTrue, ◌==◌}
+use Rattle.std.specs.Prelude.{slice_get, ◌==◌}
 use Rattle.std.specs.List.{AllByRecursion}
-use Rattle.std.proofs.lemmas.Bool.{and_parts, cases_order, eq-eqb}
+use Rattle.std.proofs.lemmas.Bool.{and_parts, cases_order, eq-eqb, false_from_ne_true}
+use Rattle.bsv_lemmas.proofs.Places.{mapped_at}
 use Rattle.bsv_prim.specs.Table.{in_one_element, converse}
 use Rattle.bsv_prim.specs.declared.primitive.Rel.{Rel}
 use Rattle.bsv_prim.specs.declared.primitive.Rel.TheVariants.{Cf, Sb, Sa, Sbr, C}
@@ -15,14 +16,12 @@ use Rattle.bsv_design.specs.Schemes.{Scheme, Outline, Asking, Look, Called, port
 use Rattle.bsv_design.specs.Traces.{Site, Trace, acts, kind_at}
 use Rattle.bsv_guard.specs.Sound.{IsSound, Place, place}
 use Rattle.bsv_guard.specs.ElementLaws.{IsUse}
-use Rattle.bsv_guard.proofs.Extends.{under, is_use, each_open, taken_is_open}
-use Rattle.bsv_guard.proofs.Given.{given_arguments, length-filled}
-use Rattle.bsv_guard.proofs.Lists.{Pairs, all_at, pair_at, item_of, mapped_at}
+use Rattle.bsv_guard.proofs.Extends.{under, is_use, each_open, taken_is_open, called}
+use Rattle.bsv_guard.proofs.Given.{given_arguments}
+use Rattle.bsv_guard.proofs.Lists.{Pairs, all_at, pair_at, item_of}
+use Rattle.bsv_design.proofs.Elements.{length-filled}
 
 -- ---- of the calls of a run
-
-abbrev pub called : Site → Called
-called x = record { target = x.target; arguments = x.arguments }
 
 abbrev IsMade : List Site → ℕ → Site → Type 0
 IsMade xs k x = (slice_get xs k ≡ Some x) × (x.action ≡ true) × (x.taken ≡ true)
@@ -95,10 +94,6 @@ abbrev break_at : List Kind → Place → Place → Bool
 break_at ks x y =
     (x.target.part == y.target.part) && not (apart x.branches y.branches) && not (may_stand (kind_at ks x.target) x.target.method y.target.method)
 
-not_apart : (b : Bool) → (IsTrue b → ⊥) → b ≡ false
-not_apart true h = absurd (h refl)
-not_apart false h = refl
-
 unbroken : (a b m : Bool) → a ≡ true → b ≡ false → ((a && not b && not m) ≡ true → ⊥) → m ≡ true
 unbroken a b true ea eb h = refl
 unbroken a b false ea eb h = absurd (h (ap₂ (λ (x y : Bool). x && not y && not false) ea eb))
@@ -125,7 +120,7 @@ module _ (S : Scheme) (ok : IsSound S) (q : Asking) (n : ℕ) where
   taken_pair keeps a i j x y l e f p =
       unbroken (x.target.part == y.target.part) (apart x.branches y.branches) (may_stand (kind_at S.kinds x.target) x.target.method y.target.method)
       (eq-eqb x.target.part y.target.part p)
-      (not_apart (apart x.branches y.branches)
+      (false_from_ne_true (apart x.branches y.branches)
       (λ t. ok.exclusive n (answers S.kinds a) (given S q n) (given_arguments S q n) i j x y e.0 f.0 t e.2 f.2))
       (kept_pair keeps a i j x y l e.0 f.0)
 

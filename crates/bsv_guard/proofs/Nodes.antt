@@ -3,6 +3,7 @@ use Rattle.std.proofs.Common.{◌≡◌, ◌∙◌, ℕ, zero, suc, ◌+◌, ◌
 use Rattle.std.specs.Prelude.{slice_get, nat_lt}
 use Rattle.std.specs.List.{AllByRecursion}
 use Rattle.std.proofs.lemmas.Bool.{and_parts, not-true}
+use Rattle.bsv_lemmas.proofs.Places.{at_left}
 use Rattle.bsv_bits.specs.Words.{Bits}
 use Rattle.bsv_prim.specs.Table.{Table}
 use Rattle.bsv_design.specs.declared.element.Call.{Call}
@@ -48,14 +49,9 @@ arguments_before t m us k (a ∷ args) h =
 
 -- ---- words stay
 
-pub got_left : (vs more : List Bits) (k : ℕ) → k < length vs → slice_get (vs ++ more) k ≡ slice_get vs k
-got_left [] more k l = absurd (omega arith)
-got_left (v ∷ vs) more zero l = refl
-got_left (v ∷ vs) more (suc k) l = got_left vs more k (omega arith)
-
 pub same_arguments : (vs more : List Bits) (args : List ℕ) → AllByRecursion (λ a. a < length vs) args → map (at (vs ++ more)) args ≡ map (at vs) args
 same_arguments vs more [] h = refl
-same_arguments vs more (a ∷ args) h = ap₂ (λ (x : Bits) (xs : List Bits). x ∷ xs) (ap or_zero (got_left vs more a h.0)) (same_arguments vs more args h.1)
+same_arguments vs more (a ∷ args) h = ap₂ (λ (x : Bits) (xs : List Bits). x ∷ xs) (ap or_zero (at_left vs more a h.0)) (same_arguments vs more args h.1)
 
 module _ (ks : List Kind) (ports : List Port) (cs : List Call) (ws : List Bits) where
   abbrev pub next_word : Answers → List Bits → Node → Bits

@@ -1,7 +1,8 @@
 -- The guard of a call of a method that has none is true, so that the lifted guards say all.
 use Rattle.std.proofs.Common.{◌≡◌, ◌∙◌, ℕ, ◌+◌, Bool, true, false, cond, ◌&&◌, ◌||◌, List, [], ◌∷◌, ◌++◌, map, length, Some, None, refl, sym, ap, subst, arith, append_assoc}
-use Rattle.std.specs.Prelude.{slice_get, Option}
+use Rattle.std.specs.Prelude.{slice_get}
 use Rattle.std.proofs.Math.ListN.{length-append}
+use Rattle.bsv_lemmas.proofs.Places.{at_middle}
 use Rattle.bsv_bits.specs.Words.{Bits}
 use Rattle.bsv_design.specs.declared.element.Call.{Call}
 use Rattle.bsv_design.specs.declared.element.Element.{Element}
@@ -9,20 +10,10 @@ use Rattle.bsv_design.specs.declared.kind.Kind.{Kind}
 use Rattle.bsv_design.specs.declared.schedule.Need.{Need}
 use Rattle.bsv_design.specs.Bodies.{target, words}
 use Rattle.bsv_design.specs.Guards.{is_guarded, needs_from, needs_hold, holds_at, body_ready}
-use Rattle.bsv_design.specs.Kinds.{kind_laws}
-use Rattle.bsv_design.specs.Schemes.{Look, is_open, guard_of, answers, all_hold, all_open, required}
+use Rattle.bsv_design.specs.Schemes.{Look, is_open, answers, all_hold, all_open, required}
 use Rattle.bsv_design.specs.Traces.{kind_at, site_at, demand_at, body_trace}
-use Rattle.bsv_prim.specs.declared.part.Part.{Part}
 use Rattle.bsv_guard.specs.Lifted.{all_ready}
-
-unguarded : (k : Option Kind) (m : ℕ) (p : Part) → is_guarded k m ≡ false → guard_of k m p ≡ true
-unguarded None m p h = refl
-unguarded (Some k) m p h = (kind_laws k).guards.never m p h
-
--- a call that stands behind others
-there : (before behind : List Call) (c : Call) → slice_get (before ++ c ∷ behind) (length before) ≡ Some c
-there [] behind c = refl
-there (x ∷ before) behind c = there before behind c
+use Rattle.bsv_design.proofs.Elements.{unguarded}
 
 or_false : (a b : Bool) → (a || false) ≡ required false b a
 or_false true b = refl
@@ -49,7 +40,7 @@ needs_say_all ks look ws before (c ∷ cs) n h =
     subst (λ all. needs_hold ks look all ws (needs_from ks (n + 1) cs) ≡ all_open false ks look (map (site_at ks ws) cs)) (append_assoc before (c ∷ []) cs)
     (needs_say_all ks look ws (before ++ c ∷ []) cs (n + 1) long) in
     one_need ks look (before ++ c ∷ cs) ws n c (needs_from ks (n + 1) cs) (all_open false ks look (map (site_at ks ws) cs)) (is_guarded (kind_at ks (target c)) c.method) refl
-    (subst (λ k. slice_get (before ++ c ∷ cs) k ≡ Some c) (sym h) (there before cs c)) next
+    (subst (λ k. slice_get (before ++ c ∷ cs) k ≡ Some c) (sym h) (at_middle before cs c)) next
 
 pub body_says_all : (ks : List Kind) (e : Element) (look : Look) (ws : List Bits)
     → body_ready false ks e (needs_from ks 0 e.calls) look ws ≡ all_ready ks look (body_trace ks e (answers ks look) ws)

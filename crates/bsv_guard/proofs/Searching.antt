@@ -1,9 +1,10 @@
 -- What pairs of calls of one element have in common that break the rule, and the first of them.
-use Rattle.std.proofs.Common.{◌≡◌, ◌∙◌, ℕ, ◌+◌, ◌<◌, ◌≤◌, Bool, true, false, not, ◌&&◌, eqb, List, [], ◌∷◌, length, get_or, Some, refl, sym, ap, subst, arith, ◌⊎◌, inl, inr, IsTrue, zero, suc, eqb-true, ltb-true}
+use Rattle.std.proofs.Common.{◌≡◌, ◌∙◌, ℕ, ◌+◌, ◌<◌, ◌≤◌, true, false, not, ◌&&◌, eqb, List, [], ◌∷◌, length, get_or, Some, refl, sym, ap, subst, arith, ◌⊎◌, inl, inr, IsTrue, zero, suc, eqb-true, ltb-true}
 use Rattle.std.specs.Prelude.{slice_get}
 use Rattle.std.specs.List.{list_all}
-use Rattle.std.proofs.lemmas.Bool.{cases_order}
+use Rattle.std.proofs.lemmas.Bool.{cases_order, not-true}
 use Rattle.std.proofs.lemmas.Option.{same_Some}
+use Rattle.bsv_lemmas.proofs.Truths.{both_right, both_left}
 use Rattle.bsv_design.specs.declared.element.Call.{Call}
 use Rattle.bsv_design.specs.declared.kind.Kind.{Kind}
 use Rattle.bsv_design.specs.Branches.{apart}
@@ -12,18 +13,6 @@ use Rattle.bsv_design.specs.Relations.{may_stand}
 use Rattle.bsv_design.specs.Widths.{has_method, call_named}
 use Rattle.bsv_guard.specs.Groups.{AreGrouped, StandsIn, group_of}
 use Rattle.bsv_guard.specs.Pairs.{breaks, IsPair, AreFree, IsFound, NoneAmong, NoneBehind, IsFirstBehind}
-
-pub both_left : (a b : Bool) → (a && b) ≡ true → a ≡ true
-both_left true b h = refl
-both_left false b h = h
-
-pub both_right : (a b : Bool) → (a && b) ≡ true → b ≡ true
-both_right true b h = h
-both_right false b h = absurd cc
-
-not_true : (b : Bool) → not b ≡ true → b ≡ false
-not_true true h = absurd cc
-not_true false h = refl
 
 pub named_at : (ks : List Kind) (cs : List Call) (j : ℕ) (c : Call) → IsTrue (list_all (call_named ks) cs) → slice_get cs j ≡ Some c → call_named ks c ≡ true
 named_at ks [] j c h e = absurd cc
@@ -38,7 +27,7 @@ same_part ks c d h = eqb-true _ _ (both_left (eqb c.part d.part) _ (both_left _ 
 may_not_stand : (ks : List Kind) (c d : Call) (k : Kind) → slice_get ks c.part ≡ Some k → breaks ks c d ≡ true → may_stand (Some k) c.method d.method ≡ false
 may_not_stand ks c d k at h =
     subst (λ o. may_stand o c.method d.method ≡ false) at
-    (not_true _ (both_right ((eqb c.part d.part) && not (apart c.branches d.branches)) _ h))
+    (not-true _ (both_right ((eqb c.part d.part) && not (apart c.branches d.branches)) _ h))
 
 pub method_within : (ks : List Kind) (c d : Call) (k : Kind) → slice_get ks c.part ≡ Some k → breaks ks c d ≡ true → call_named ks d ≡ true → d.method < (kind_table k).methods
 method_within ks c d k at h named =

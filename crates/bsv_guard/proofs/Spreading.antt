@@ -1,8 +1,9 @@
 -- Calls that stand in later and later arms stand in different arms of one choice, each with each.
 use Rattle.std.proofs.Common.{◌≡◌, ◌∙◌, ℕ, zero, suc, ◌<◌, ◌≢◌, Bool, true, false, not, ◌&&◌, ◌||◌, eqb, ltb, List, [], ◌∷◌, length, get_or, map, Some, refl, sym, ap, subst, arith, ◌⊎◌, inl, inr, eqb-true, ltb-true, eq-eqb, ne_eqb, lt-ltb}
 use Rattle.std.specs.Prelude.{slice_get}
-use Rattle.std.proofs.lemmas.Bool.{cases_order}
+use Rattle.std.proofs.lemmas.Bool.{cases_order, or_left, and_from, or_right}
 use Rattle.std.proofs.lemmas.List.{length-map, get_or-map}
+use Rattle.bsv_lemmas.proofs.Truths.{both_left, both_right}
 use Rattle.bsv_design.specs.declared.element.Call.{Call}
 use Rattle.bsv_design.specs.declared.kind.Kind.{Kind}
 use Rattle.bsv_design.specs.declared.node.Branch.{Branch}
@@ -11,7 +12,7 @@ use Rattle.bsv_design.specs.Relations.{may_stand}
 use Rattle.bsv_guard.specs.Groups.{AreGrouped, StandsIn, group_of, place}
 use Rattle.bsv_guard.specs.Pairs.{breaks}
 use Rattle.bsv_guard.specs.Spread.{in_later_arm, arms_in, arms_of, spread_behind, is_spread, spread_of}
-use Rattle.bsv_guard.proofs.Searching.{both_left, both_right, same_part, stand_otherwise}
+use Rattle.bsv_guard.proofs.Searching.{same_part, stand_otherwise}
 
 -- ---- later arms
 
@@ -33,21 +34,11 @@ later_parts a b others bs h = record {
   then = either a.arm b.arm (in_later_arm others bs) (both_right (eqb a.choice b.choice) _ h);
 }
 
-or_yes : (a b : Bool) → b ≡ true → (a || b) ≡ true
-or_yes true b h = refl
-or_yes false b h = h
-
-yes_or : (a b : Bool) → a ≡ true → (a || b) ≡ true
-yes_or a b h = ap (λ c. c || b) h
-
-yes_and : (a b : Bool) → a ≡ true → b ≡ true → (a && b) ≡ true
-yes_and a b h k = ap (λ c. c && b) h ∙ k
-
 later_made : (a b : Branch) (others bs : List Branch) → IsLater a b others bs → in_later_arm (a ∷ others) (b ∷ bs) ≡ true
-later_made a b others bs h = yes_and (eqb a.choice b.choice) _ (eq-eqb _ _ h.choice) (of h.then) where
+later_made a b others bs h = and_from (eqb a.choice b.choice) _ (eq-eqb _ _ h.choice) (of h.then) where
   of : (a.arm < b.arm) ⊎ ((a.arm ≡ b.arm) × (in_later_arm others bs ≡ true)) → (ltb a.arm b.arm || (eqb a.arm b.arm && in_later_arm others bs)) ≡ true
-  of (inl less) = yes_or _ _ (lt-ltb _ _ less)
-  of (inr (same, rest)) = or_yes (ltb a.arm b.arm) _ (yes_and (eqb a.arm b.arm) _ (eq-eqb _ _ same) rest)
+  of (inl less) = or_left _ _ (lt-ltb _ _ less)
+  of (inr (same, rest)) = or_right (ltb a.arm b.arm) _ (and_from (eqb a.arm b.arm) _ (eq-eqb _ _ same) rest)
 
 onward : (a b c : Branch) (xs ys zs : List Branch) → (in_later_arm xs ys ≡ true → in_later_arm ys zs ≡ true → in_later_arm xs zs ≡ true) → IsLater a b xs ys → IsLater b c ys zs → IsLater a c xs zs
 onward a b c xs ys zs inner h k = record { choice = h.choice ∙ k.choice; then = of h.then k.then } where
@@ -67,21 +58,21 @@ later_onward (a ∷ xs) (b ∷ ys) (c ∷ zs) h k =
 -- ---- different arms
 
 more_of : (a b : Branch) (xs ys : List Branch) → (apart xs ys ≡ true → apart xs (b ∷ ys) ≡ true) → (t : Bool) → other_arm_of a ys ≡ t → apart (a ∷ xs) ys ≡ true → apart (a ∷ xs) (b ∷ ys) ≡ true
-more_of a b xs ys inner true e h = yes_or (other_arm a b || other_arm_of a ys) _ (or_yes (other_arm a b) _ e)
-more_of a b xs ys inner false e h = or_yes (other_arm a b || other_arm_of a ys) _ (inner (subst (λ t. (t || apart xs ys) ≡ true) e h))
+more_of a b xs ys inner true e h = or_left (other_arm a b || other_arm_of a ys) _ (or_right (other_arm a b) _ e)
+more_of a b xs ys inner false e h = or_right (other_arm a b || other_arm_of a ys) _ (inner (subst (λ t. (t || apart xs ys) ≡ true) e h))
 
 apart_more : (xs ys : List Branch) (b : Branch) → apart xs ys ≡ true → apart xs (b ∷ ys) ≡ true
 apart_more [] ys b h = h
 apart_more (a ∷ xs) ys b h = more_of a b xs ys (apart_more xs ys b) (other_arm_of a ys) refl h
 
 differ : (a b : Branch) → a.choice ≡ b.choice → a.arm ≢ b.arm → other_arm a b ≡ true
-differ a b same ne = yes_and (eqb a.choice b.choice) _ (eq-eqb _ _ same) (ap not (ne_eqb a.arm b.arm ne))
+differ a b same ne = and_from (eqb a.choice b.choice) _ (eq-eqb _ _ same) (ap not (ne_eqb a.arm b.arm ne))
 
 apart_here : (a b : Branch) (xs ys : List Branch) → other_arm a b ≡ true → apart (a ∷ xs) (b ∷ ys) ≡ true
-apart_here a b xs ys h = yes_or (other_arm a b || other_arm_of a ys) _ (yes_or (other_arm a b) _ h)
+apart_here a b xs ys h = or_left (other_arm a b || other_arm_of a ys) _ (or_left (other_arm a b) _ h)
 
 apart_behind : (a b : Branch) (xs ys : List Branch) → apart xs ys ≡ true → apart (a ∷ xs) (b ∷ ys) ≡ true
-apart_behind a b xs ys h = or_yes (other_arm a b || other_arm_of a ys) _ (apart_more xs ys b h)
+apart_behind a b xs ys h = or_right (other_arm a b || other_arm_of a ys) _ (apart_more xs ys b h)
 
 both_of : (a b : Branch) (xs ys : List Branch) → (in_later_arm xs ys ≡ true → (apart xs ys ≡ true) × (apart ys xs ≡ true)) → a.choice ≡ b.choice
     → (a.arm < b.arm) ⊎ ((a.arm ≡ b.arm) × (in_later_arm xs ys ≡ true)) → (apart (a ∷ xs) (b ∷ ys) ≡ true) × (apart (b ∷ ys) (a ∷ xs) ≡ true)

@@ -1,8 +1,7 @@
 -- What is asked of a scheme holds of each scheme that is alike.
-use Rattle.std.proofs.Common.{◌≡◌, ◌∙◌, ℕ, suc, List, [], ◌∷◌, length, refl, sym, ap, subst}
+use Rattle.std.proofs.Common.{◌≡◌, ◌∙◌, ℕ, List, length, sym, ap, subst}
 use Rattle.std.specs.Prelude.{map, slice_get, Some}
 use Rattle.bsv_bits.specs.Words.{Bits}
-use Rattle.bsv_design.specs.declared.element.Port.{Port}
 use Rattle.bsv_design.specs.declared.kind.Kind.{Kind}
 use Rattle.bsv_design.specs.Bodies.{Target, Answers}
 use Rattle.bsv_design.specs.Branches.{AreExclusive, AgreeOnTaken, AreSameWhereTaken}
@@ -11,12 +10,7 @@ use Rattle.bsv_design.specs.States.{AreWordsOf}
 use Rattle.bsv_design.specs.Traces.{Site, Trace, acts, kind_at}
 use Rattle.bsv_guard.specs.Sound.{IsSound, AreSamePlaces, AgreeOnReads}
 use Rattle.bsv_guard.specs.Fitting.{AnswersFit, IsMethodOf, IsFitCall, IsFitting}
-
-length-words : (ps : List Port) (ws : List Bits) → AreWordsOf ps ws → length ws ≡ length ps
-length-words [] [] h = refl
-length-words [] (w ∷ ws) h = absurd h
-length-words (p ∷ ps) [] h = absurd h
-length-words (p ∷ ps) (w ∷ ws) h = ap suc (length-words ps ws h.1)
+use Rattle.bsv_design.proofs.Elements.{length-words}
 
 module _ (S T : Scheme) (al : AreAlike S T) where
   there : (n : ℕ) (ws : List Bits) → AreArgumentsOf T n ws → AreArgumentsOf S n ws

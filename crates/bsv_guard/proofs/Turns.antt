@@ -4,6 +4,8 @@ use Rattle.std.specs.Prelude.{slice_get, slice_set, ◌==◌}
 use Rattle.std.specs.List.{AllByRecursion}
 use Rattle.std.proofs.lemmas.Bool.{eqb-true, eqb-false}
 use Rattle.std.proofs.lemmas.Option.{slice_get_within}
+use Rattle.std.proofs.lemmas.List.{length-set}
+use Rattle.bsv_lemmas.proofs.Places.{all_from}
 use Rattle.bsv_prim.proofs.Elements.{element_in_turn}
 use Rattle.bsv_prim.proofs.Orderly.{fits_after}
 use Rattle.bsv_prim.specs.Calls.{IsReady, IsOrderly}
@@ -27,13 +29,13 @@ use Rattle.bsv_guard.proofs.Ranks.{all_by_rank}
 
 -- ---- parts of kinds
 
-length-parts : (ks : List Kind) (ps : List Part) → FitsKinds ks ps → length ps ≡ length ks
+pub length-parts : (ks : List Kind) (ps : List Part) → FitsKinds ks ps → length ps ≡ length ks
 length-parts [] [] h = refl
 length-parts [] (p ∷ ps) h = absurd h
 length-parts (k ∷ ks) [] h = absurd h
 length-parts (k ∷ ks) (p ∷ ps) h = ap suc (length-parts ks ps h.1)
 
-fits_at : (ks : List Kind) (ps : List Part) → FitsKinds ks ps → (i : ℕ) (kind : Kind) → slice_get ks i ≡ Some kind → (kind_table kind).Fits (part_at ps i)
+pub fits_at : (ks : List Kind) (ps : List Part) → FitsKinds ks ps → (i : ℕ) (kind : Kind) → slice_get ks i ≡ Some kind → (kind_table kind).Fits (part_at ps i)
 fits_at [] ps h i kind e = absurd (let n : ⊥ = cc in n)
 fits_at (k ∷ ks) [] h i kind e = absurd h
 fits_at (k ∷ ks) (p ∷ ps) h zero kind e = let same : k ≡ kind = cc in subst (λ (x : Kind). (kind_table x).Fits p) same h.0
@@ -46,11 +48,6 @@ all_fit (k ∷ ks) [] long h = absurd (let n : ⊥ = omega arith in n)
 all_fit (k ∷ ks) (p ∷ ps) long h = (h zero k refl, all_fit ks ps (omega arith) (λ i kind e. h (suc i) kind e))
 
 -- ---- one part
-
-length-put : (ps : List Part) (i : ℕ) (p : Part) → length (slice_set ps i p) ≡ length ps
-length-put [] i p = refl
-length-put (x ∷ ps) zero p = refl
-length-put (x ∷ ps) (suc i) p = ap suc (length-put ps i p)
 
 put_there : (ps : List Part) (i : ℕ) (p : Part) → i < length ps → part_at (slice_set ps i p) i ≡ p
 put_there [] i p l = absurd (omega arith)
@@ -69,7 +66,7 @@ unfolding after_call
 length-after ks ps [] = refl
 length-after ks ps (c ∷ cs) =
     length-after ks (after_call ks ps c) cs
-    ∙ length-put ps c.target.part (applied (kind_at ks c.target) c.target.method (part_at ps c.target.part) c.arguments)
+    ∙ length-set ps c.target.part (applied (kind_at ks c.target) c.target.method (part_at ps c.target.part) c.arguments)
 
 module _ (ks : List Kind) (i : ℕ) (kind : Kind) (is : slice_get ks i ≡ Some kind) where
   called_there : (ps : List Part) (c : Called) → i < length ps → c.target.part ≡ i → part_at (after_call ks ps c) i ≡ prim.after_call (kind_table kind) (part_at ps i) (call_of c)
@@ -97,17 +94,13 @@ module _ (ks : List Kind) (i : ℕ) (kind : Kind) (is : slice_get ks i ≡ Some 
 
 -- ---- the calls on a part
 
-all_on : (P : Call → Type 0) (i : ℕ) (cs : List Called) → AllByRecursion (λ c. c.target.part ≡ i → P (call_of c)) cs → AllByRecursion P (calls_on i cs)
+pub all_on : (P : Call → Type 0) (i : ℕ) (cs : List Called) → AllByRecursion (λ c. c.target.part ≡ i → P (call_of c)) cs → AllByRecursion P (calls_on i cs)
 all_on P i [] h = tt
 all_on P i (c ∷ cs) h = cases (c.target.part == i) refl (all_on P i cs h.1)
   where
     cases : (b : Bool) → (c.target.part == i) ≡ b → AllByRecursion P (calls_on i cs) → AllByRecursion P (cond b (call_of c ∷ calls_on i cs) (calls_on i cs))
     cases true e rest = (h.0 (eqb-true c.target.part i e), rest)
     cases false e rest = rest
-
-all_from : {A : Type 0} (P : A → Type 0) (xs : List A) → ((k : ℕ) (x : A) → slice_get xs k ≡ Some x → P x) → AllByRecursion P xs
-all_from P [] h = tt
-all_from P (x ∷ xs) h = (h zero x refl, all_from P xs (λ k y e. h (suc k) y e))
 
 ranks_on : (t : Table) (p : ℕ) (cs : List Called)
     → ((i j : ℕ) (c d : Called) → i < j → slice_get cs i ≡ Some c → slice_get cs j ≡ Some d → c.target.part ≡ p → d.target.part ≡ p → IsByRank t (call_of c) (call_of d))

@@ -1,13 +1,14 @@
 -- From the calls of the elements of a design to its scheme.
-use Rattle.std.proofs.Common.{◌≡◌, ◌∙◌, ℕ, ◌<◌, ◌^◌, ◌≤◌, ◌+◌, true, false, List, [], ◌∷◌, ◌++◌, map, length, get_or, take, add-one, Some, None, refl, sym, ap, subst, ◌⊎◌, inl, inr, arith, IsTrue, zero, suc, ltb-true, nat_lt}
-use Rattle.std.specs.Prelude.{slice_get, Option, option_map}
+use Rattle.std.proofs.Common.{◌≡◌, ◌∙◌, ℕ, ◌<◌, ◌^◌, ◌≤◌, ◌+◌, true, false, List, [], ◌∷◌, ◌++◌, map, length, take, add-one, Some, None, refl, sym, ap, subst, ◌⊎◌, inl, inr, arith, IsTrue, zero, suc, ltb-true, nat_lt}
+use Rattle.std.specs.Prelude.{slice_get, Option}
 use Rattle.std.specs.List.{list_all}
 use Rattle.std.proofs.Math.Logic.{∥∥₁_elim}
 use Rattle.std.proofs.Math.Bool.{Bool-set}
-use Rattle.std.proofs.lemmas.Option.{same_Some, slice_get-map, slice_get_read, slice_get_within, get_or_from_slice_get}
-use Rattle.std.proofs.lemmas.List.{map-append}
+use Rattle.std.proofs.lemmas.Option.{same_Some, slice_get_within, get_or_from_slice_get}
+use Rattle.std.proofs.lemmas.List.{map-append, take_all}
 use Rattle.std.proofs.Math.Seq.{take-suc}
 use Rattle.std.proofs.lemmas.Bool.{cases_order}
+use Rattle.bsv_lemmas.proofs.Places.{mapped_at as map_at}
 use Rattle.bsv_bits.specs.Words.{Bits}
 use Rattle.bsv_design.specs.declared.design.Design.{Design}
 use Rattle.bsv_design.specs.declared.element.Call.{Call}
@@ -36,9 +37,6 @@ calls_few d n e at =
     let few : nat_lt (length e.calls) (2 ^ 32) ≡ true = ∥∥₁_elim d.right (Bool-set _ _) (λ (right : IsDesign (blueprint d)). (right.elements n e at).calls) in
     ltb-true _ _ few
 
-pub element_in : (d : Design) (xs : List Element) (n : ℕ) (e : Element) → xs ≡ d.elements → n < length xs → e ≡ get_or xs n e → slice_get d.elements n ≡ Some e
-element_in d xs n e are within is = subst (λ ys. slice_get ys n ≡ Some e) are (slice_get_read xs _ n e refl within is)
-
 pub named_in : (d : Design) (n : ℕ) (e : Element) (ks : List Kind) (cs : List Call) → slice_get d.elements n ≡ Some e → ks ≡ kinds_of (blueprint d) → cs ≡ e.calls
     → IsTrue (list_all (call_named ks) cs)
 named_in d n e ks cs at kinds calls =
@@ -53,9 +51,6 @@ mapped_at : {A B : Type 0} (f : A → B) (xs : List A) (i : ℕ) (y : B) → sli
 mapped_at f [] i y h = absurd cc
 mapped_at f (x ∷ xs) zero y h = (x, refl, same_Some (f x) y h)
 mapped_at f (x ∷ xs) (suc i) y h = mapped_at f xs i y h
-
-map_at : {A B : Type 0} (f : A → B) (xs : List A) (i : ℕ) (x : A) → slice_get xs i ≡ Some x → slice_get (map f xs) i ≡ Some (f x)
-map_at f xs i x h = slice_get-map f xs i ∙ ap (option_map f) h
 
 -- ---- pairs of calls, and pairs of sites
 
@@ -164,14 +159,8 @@ needs_more ks es n e old new are at is =
     is ∙ (ap (λ xs. xs ++ needs_from ks 0 e.calls ∷ []) are
     ∙ sym (ap (needs_of ks) more ∙ map-append (λ (d : Element). needs_from ks 0 d.calls) (take n es) (e ∷ [])))
 
-past : (n : ℕ) (es : List Element) → length es ≤ n → take n es ≡ es
-past zero [] h = refl
-past zero (e ∷ es) h = absurd (omega arith)
-past (suc n) [] h = refl
-past (suc n) (e ∷ es) h = ap (λ xs. e ∷ xs) (past n es (omega arith))
-
 pub needs_whole : (ks : List Kind) (es : List Element) (n : ℕ) (needs : List (List Need)) → needs ≡ needs_of ks (take n es) → length es ≤ n → needs ≡ needs_of ks es
-needs_whole ks es n needs are h = are ∙ ap (needs_of ks) (past n es h)
+needs_whole ks es n needs are h = are ∙ ap (needs_of ks) (take_all n es h)
 
 ready_is : (b : Blueprint) (n : ℕ) (e : Element) (look : Look) (q : Asking) → slice_get b.elements n ≡ Some e
     → ready false (design_scheme b) q n look ≡ all_ready (kinds_of b) look (body_trace (kinds_of b) e (answers (kinds_of b) look) (given (design_scheme b) q n))

@@ -1,8 +1,9 @@
 -- A design of flat bodies is the scheme of its tree.
-use Rattle.std.proofs.Common.{◌≡◌, ◌∙◌, ℕ, zero, suc, ◌+◌, ◌<◌, ◌≤◌, ◌⊎◌, inl, inr, Bool, true, false, List, [], ◌∷◌, ◌++◌, map, length, Some, None, refl, sym, ap, arith, append_assoc, append-nil}
+use Rattle.std.proofs.Common.{◌≡◌, ◌∙◌, ℕ, suc, ◌+◌, ◌<◌, ◌≤◌, ◌⊎◌, inl, inr, Bool, true, false, List, [], ◌∷◌, ◌++◌, map, length, Some, None, refl, sym, ap, arith, append_assoc, append-nil}
 use Rattle.std.specs.Prelude.{slice_get, nat_lt, if◌then◌else◌}
 use Rattle.std.proofs.lemmas.Bool.{ltb-true, cases_lt}
 use Rattle.std.proofs.lemmas.Option.{slice_get_past}
+use Rattle.bsv_lemmas.proofs.Places.{item_there, mapped_at}
 use Rattle.bsv_bits.specs.Words.{Bits}
 use Rattle.bsv_design.specs.declared.element.Element.{Element}
 use Rattle.bsv_design.specs.declared.design.NamedPart.{NamedPart}
@@ -16,16 +17,6 @@ use Rattle.bsv_design.specs.Trees.{Hierarchy}
 use Rattle.bsv_inline.specs.Flattening.{kinds, IsFlat, AreFlat}
 use Rattle.bsv_inline.proofs.Flattened.{flat_at, targets_of}
 use Rattle.bsv_inline.proofs.StepUses.{targets_are_uses}
-
-has_at : {A : Type 0} (xs : List A) (n : ℕ) → n < length xs → (x : A) × (slice_get xs n ≡ Some x)
-has_at [] n l = absurd (omega (arith, l))
-has_at (x ∷ xs) zero l = (x, refl)
-has_at (x ∷ xs) (suc n) l = has_at xs n (omega (arith, l))
-
-get_map : {A B : Type 0} (f : A → B) (xs : List A) (n : ℕ) (x : A) → slice_get xs n ≡ Some x → slice_get (map f xs) n ≡ Some (f x)
-get_map f [] n x e = absurd cc
-get_map f (y ∷ xs) zero x e = let it : y ≡ x = cc in ap (λ z. Some (f z)) it
-get_map f (y ∷ xs) (suc n) x e = get_map f xs n x e
 
 outline_is : (h : Hierarchy) (n : ℕ) (e : Element) (f : IsFlat h n e) → outline e ≡ outline_of f.source
 outline_is h n e f =
@@ -75,12 +66,12 @@ module _ (h : Hierarchy) (b : Blueprint) (parts : b.parts ≡ parts_among h.inst
   uses_are : (n : ℕ) → uses_of h.instances (element_at h n) ≡ calls_of (slice_get b.elements n)
   uses_are n = by (cases_lt n (length b.elements)) where
     by : (n < length b.elements) ⊎ (length b.elements ≤ n) → uses_of h.instances (element_at h n) ≡ calls_of (slice_get b.elements n)
-    by (inl l) = let x = has_at b.elements n l in uses_at n x.0 x.1
+    by (inl l) = let x = item_there b.elements n l in uses_at n x.0 x.1
     by (inr l) = ap (uses_of h.instances) (none_past n l) ∙ ap calls_of (sym (slice_get_past b.elements n l))
 
   -- the arguments of an element
   ports_at : (n : ℕ) (e : Element) → slice_get b.elements n ≡ Some e → ports_of (slice_get (outlines_below h (element_count h)) n) ≡ e.arguments
-  ports_at n e is = ap (λ os. ports_of (slice_get os n)) elements_is ∙ ap ports_of (get_map outline b.elements n e is)
+  ports_at n e is = ap (λ os. ports_of (slice_get os n)) elements_is ∙ ap ports_of (mapped_at outline b.elements n e is)
 
   abbrev Same : ℕ → Answers → List Bits → Type 0
   Same n r ws = carried_trace h (element_at h n) r ws ≡ trace_of (kinds_of b) (slice_get b.elements n) r ws
@@ -97,7 +88,7 @@ module _ (h : Hierarchy) (b : Blueprint) (parts : b.parts ≡ parts_among h.inst
   traces_are : (n : ℕ) (r : Answers) (ws : List Bits) → length ws ≡ length (ports_of (slice_get (outlines_below h (element_count h)) n)) → Same n r ws
   traces_are n r ws many = by (cases_lt n (length b.elements)) where
     by : (n < length b.elements) ⊎ (length b.elements ≤ n) → Same n r ws
-    by (inl l) = let x = has_at b.elements n l in trace_at n x.0 x.1 r ws many
+    by (inl l) = let x = item_there b.elements n l in trace_at n x.0 x.1 r ws many
     by (inr l) =
         ap (λ o. carried_trace h o r ws) (none_past n l) ∙ ap (λ o. trace_of (kinds_of b) o r ws) (sym (slice_get_past b.elements n l))
 

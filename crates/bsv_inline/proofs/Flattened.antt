@@ -1,17 +1,17 @@
 -- Flat bodies, one by one.
-use Rattle.std.proofs.Common.{◌≡◌, ◌∙◌, ℕ, zero, suc, ◌+◌, List, [], ◌∷◌, ◌++◌, map, length, Some, refl, sym, ap, subst, arith}
+use Rattle.std.proofs.Common.{◌≡◌, ◌∙◌, ℕ, zero, suc, ◌+◌, List, [], ◌∷◌, ◌++◌, map, length, Some, sym, ap, subst, arith}
 use Rattle.std.specs.Prelude.{slice_get}
 use Rattle.bsv_bits.specs.Words.{Bits}
-use Rattle.bsv_design.specs.declared.element.Call.{Call}
 use Rattle.bsv_design.specs.declared.element.Element.{Element}
 use Rattle.bsv_design.specs.declared.kind.Kind.{Kind}
 use Rattle.bsv_design.specs.Bodies.{Answers, target, words}
 use Rattle.bsv_design.specs.Branches.{AreExclusive, AgreeOnTaken, AreSameWhereTaken}
-use Rattle.bsv_design.specs.Traces.{Site, Trace, body_trace, step_trace, site_at}
+use Rattle.bsv_design.specs.Traces.{Site, Trace, body_trace, step_trace}
 use Rattle.bsv_design.specs.Trees.{Hierarchy}
 use Rattle.bsv_inline.specs.Flattening.{kinds, IsFlat, AreFlat}
 use Rattle.bsv_inline.proofs.StepsExclusive.{are_exclusive}
 use Rattle.bsv_inline.proofs.StepsDecided.{taken_decide}
+use Rattle.bsv_design.proofs.Elements.{site_targets}
 
 pub flat_from : (h : Hierarchy) (es : List Element) (k : ℕ) → AreFlat h k es → (n : ℕ) (e : Element) → slice_get es n ≡ Some e → IsFlat h (k + n) e
 flat_from h [] k f n e is = absurd cc
@@ -59,10 +59,6 @@ module _ (h : Hierarchy) (n : ℕ) (e : Element) (f : IsFlat h n e) where
 
 -- ---- calls
 
-targets_from : (ks : List Kind) (vs : List Bits) (cs : List Call) → map (λ (s : Site). s.target) (map (site_at ks vs) cs) ≡ map target cs
-targets_from ks vs [] = refl
-targets_from ks vs (c ∷ cs) = ap (λ ts. target c ∷ ts) (targets_from ks vs cs)
-
 pub targets_of : (ks : List Kind) (e : Element) (r : Answers) (ws : List Bits) → map (λ (s : Site). s.target) (body_trace ks e r ws).sites ≡ map target e.calls
 unfolding body_trace
-targets_of ks e r ws = targets_from ks (words e r ws) e.calls
+targets_of ks e r ws = site_targets ks (words e r ws) e.calls

@@ -2,6 +2,7 @@
 use Rattle.std.proofs.Common.{◌≡◌, ◌∙◌, ℕ, suc, ◌<◌, ◌≤◌, Bool, true, false, List, [], ◌∷◌, map, length, Option, Some, None, Result, Ok, Err, refl, sym, ap, subst, if◌then◌else◌}
 use Rattle.std.specs.Prelude.{◌==◌, nat_lt, slice_get}
 use Rattle.std.proofs.lemmas.Bool.{eqb-true, ltb-true, ltb-false}
+use Rattle.std.proofs.lemmas.Option.{same_Some}
 use Rattle.bsv_types.specs.declared.modules.Method.{Method}
 use Rattle.bsv_types.specs.declared.modules.Rule.{Rule}
 use Rattle.bsv_design.specs.declared.element.Element.{Element}
@@ -20,9 +21,6 @@ use Rattle.bsv_design.specs.Traces.{with_dot}
 use Rattle.bsv_design.specs.Trees.{Hierarchy, IsTree, shapes}
 use Rattle.bsv_design.specs.Working.{Valued}
 use Rattle.bsv_inline.proofs.Outlined.{AreOutlined}
-
-pub some_is : {A : Type 0} (x y : A) → Some x ≡ Some y → x ≡ y
-some_is x y e = cc
 
 -- an element as it was carried out
 record Shows (e : Element) (s : Source) : Type 0 where
@@ -68,7 +66,7 @@ method_is : (h : Hierarchy) (b : Built) (n levels : ℕ) (m : Method) (x : Value
     → slice_get b.methods n ≡ Some levels → slice_get (top_methods h) n ≡ Some m → method_done (shapes h.typed) m x ≡ Some s → IsMethod h b n e
 method_is h b n levels m (Err f) e s shows has at done = absurd cc
 method_is h b n levels m (Ok x) e s shows has at done =
-    let is = sym (some_is _ s done) in
+    let is = sym (same_Some _ s done) in
     record {
       levels = levels;
       has = has;
@@ -100,7 +98,7 @@ among_more path b x xs n r a = record { path_is = a.path_is; built_is = a.built_
 among_first : (path : List ℕ) (b : Built) (x : BuiltRule) (xs : List BuiltRule) (n : ℕ) (r : Standing) → (x.position == n) ≡ true
     → Some (record { path = path; built = b; rule = x }) ≡ Some r → Among path b (x ∷ xs) n r
 among_first path b x xs n r same e =
-    let is = some_is _ r e in
+    let is = same_Some _ r e in
     record {
       path_is = sym (ap (λ (z : Standing). z.path) is);
       built_is = sym (ap (λ (z : Standing). z.built) is);
@@ -157,7 +155,7 @@ rule_is : (is : List Instance) (n : ℕ) (r : Standing) (x : Result Work Fault) 
     → rule_done r x ≡ Some s → IsRuleOf is n e
 rule_is is n r (Err f) e s shows at done = absurd cc
 rule_is is n r (Ok w) e s shows at done =
-    let is = sym (some_is _ s done) in
+    let is = sym (same_Some _ s done) in
     record {
       standing = r;
       at = at;

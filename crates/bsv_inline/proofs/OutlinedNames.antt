@@ -1,6 +1,8 @@
 -- Elements that stand for a tree have names of their own, methods stand before rules, and attributes name rules.
 use Rattle.std.proofs.Common.{◌≡◌, ◌∙◌, ℕ, zero, suc, ◌<◌, ◌≤◌, List, [], ◌∷◌, map, length, Some, refl, sym, ap, subst, arith}
 use Rattle.std.specs.Prelude.{IsTrue, slice_get}
+use Rattle.std.proofs.lemmas.Option.{same_Some}
+use Rattle.bsv_lemmas.proofs.Places.{item_there}
 use Rattle.bsv_ast.specs.Names.{is_lower}
 use Rattle.bsv_types.specs.declared.definitions.MethodResult.{MethodResult}
 use Rattle.bsv_types.specs.declared.definitions.MethodResult.TheVariants as result
@@ -27,7 +29,7 @@ use Rattle.bsv_design.specs.Designs.{IsDotted, IsNamed, IsRuleIn}
 use Rattle.bsv_design.specs.Sources.{role_of, port_of, Standing, top_methods, element_count}
 use Rattle.bsv_design.specs.Trees.{Hierarchy, IsTree, IsPath, IsRule, IsModuleAt, Agrees, AreNamed, PairsNameRules, AssertsNameRules, methods_of, shapes, world}
 use Rattle.bsv_inline.proofs.Outlined.{AreOutlined, KeepsNames}
-use Rattle.bsv_inline.proofs.OutlinedElements.{some_is, IsMethod, StandsAt, IsRuleOf, IsOf, a_method, a_rule, top_made, element_is}
+use Rattle.bsv_inline.proofs.OutlinedElements.{IsMethod, StandsAt, IsRuleOf, IsOf, a_method, a_rule, top_made, element_is}
 use Rattle.bsv_inline.proofs.OutlinedParts.{part_paths, parts_alone}
 use Rattle.bsv_design.proofs.Dotted.{dotted_in, told_apart, top_path}
 use Rattle.bsv_inline.proofs.OutlinedTyped.{IsWanted, is_wanted, wanted_places, methods_distinct, module_lower}
@@ -50,11 +52,6 @@ port_names ps = map (λ p. p.name) ps
 ports_named : (s : Shapes) (ps : List Param) → port_names (map (port_of s) ps) ≡ param_names ps
 ports_named s [] = refl
 ports_named s (p ∷ ps) = ap (λ (names : List (List ℕ)). p.name ∷ names) (ports_named s ps)
-
-there : {A : Type 0} (xs : List A) (k : ℕ) → k < length xs → (x : A) × (slice_get xs k ≡ Some x)
-there [] k within = absurd (omega arith)
-there (x ∷ xs) zero within = (x, refl)
-there (x ∷ xs) (suc k) within = there xs k (omega arith)
 
 module _ (h : Hierarchy) (t : IsTree h) where
   -- ---- the methods of the top
@@ -127,7 +124,7 @@ module _ (h : Hierarchy) (t : IsTree h) where
       → i.made ≡ made.Module built → i.path ≡ r.path → (m ≡ a.number) × (built ≡ r.built)
   one_built m n r built i a at made_is path_is =
       let number = t.apart m a.number i a.instance at a.at (path_is ∙ a.path_is) in
-      let one = some_is i a.instance (sym at ∙ ap (slice_get h.instances) number ∙ a.at) in
+      let one = same_Some i a.instance (sym at ∙ ap (slice_get h.instances) number ∙ a.at) in
       let made_same : made.Module built ≡ made.Module r.built = sym made_is ∙ ap (λ (z : Instance). z.made) one ∙ a.made_is in
       (number, cc)
 
@@ -155,7 +152,7 @@ module _ (h : Hierarchy) (t : IsTree h) where
       let has = ap (λ (z : Built). slice_get z.rules g.place) one.1 ∙ g.has in
       let names = rules_named m r f in
       let place = names.rules f.place g.place r.rule s.rule f.has has told.1 in
-      let rule = some_is r.rule s.rule (sym f.has ∙ ap (slice_get r.built.rules) place ∙ has) in
+      let rule = same_Some r.rule s.rule (sym f.has ∙ ap (slice_get r.built.rules) place ∙ has) in
       sym f.position ∙ ap (λ (z : BuiltRule). z.position) rule ∙ g.position
 
   apart_of : (m n : ℕ) (d e : Element) → IsOf h t.built m d → IsOf h t.built n e → d.name ≡ e.name → m ≡ n
@@ -184,18 +181,18 @@ module _ (h : Hierarchy) (t : IsTree h) where
         subst (λ (k : ℕ). n < k) (sym o.as_many) within
 
     rule_in : (n : ℕ) → IsRule h.instances n → IsRuleIn es n
-    rule_in n r = let e = there es n (within_all n r) in rule_from n e.0 e.1 (behind_all n r) (at n e.0 e.1)
+    rule_in n r = let e = item_there es n (within_all n r) in rule_from n e.0 e.1 (behind_all n r) (at n e.0 e.1)
 
     pairs_in : (ps : List Pair) → PairsNameRules h.instances ps → (k : ℕ) (p : Pair) → slice_get ps k ≡ Some p
         → IsRuleIn es p.before × IsRuleIn es p.after
     pairs_in [] rules k p e = absurd cc
     pairs_in (x ∷ ps) rules zero p e =
-        subst (λ (z : Pair). IsRuleIn es z.before × IsRuleIn es z.after) (some_is x p e) (rule_in x.before rules.0, rule_in x.after rules.1)
+        subst (λ (z : Pair). IsRuleIn es z.before × IsRuleIn es z.after) (same_Some x p e) (rule_in x.before rules.0, rule_in x.after rules.1)
     pairs_in (x ∷ ps) rules (suc k) p e = pairs_in ps rules.2 k p e
 
     asserts_in : (xs : List Assert) → AssertsNameRules h.instances xs → (k : ℕ) (a : Assert) → slice_get xs k ≡ Some a → IsRuleIn es a.rule
     asserts_in [] rules k a e = absurd cc
-    asserts_in (x ∷ xs) rules zero a e = subst (λ (z : Assert). IsRuleIn es z.rule) (some_is x a e) (rule_in x.rule rules.0)
+    asserts_in (x ∷ xs) rules zero a e = subst (λ (z : Assert). IsRuleIn es z.rule) (same_Some x a e) (rule_in x.rule rules.0)
     asserts_in (x ∷ xs) rules (suc k) a e = asserts_in xs rules.1 k a e
 
     kept : KeepsNames h es

@@ -1,6 +1,7 @@
 -- The primitives of a tree have paths of their own, and none has the top's.
 use Rattle.std.proofs.Common.{◌≡◌, ◌∙◌, ℕ, zero, suc, ◌+◌, List, [], ◌∷◌, ◌++◌, Some, refl, sym, ap, subst, arith}
 use Rattle.std.specs.Prelude.{slice_get}
+use Rattle.std.proofs.lemmas.Option.{same_Some}
 use Rattle.bsv_types.specs.declared.types.PartTy.{PartTy}
 use Rattle.bsv_design.specs.declared.design.NamedPart.{NamedPart}
 use Rattle.bsv_design.specs.declared.kind.Kind.{Kind}
@@ -11,7 +12,6 @@ use Rattle.bsv_design.specs.Designs.{IsDotted}
 use Rattle.bsv_design.specs.Sources.{part_made, parts_among}
 use Rattle.bsv_design.specs.Traces.{one_if, is_part, parts_before}
 use Rattle.bsv_design.specs.Trees.{Hierarchy, IsTree}
-use Rattle.bsv_inline.proofs.OutlinedElements.{some_is}
 use Rattle.bsv_design.proofs.Dotted.{dotted_path}
 
 -- the instance of a part
@@ -60,7 +60,7 @@ part_is (i ∷ is) n p e = by i.made refl n e (part_is is) where
       subst (λ (k : ℕ). IsPartOf (i ∷ is) k p) step (later i is n p (more n p e)) where
         zero_more : (n : ℕ) → 0 + n ≡ n
         zero_more n = omega arith
-  by (made.Primitive part kind) same zero e more = first i is p part kind same (some_is _ p e)
+  by (made.Primitive part kind) same zero e more = first i is p part kind same (same_Some _ p e)
   by (made.Primitive part kind) same (suc n) e more =
       let step : one_if (is_part i.made) + n ≡ suc n = ap (λ (x : Made). one_if (is_part x) + n) same ∙ one_more n in
       subst (λ (k : ℕ). IsPartOf (i ∷ is) k p) step (later i is n p (more n p e)) where
@@ -72,7 +72,7 @@ module _ (h : Hierarchy) (t : IsTree h) where
   below_top : (k : ℕ) (i : Instance) (part : PartTy) (kind : Kind) → slice_get h.instances k ≡ Some i → i.made ≡ made.Primitive part kind → i.path ≡ [] → ⊥
   below_top k i part kind at made_is path_is =
       let number = t.apart k 0 i (record { path = []; made = made.Module t.built }) at t.top.first path_is in
-      let one = some_is i (record { path = []; made = made.Module t.built }) (sym at ∙ ap (slice_get h.instances) number ∙ t.top.first) in
+      let one = same_Some i (record { path = []; made = made.Module t.built }) (sym at ∙ ap (slice_get h.instances) number ∙ t.top.first) in
       let made_same : made.Primitive part kind ≡ made.Module t.built = sym made_is ∙ ap (λ (z : Instance). z.made) one in
       cc
 

@@ -1,11 +1,13 @@
 -- The names of a typed program: those of modules and of methods are Lower, and no two methods of one interface share one.
-use Rattle.std.proofs.Common.{◌≡◌, ◌∙◌, ℕ, zero, suc, Bool, true, false, ◌&&◌, List, [], ◌∷◌, map, Option, Some, None, option_map, refl, sym, ap, subst}
+use Rattle.std.proofs.Common.{◌≡◌, ◌∙◌, ℕ, Bool, true, false, ◌&&◌, List, [], ◌∷◌, map, Option, Some, None, option_map, refl, sym, ap}
 use Rattle.std.specs.Prelude.{slice_get}
-use Rattle.std.specs.List.{list_all, list_any}
+use Rattle.std.specs.List.{list_all}
 use Rattle.std.specs.Str.{bytes_eq}
-use Rattle.std.proofs.lemmas.Bool.{and_parts, or_parts, not-true, both_ways}
+use Rattle.std.proofs.lemmas.Bool.{and_parts}
 use Rattle.std.proofs.lemmas.Option.{slice_get-map}
 use Rattle.std.proofs.lemmas.Slice.Eq.{bytes_eq-Decides}
+use Rattle.bsv_lemmas.proofs.Truths.{both_right}
+use Rattle.bsv_lemmas.proofs.Places.{passes_at}
 use Rattle.bsv_ast.specs.Names.{is_lower}
 use Rattle.bsv_types.specs.declared.definitions.Interface.{Interface}
 use Rattle.bsv_types.specs.declared.definitions.MethodHeader.{MethodHeader}
@@ -21,12 +23,9 @@ use Rattle.bsv_types.specs.Modules.{header, param_names, method_right, module_ri
 use Rattle.bsv_types.specs.Names.{distinct, lower_names}
 use Rattle.bsv_types.specs.Programs.{each_at, all_countable, names_right, enum_right, struct_right, begins_empty, function_right, interface_right, shapes_right}
 use Rattle.bsv_design.specs.Trees.{shapes, world}
-use Rattle.bsv_inline.proofs.OutlinedElements.{some_is}
+use Rattle.bsv_types.proofs.Distinct.{distinct_places}
 
 -- ---- tests that all hold
-
-last : (a b : Bool) → (a && b) ≡ true → b ≡ true
-last a b e = (and_parts a b e).1
 
 third : (a b c d e : Bool) → (a && b && c && d && e) ≡ true → c ≡ true
 third true true c d e h = (and_parts c d (and_parts (c && d) e h).0).0
@@ -53,30 +52,7 @@ three_of_seven true true false d e f g h = absurd cc
 three_of_seven true false c d e f g h = absurd cc
 three_of_seven false b c d e f g h = absurd cc
 
-each_is : {A : Type 0} (p : A → Bool) (xs : List A) (k : ℕ) (x : A) → list_all p xs ≡ true → slice_get xs k ≡ Some x → p x ≡ true
-each_is p [] k x all is = absurd cc
-each_is p (y ∷ ys) zero x all is = subst (λ z. p z ≡ true) (some_is y x is) (and_parts (p y) (list_all p ys) all).0
-each_is p (y ∷ ys) (suc k) x all is = each_is p ys k x (and_parts (p y) (list_all p ys) all).1 is
-
 -- ---- names that are all distinct
-
-not_among : (x : List ℕ) (xs : List (List ℕ)) (k : ℕ) → list_any (bytes_eq x) xs ≡ false → slice_get xs k ≡ Some x → ⊥
-not_among x [] k none is = absurd cc
-not_among x (y ∷ ys) zero none is =
-    both_ways (bytes_eq x y) (or_parts (bytes_eq x y) (list_any (bytes_eq x) ys) none).0 ((bytes_eq-Decides x y).1 (sym (some_is y x is)))
-not_among x (y ∷ ys) (suc k) none is = not_among x ys k (or_parts (bytes_eq x y) (list_any (bytes_eq x) ys) none).1 is
-
-pub distinct_places : (xs : List (List ℕ)) (i j : ℕ) (x : List ℕ) → distinct xs ≡ true → slice_get xs i ≡ Some x → slice_get xs j ≡ Some x → i ≡ j
-distinct_places [] i j x h f g = absurd cc
-distinct_places (y ∷ ys) zero zero x h f g = refl
-distinct_places (y ∷ ys) zero (suc j) x h f g =
-    let p = and_parts _ (distinct ys) h in
-    absurd (not_among y ys j (not-true (list_any (bytes_eq y) ys) p.0) (g ∙ sym f))
-distinct_places (y ∷ ys) (suc i) zero x h f g =
-    let p = and_parts _ (distinct ys) h in
-    absurd (not_among y ys i (not-true (list_any (bytes_eq y) ys) p.0) (f ∙ sym g))
-distinct_places (y ∷ ys) (suc i) (suc j) x h f g =
-    ap (λ (k : ℕ). suc k) (distinct_places ys i j x (and_parts _ (distinct ys) h).1 f g)
 
 -- ---- a method as its interface wants it
 
@@ -122,7 +98,7 @@ module _ (t : Typed) where
   pub module_lower : (k : ℕ) (m : Module) → slice_get t.modules k ≡ Some m → is_lower m.name ≡ true
   module_lower k m at =
       first_of_ten (is_lower m.name) _ _ _ _ _ _ _ _ _
-      (each_is (module_right (world t) (map header t.modules)) t.modules k m (last _ (list_all (module_right (world t) (map header t.modules)) t.modules) t.right) at)
+      (passes_at (module_right (world t) (map header t.modules)) t.modules k m (both_right _ (list_all (module_right (world t) (map header t.modules)) t.modules) t.right) at)
 
   shapes_are_right : shapes_right (shapes t) ≡ true
   shapes_are_right =
@@ -138,7 +114,7 @@ module _ (t : Typed) where
   interface_distinct : (k : ℕ) (i : Interface) → slice_get t.interfaces k ≡ Some i → distinct (map (λ (h : MethodHeader). h.name) i.methods) ≡ true
   interface_distinct k i at =
       second_of_four _ (distinct (map (λ (h : MethodHeader). h.name) i.methods)) _ _
-      (each_is (interface_right (shapes t)) t.interfaces k i interfaces_are_right at)
+      (passes_at (interface_right (shapes t)) t.interfaces k i interfaces_are_right at)
 
   of_interface : (k : ℕ) (o : Option Interface) → slice_get t.interfaces k ≡ o → AreDistinct (methods_of o)
   of_interface k None at = refl

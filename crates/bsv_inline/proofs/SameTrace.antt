@@ -1,9 +1,11 @@
 -- A flat body and the element that it is in a design have one trace.
 use Rattle.std.proofs.Common.{◌≡◌, ◌∙◌, ℕ, Bool, true, false, List, [], ◌∷◌, ◌++◌, length, map, Option, Some, None, refl, ap, ap₂}
 use Rattle.std.specs.Bool.{beq}
-use Rattle.std.specs.Prelude.{nat_lt, slice_get, option_map, IsTrue, ◌&&◌}
+use Rattle.std.specs.Prelude.{nat_lt, slice_get, option_map, IsTrue}
 use Rattle.std.specs.List.{list_all}
 use Rattle.std.proofs.lemmas.Option.{slice_get-map}
+use Rattle.std.proofs.lemmas.Bool.{and_from}
+use Rattle.bsv_lemmas.proofs.Truths.{both_right, both_left}
 use Rattle.bsv_bits.specs.Words.{Bits, bit}
 use Rattle.bsv_types.specs.declared.modules.Module.{Module}
 use Rattle.bsv_design.specs.declared.element.Call.{Call as PartCall}
@@ -105,26 +107,14 @@ same_bool false false h = refl
 same_bool true false h = absurd cc
 same_bool false true h = absurd cc
 
-first_of_both : (x y : Bool) → IsTrue (x && y) → IsTrue x
-first_of_both true y h = refl
-first_of_both false y h = absurd cc
-
-second_of_both : (x y : Bool) → IsTrue (x && y) → IsTrue y
-second_of_both true y h = h
-second_of_both false y h = absurd cc
-
-both_of : (x y : Bool) → IsTrue x → IsTrue y → IsTrue (x && y)
-both_of true y h k = k
-both_of false y h k = absurd cc
-
 -- calls that fit act where their methods do
 pub acts_where_fits : (ks : List Kind) (is : List Instance) (cs : List Call) → IsTrue (list_all (call_fits ks is) cs) → IsTrue (list_all (acts_rightly ks is) cs)
 acts_where_fits ks is [] h = refl
 acts_where_fits ks is (c ∷ cs) h =
-    both_of _ _ (of_kind (kind_at ks (target_of is c.method)) c (first_of_both _ _ h)) (acts_where_fits ks is cs (second_of_both (call_fits ks is c) _ h)) where
+    and_from _ _ (of_kind (kind_at ks (target_of is c.method)) c (both_left _ _ h)) (acts_where_fits ks is cs (both_right (call_fits ks is c) _ h)) where
       of_kind : (o : Option Kind) (x : Call) → IsTrue (kind_fits o x) → IsTrue (beq (acts o x.method.method) x.action)
       of_kind None x h = absurd cc
-      of_kind (Some k) x h = second_of_both (nat_lt x.method.method (kind_table k).methods) _ h
+      of_kind (Some k) x h = both_right (nat_lt x.method.method (kind_table k).methods) _ h
 
 module _ (ms : List Module) (is : List Instance) (ks : List Kind) (vs : List Bits) where
   site_same : (c : Call) (s : SiteCall) → IsSite vs c s → IsTrue (acts_rightly ks is c) → site_at ks vs (placed_call is c) ≡ site_of is s
@@ -143,7 +133,7 @@ module _ (ms : List Module) (is : List Instance) (ks : List Kind) (vs : List Bit
       → map (site_at ks vs) (map (placed_call is) cs) ≡ map (site_of is) ss
   sites_same [] [] h right = refl
   sites_same (c ∷ cs) (s ∷ ss) h right =
-      ap₂ (λ (x : Site) (xs : List Site). x ∷ xs) (site_same c s h.0 (first_of_both _ _ right)) (sites_same cs ss h.1 (second_of_both (acts_rightly ks is c) _ right))
+      ap₂ (λ (x : Site) (xs : List Site). x ∷ xs) (site_same c s h.0 (both_left _ _ right)) (sites_same cs ss h.1 (both_right (acts_rightly ks is c) _ right))
   sites_same [] (s ∷ ss) h right = absurd h
   sites_same (c ∷ cs) [] h right = absurd h
 

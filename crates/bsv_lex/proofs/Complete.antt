@@ -1,9 +1,10 @@
 -- What stands at a place is what is read there.
-use Rattle.std.proofs.Common.{◌≡◌, ℕ, ◌+◌, Bool, true, false, eqb, ◌&&◌, ◌||◌, List, [], ◌∷◌, ◌++◌, length, take, drop, Some, None, refl, sym, ap, ◌∙◌, append_assoc, arith, length-append}
+use Rattle.std.proofs.Common.{◌≡◌, ℕ, ◌+◌, Bool, true, false, eqb, ◌&&◌, List, [], ◌∷◌, ◌++◌, length, take, drop, Some, None, refl, sym, ap, ◌∙◌, append_assoc, arith, length-append}
 use Rattle.std.specs.List.{prefix_len, list_all}
 use Rattle.std.specs.Char.{is_ascii_digit}
 use Rattle.std.proofs.lemmas.List.{drop_at, take_at}
 use Rattle.std.proofs.lemmas.Bool.Decides.{nat_tests}
+use Rattle.std.proofs.lemmas.Bool.{and_parts, false_from_ne_true, or_parts}
 use Rattle.bsv_ast.specs.declared.text.Base.{Base}
 use Rattle.bsv_lex.specs.declared.token.TokenKind.TheVariants as kind
 use Rattle.bsv_lex.specs.declared.piece.Flaw.TheVariants as flaw
@@ -16,24 +17,12 @@ use Rattle.bsv_lex.specs.Reading.{name_at, base_len, number_len, number_at, text
 use Rattle.bsv_lex.specs.Tokens as t
 use Rattle.bsv_lex.specs.Tokens.{Run, is_size, IsSize, IsNumber, has_close, is_pair, begins_symbol, begins_comment, begins, Stands}
 
-pub both : (v w : Bool) → (v && w) ≡ true → (v ≡ true) × (w ≡ true)
-both true w e = (refl, e)
-both false w e = absurd cc
-
-pub neither : (v w : Bool) → (v || w) ≡ false → (v ≡ false) × (w ≡ false)
-neither true w e = absurd cc
-neither false w e = (refl, e)
-
-pub is_false : (v : Bool) → (v ≡ true → ⊥) → v ≡ false
-is_false true h = absurd (h refl)
-is_false false h = refl
-
 -- a run is all that is counted
 pub prefix_at : (p : ℕ → Bool) (front rest : List ℕ) → list_all p front ≡ true → first_is p rest ≡ false → prefix_len p (front ++ rest) ≡ length front
 prefix_at p [] [] each stops = refl
 prefix_at p [] (b ∷ rest) each stops = rw stops refl
 prefix_at p (a ∷ front) rest each stops =
-    let parts = both (p a) (list_all p front) each in
+    let parts = and_parts (p a) (list_all p front) each in
     rw (parts.0) (omega (arith, prefix_at p front rest parts.1 stops))
 
 -- ---- the branches of the reading function
@@ -41,7 +30,7 @@ prefix_at p (a ∷ front) rest each stops =
 name_branch : (b : ℕ) (bytes : List ℕ) → begins_name b ≡ true → piece_at (b ∷ bytes) ≡ Some (name_at (b ∷ bytes))
 unfolding piece_at
 name_branch b bytes is =
-    let blank : is_blank b ≡ false = is_false (is_blank b) (λ e. grind (arith, nat_tests)) in
+    let blank : is_blank b ≡ false = false_from_ne_true (is_blank b) (λ e. grind (arith, nat_tests)) in
     rw (blank, is) refl
 
 number_branch : (b : ℕ) (bytes : List ℕ) → is_blank b ≡ false → begins_name b ≡ false → eqb b 34 ≡ false → eqb b 47 ≡ false → begins_number (b ∷ bytes) ≡ true → piece_at (b ∷ bytes) ≡ Some (number_at (b ∷ bytes))
@@ -69,7 +58,7 @@ first_same (a ∷ inner) more rest = refl
 close_complete : (at : ℕ) (inner rest : List ℕ) → has_close (inner ++ 42 ∷ []) ≡ false → close_from at (inner ++ 42 ∷ 47 ∷ rest) ≡ Some (at + (length inner + 2))
 close_complete at [] rest none = refl
 close_complete at (a ∷ inner) rest none =
-    let parts = neither (eqb a 42 && first_is is_slash (inner ++ 42 ∷ [])) (has_close (inner ++ 42 ∷ [])) none in
+    let parts = or_parts (eqb a 42 && first_is is_slash (inner ++ 42 ∷ [])) (has_close (inner ++ 42 ∷ [])) none in
     let here : (eqb a 42 && first_is is_slash (inner ++ 42 ∷ 47 ∷ rest)) ≡ false = ap (λ v. eqb a 42 && v) (first_same inner (47 ∷ rest) []) ∙ parts.0 in
     let len : at + 1 + (length inner + 2) ≡ at + (length (a ∷ inner) + 2) = omega arith in
     rw here (close_complete (at + 1) inner rest parts.1 ∙ ap Some len)
@@ -77,7 +66,7 @@ close_complete at (a ∷ inner) rest none =
 never_complete : (at : ℕ) (inner : List ℕ) → has_close inner ≡ false → close_from at inner ≡ None
 never_complete at [] none = refl
 never_complete at (a ∷ inner) none =
-    let parts = neither (eqb a 42 && first_is is_slash inner) (has_close inner) none in
+    let parts = or_parts (eqb a 42 && first_is is_slash inner) (has_close inner) none in
     rw (parts.0) (never_complete (at + 1) inner parts.1)
 
 pub comment_complete : (inner rest : List ℕ) → has_close (inner ++ 42 ∷ []) ≡ false → piece_at (47 ∷ 42 ∷ inner ++ 42 ∷ 47 ∷ rest) ≡ Some (piece.Gap, 2 + (length inner + 2))
@@ -123,7 +112,7 @@ open_text_complete inner rest run none =
 
 -- what a digit is not
 pub digit_else : (d : ℕ) → is_ascii_digit d ≡ true → (is_blank d ≡ false) × (begins_name d ≡ false) × (eqb d 34 ≡ false) × (eqb d 47 ≡ false)
-digit_else d is = (is_false (is_blank d) (λ e. grind (arith, nat_tests)), is_false (begins_name d) (λ e. grind (arith, nat_tests)), is_false (eqb d 34) (λ e. grind (arith, nat_tests)), is_false (eqb d 47) (λ e. grind (arith, nat_tests)))
+digit_else d is = (false_from_ne_true (is_blank d) (λ e. grind (arith, nat_tests)), false_from_ne_true (begins_name d) (λ e. grind (arith, nat_tests)), false_from_ne_true (eqb d 34) (λ e. grind (arith, nat_tests)), false_from_ne_true (eqb d 47) (λ e. grind (arith, nat_tests)))
 
 digit_branch : (d : ℕ) (bytes : List ℕ) → is_ascii_digit d ≡ true → piece_at (d ∷ bytes) ≡ Some (number_at (d ∷ bytes))
 digit_branch d bytes is =

@@ -9,13 +9,13 @@ use Rattle.bsv_lex.specs.declared.piece.Piece.{Piece}
 use Rattle.bsv_lex.specs.declared.piece.Piece.TheVariants as piece
 use Rattle.bsv_lex.specs.Reading.{piece_at}
 use Rattle.bsv_lex.specs.Tokens as t
-use Rattle.std.proofs.lemmas.Bool.{eqb-true}
+use Rattle.std.proofs.lemmas.Bool.{eqb-true, and_parts}
 use Rattle.bsv_ast.specs.Names.{begins_name, is_word}
 use Rattle.bsv_lex.specs.Bytes.{is_blank, is_decimal, in_line, in_text, first_is}
 use Rattle.bsv_lex.specs.Numbers.{base_of, continues}
 use Rattle.bsv_lex.specs.Tokens.{base_at, is_quote, is_slash, is_symbol, begins_number}
 use Rattle.bsv_lex.specs.Tokens.{Run, IsSize, IsNumber, has_close, is_pair, begins_comment, begins, Stands}
-use Rattle.bsv_lex.proofs.Complete.{blank_complete, line_complete, comment_complete, open_complete, name_complete, number_complete, text_complete, open_text_complete, both}
+use Rattle.bsv_lex.proofs.Complete.{blank_complete, line_complete, comment_complete, open_complete, name_complete, number_complete, text_complete, open_text_complete}
 use Rattle.bsv_lex.proofs.Symbols.{pair_complete, single_complete, bad_complete, slash_begins, is_nothing}
 
 two_more : (inner : List ℕ) → 2 + length inner ≡ length (47 ∷ 47 ∷ inner)
@@ -87,9 +87,9 @@ star_first a [] rest = refl
 star_first a (b ∷ inner) rest = refl
 
 closing_here : (a : ℕ) (bytes : List ℕ) → (eqb a 42 && first_is is_slash bytes) ≡ true → Closing (a ∷ bytes)
-closing_here a [] is = absurd (let e = both (eqb a 42) false is in cc)
+closing_here a [] is = absurd (let e = and_parts (eqb a 42) false is in cc)
 closing_here a (b ∷ bytes) is =
-    let e = both (eqb a 42) (eqb b 47) is in
+    let e = and_parts (eqb a 42) (eqb b 47) is in
     let star : a ≡ 42 = eqb-true a 42 e.0 in
     let slash : b ≡ 47 = eqb-true b 47 e.1 in
     closed [] bytes (ap (λ (x : ℕ). x ∷ b ∷ bytes) star ∙ ap (λ (x : ℕ). 42 ∷ x ∷ bytes) slash) refl

@@ -4,7 +4,7 @@ use Rattle.std.specs.List.{list_all}
 use Rattle.std.specs.Char.{is_ascii_digit}
 use Rattle.std.specs.Str.{bytes_eq}
 use Rattle.std.proofs.lemmas.Slice.Eq.{bytes_eq-Decides}
-use Rattle.std.proofs.lemmas.Bool.{eqb-true}
+use Rattle.std.proofs.lemmas.Bool.{eqb-true, and_parts, or_parts, not-true}
 use Rattle.bsv_lex.specs.declared.token.TokenKind.TheVariants as kind
 use Rattle.bsv_lex.specs.declared.piece.Flaw.TheVariants as flaw
 use Rattle.bsv_lex.specs.declared.piece.Piece.TheVariants as piece
@@ -14,7 +14,7 @@ use Rattle.bsv_lex.specs.Words.{Entry, lookup, symbol, symbols}
 use Rattle.bsv_lex.specs.Tokens.{base_at, is_quote, is_symbol, begins_number}
 use Rattle.bsv_lex.specs.Reading.{slash_at, symbol_at, piece_at}
 use Rattle.bsv_lex.specs.Tokens.{is_pair, begins_symbol, begins_comment, begins}
-use Rattle.bsv_lex.proofs.Complete.{both, neither, symbol_branch}
+use Rattle.bsv_lex.proofs.Complete.{symbol_branch}
 
 -- a byte that begins neither a blank, a name, a number, a text nor a comment
 is_mark : ℕ → Bool
@@ -30,7 +30,7 @@ found_first p entry entries text false is here more found = more found
 lookup_first : (p : ℕ → Bool) (table : List Entry) (text : List ℕ) → list_all (λ entry. first_is p entry.0) table ≡ true → is_some (lookup table text) ≡ true → first_is p text ≡ true
 lookup_first p [] text each found = absurd cc
 lookup_first p (entry ∷ entries) text each found =
-    let parts = both (first_is p entry.0) (list_all (λ e. first_is p e.0) entries) each in
+    let parts = and_parts (first_is p entry.0) (list_all (λ e. first_is p e.0) entries) each in
     found_first p entry entries text (bytes_eq entry.0 text) refl parts.0 (lookup_first p entries text parts.1) found
 
 marks : list_all (λ entry. first_is is_mark entry.0) symbols ≡ true
@@ -50,18 +50,14 @@ record Mark (b : ℕ) : Type 0 where
   base : eqb b 39 ≡ false
   slash : eqb b 47 ≡ false
 
-not_false : (v : Bool) → not v ≡ true → v ≡ false
-not_false true e = absurd cc
-not_false false e = refl
-
 mark_is : (b : ℕ) → is_mark b ≡ true → Mark b
 unfolding is_mark
 mark_is b is =
-    let e5 = neither (is_blank b || begins_name b || is_ascii_digit b || eqb b 34 || eqb b 39) (eqb b 47) (not_false _ is) in
-    let e4 = neither (is_blank b || begins_name b || is_ascii_digit b || eqb b 34) (eqb b 39) e5.0 in
-    let e3 = neither (is_blank b || begins_name b || is_ascii_digit b) (eqb b 34) e4.0 in
-    let e2 = neither (is_blank b || begins_name b) (is_ascii_digit b) e3.0 in
-    let e1 = neither (is_blank b) (begins_name b) e2.0 in
+    let e5 = or_parts (is_blank b || begins_name b || is_ascii_digit b || eqb b 34 || eqb b 39) (eqb b 47) (not-true _ is) in
+    let e4 = or_parts (is_blank b || begins_name b || is_ascii_digit b || eqb b 34) (eqb b 39) e5.0 in
+    let e3 = or_parts (is_blank b || begins_name b || is_ascii_digit b) (eqb b 34) e4.0 in
+    let e2 = or_parts (is_blank b || begins_name b) (is_ascii_digit b) e3.0 in
+    let e1 = or_parts (is_blank b) (begins_name b) e2.0 in
     record { blank = e1.0; name = e1.1; digit = e2.1; text = e3.1; base = e4.1; slash = e5.1 }
 
 no_base : (b : ℕ) (rest : List ℕ) → eqb b 39 ≡ false → base_at (b ∷ rest) ≡ None
@@ -96,12 +92,12 @@ pub record Nothing (b : ℕ) (rest : List ℕ) : Type 0 where
 
 pub nothing_is : (b : ℕ) (rest : List ℕ) → begins (b ∷ rest) ≡ false → Nothing b rest
 nothing_is b rest is =
-    let e5 = neither (is_blank b || begins_name b || is_quote b || begins_comment (b ∷ rest) || begins_number (b ∷ rest)) (begins_symbol (b ∷ rest)) is in
-    let e4 = neither (is_blank b || begins_name b || is_quote b || begins_comment (b ∷ rest)) (begins_number (b ∷ rest)) e5.0 in
-    let e3 = neither (is_blank b || begins_name b || is_quote b) (begins_comment (b ∷ rest)) e4.0 in
-    let e2 = neither (is_blank b || begins_name b) (is_quote b) e3.0 in
-    let e1 = neither (is_blank b) (begins_name b) e2.0 in
-    let s = neither (is_pair b rest) (is_symbol (b ∷ [])) e5.1 in
+    let e5 = or_parts (is_blank b || begins_name b || is_quote b || begins_comment (b ∷ rest) || begins_number (b ∷ rest)) (begins_symbol (b ∷ rest)) is in
+    let e4 = or_parts (is_blank b || begins_name b || is_quote b || begins_comment (b ∷ rest)) (begins_number (b ∷ rest)) e5.0 in
+    let e3 = or_parts (is_blank b || begins_name b || is_quote b) (begins_comment (b ∷ rest)) e4.0 in
+    let e2 = or_parts (is_blank b || begins_name b) (is_quote b) e3.0 in
+    let e1 = or_parts (is_blank b) (begins_name b) e2.0 in
+    let s = or_parts (is_pair b rest) (is_symbol (b ∷ [])) e5.1 in
     record { blank = e1.0; name = e1.1; text = e2.1; comment = e3.1; number = e4.1; pair = s.0; single = s.1 }
 
 pub is_nothing : (b : ℕ) (rest : List ℕ) → Nothing b rest → begins (b ∷ rest) ≡ false
@@ -111,7 +107,7 @@ slash_bad : (rest : List ℕ) → begins_comment (47 ∷ rest) ≡ false → sla
 unfolding slash_at
 slash_bad [] none = refl
 slash_bad (b ∷ rest) none =
-    let parts = neither (eqb b 47) (eqb b 42) none in
+    let parts = or_parts (eqb b 47) (eqb b 42) none in
     rw (parts.0, parts.1) refl
 
 slash_piece : (rest : List ℕ) → piece_at (47 ∷ rest) ≡ Some (slash_at rest)

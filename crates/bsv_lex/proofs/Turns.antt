@@ -1,13 +1,8 @@
 -- One turn of the loop over the pieces, and its end.
-use Rattle.std.proofs.Common.{◌≡◌, ℕ, suc, ◌+◌, ◌-◌, ◌<◌, ◌≤◌, drop, List, Ok, ap, arith}
+use Rattle.std.proofs.Common.{◌≡◌, ℕ, ◌+◌, ◌-◌, ◌<◌, ◌≤◌, drop, List, Ok}
+use Rattle.bsv_lemmas.proofs.Turns.{one_more, no_more}
 use Rattle.bsv_lex.specs.declared.token.Token.{Token}
 use Rattle.bsv_lex.specs.Reading.{piece_at, on_piece, and_then, with_piece, tokens_from}
-
-one_more : {X : Type 0} (f : ℕ → X) (n at : ℕ) → at < n → f (n - at) ≡ f (suc (n - (at + 1)))
-one_more f n at below = let turn : n - at ≡ suc (n - (at + 1)) = omega arith in ap f turn
-
-no_more : {X : Type 0} (f : ℕ → X) (n at : ℕ) → n ≤ at → f (n - at) ≡ f 0
-no_more f n at done = let none : n - at ≡ 0 = omega arith in ap f none
 
 pub tokens_more : (n turn : ℕ) (out : List Token) (at : ℕ) (bytes : List ℕ) → turn < n
     → tokens_from (n - turn) out at bytes ≡ on_piece (piece_at bytes) (Ok out) (λ x. and_then (with_piece x.0 at x.1 out) (λ more. tokens_from (n - (turn + 1)) more (at + x.1) (drop x.1 bytes)))

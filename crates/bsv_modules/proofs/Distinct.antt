@@ -7,6 +7,7 @@ use Rattle.std.proofs.lemmas.Slice.Eq.{bytes_eq-Decides}
 use Rattle.std.proofs.lemmas.Bool.{false≢true}
 use Rattle.std.proofs.lemmas.List.{map-append}
 use Rattle.std.proofs.lemmas.Bool.Decides.{same_from_decides}
+use Rattle.bsv_lemmas.proofs.Truths.{or_false}
 use Rattle.bsv_ast.specs.Names.{is_lower}
 use Rattle.bsv_scopes.specs.Scopes.{Entries, is_listed, with_name, with_new}
 use Rattle.bsv_types.specs.Names.{distinct, lower_names}
@@ -31,18 +32,14 @@ or_last : (a b c : Bool) → a || (b || c) ≡ (a || b) || c
 or_last true b c = refl
 or_last false b c = refl
 
-or_none : (a : Bool) → a || false ≡ a
-or_none true = refl
-or_none false = refl
-
 listed_more : (y x : List ℕ) (seen : List (List ℕ)) → is_listed y (seen ++ x ∷ []) ≡ is_listed y seen || bytes_eq x y
-listed_more y x [] = or_none (bytes_eq y x) ∙ bytes_turned y x
+listed_more y x [] = or_false (bytes_eq y x) ∙ bytes_turned y x
 listed_more y x (z ∷ seen) = ap (λ b. bytes_eq y z || b) (listed_more y x seen) ∙ or_last (bytes_eq y z) (is_listed y seen) (bytes_eq x y)
 
 abbrev none_listed : List (List ℕ) → List (List ℕ) → Bool
 none_listed seen xs = list_all (λ y. not (is_listed y seen)) xs
 
-one_more : (l b n m : Bool) → not (l || b) && (n && not m) ≡ (not l && n) && not (b || m)
+pub one_more : (l b n m : Bool) → not (l || b) && (n && not m) ≡ (not l && n) && not (b || m)
 one_more true b n m = refl
 one_more false true true m = refl
 one_more false true false m = refl

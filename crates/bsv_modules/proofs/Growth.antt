@@ -1,9 +1,11 @@
 -- Types stay in order where definitions come behind.
-use Rattle.std.proofs.Common.{◌≡◌, ◌∙◌, ℕ, zero, suc, ◌≤◌, true, List, [], ◌∷◌, ◌++◌, length, option_map, Option, Some, None, refl, sym, ap, subst, arith}
+use Rattle.std.proofs.Common.{◌≡◌, ◌∙◌, ℕ, ◌≤◌, true, List, [], ◌∷◌, ◌++◌, length, option_map, Option, Some, None, refl, sym, ap, subst, arith}
 use Rattle.std.specs.Prelude.{nat_lt, slice_get}
 use Rattle.std.specs.List.{list_all}
-use Rattle.std.proofs.lemmas.Bool.{ltb-true, lt-ltb}
+use Rattle.std.proofs.lemmas.Bool.{ltb-true, lt-ltb, and_parts, and_from}
 use Rattle.std.proofs.lemmas.List.{length-append}
+use Rattle.bsv_lemmas.proofs.Choices.{was_there}
+use Rattle.bsv_lemmas.proofs.Places.{stays_left}
 use Rattle.bsv_types.specs.declared.types.PartTy.TheVariants as part_type
 use Rattle.bsv_types.specs.declared.definitions.Enum.{Enum}
 use Rattle.bsv_types.specs.declared.definitions.Struct.{Struct}
@@ -11,21 +13,10 @@ use Rattle.bsv_types.specs.Kinds.{Kind, bit, down, uint, int, bool, enum, struct
 use Rattle.bsv_types.specs.Shapes.{Shapes, plus, width_by, widths_by, has_range, is_bits, has_bits, is_value, is_instance}
 use Rattle.bsv_types.specs.Methods.{Effect, value, action, action_value}
 use Rattle.bsv_types.specs.Programs.{effect_right}
-use Rattle.bsv_types.proofs.Same.{both}
-use Rattle.bsv_typing.proofs.Bound.{some_is, both_true}
 use Rattle.bsv_modules.specs.Growing.{Grows}
-
-pub get_front : {A : Type 0} (xs ys : List A) (i : ℕ) (x : A) → slice_get xs i ≡ Some x → slice_get (xs ++ ys) i ≡ Some x
-get_front [] ys i x e = absurd cc
-get_front (y ∷ xs) ys zero x e = e
-get_front (y ∷ xs) ys (suc i) x e = get_front xs ys i x e
 
 within_more : {A : Type 0} (xs ys : List A) (i : ℕ) → nat_lt i (length xs) ≡ true → nat_lt i (length (xs ++ ys)) ≡ true
 within_more xs ys i e = lt-ltb i (length (xs ++ ys)) (omega (arith, ltb-true i (length xs) e, length-append xs ys))
-
-mapped : {A B : Type 0} (f : A → B) (o : Option A) (y : B) → option_map f o ≡ Some y → (x : A) × (o ≡ Some x) × (f x ≡ y)
-mapped f None y e = absurd cc
-mapped f (Some x) y e = (x, refl, some_is (f x) y e)
 
 added : (a b : Option ℕ) (n : ℕ) → plus a b ≡ Some n → (i : ℕ) × (j : ℕ) × (a ≡ Some i) × (b ≡ Some j)
 added None b n e = absurd cc
@@ -43,13 +34,13 @@ module _ (s z : Shapes) (more : Grows s z) where
   width_kept (int m) n e = e
   width_kept bool n e = e
   width_kept (enum k) n e =
-      let h = mapped (λ (d : Enum). d.width) (slice_get s.enums k) n e in
+      let h = was_there (λ (d : Enum). d.width) (slice_get s.enums k) n e in
       ap (λ ds. option_map (λ (d : Enum). d.width) (slice_get ds k)) more.enums_are
-      ∙ ap (option_map (λ (d : Enum). d.width)) (get_front s.enums more.enums k h.0 h.1) ∙ ap Some h.2
+      ∙ ap (option_map (λ (d : Enum). d.width)) (stays_left s.enums more.enums k h.0 h.1) ∙ ap Some h.2
   width_kept (struct k) n e =
-      let h = mapped (λ (d : Struct). d.width) (slice_get s.structs k) n e in
+      let h = was_there (λ (d : Struct). d.width) (slice_get s.structs k) n e in
       ap (λ ds. option_map (λ (d : Struct). d.width) (slice_get ds k)) more.structs_are
-      ∙ ap (option_map (λ (d : Struct). d.width)) (get_front s.structs more.structs k h.0 h.1) ∙ ap Some h.2
+      ∙ ap (option_map (λ (d : Struct). d.width)) (stays_left s.structs more.structs k h.0 h.1) ∙ ap Some h.2
   width_kept (maybe k) n e =
       let h = added (Some 1) (width_in s k) n e in
       ap (plus (Some 1)) (width_kept k h.1 h.3) ∙ sym (ap (plus (Some 1)) h.3) ∙ e
@@ -78,9 +69,9 @@ module _ (s z : Shapes) (more : Grows s z) where
   bits_kept limit above (enum k) le e = subst (λ ds. nat_lt k (length ds) ≡ true) (sym more.enums_are) (within_more s.enums more.enums k e)
   bits_kept limit above (struct k) le e = lt-ltb k above (omega (arith, le, ltb-true k limit e))
   bits_kept limit above (maybe k) le e =
-      let h = both (is_bits s limit k) (has_range (width_in s (maybe k))) e in
+      let h = and_parts (is_bits s limit k) (has_range (width_in s (maybe k))) e in
       let w = has_width (width_in s (maybe k)) h.1 in
-      both_true (is_bits z above k) (has_range (width_in z (maybe k))) (bits_kept limit above k le h.0)
+      and_from (is_bits z above k) (has_range (width_in z (maybe k))) (bits_kept limit above k le h.0)
       (ap has_range (width_kept (maybe k) w.0 w.1 ∙ sym w.1) ∙ h.1)
   bits_kept limit above integer le e = absurd cc
   bits_kept limit above (interface k) le e = absurd cc
@@ -133,7 +124,7 @@ module _ (s z : Shapes) (more : Grows s z) where
 
   pub all_kept : (ks : List Kind) → list_all (has_bits s) ks ≡ true → list_all (has_bits z) ks ≡ true
   all_kept [] e = refl
-  all_kept (k ∷ ks) e = let h = both (has_bits s k) (list_all (has_bits s) ks) e in both_true (has_bits z k) (list_all (has_bits z) ks) (has_bits_kept k h.0) (all_kept ks h.1)
+  all_kept (k ∷ ks) e = let h = and_parts (has_bits s k) (list_all (has_bits s) ks) e in and_from (has_bits z k) (list_all (has_bits z) ks) (has_bits_kept k h.0) (all_kept ks h.1)
 
   pub effect_kept : (e : Effect) → effect_right s e ≡ true → effect_right z e ≡ true
   effect_kept (value k) e = has_bits_kept k e

@@ -2,13 +2,12 @@
 use Rattle.std.proofs.Common.{◌≡◌, ◌∙◌, ℕ, zero, suc, ◌<◌, Bool, true, false, not, ◌&&◌, List, [], ◌∷◌, length, Option, Some, None, Ok, refl, sym, ap, subst, arith}
 use Rattle.std.specs.Prelude.{◌==◌, nat_lt, slice_get, slice_set}
 use Rattle.std.specs.List.{list_all, list_any}
-use Rattle.std.proofs.lemmas.Bool.{eqb-true, lt-ltb}
+use Rattle.std.proofs.lemmas.Bool.{eqb-true, lt-ltb, and_parts, and_from}
+use Rattle.std.proofs.lemmas.Option.{same_Some}
 use Rattle.bsv_ast.specs.declared.text.Span.{Span}
 use Rattle.bsv_types.specs.declared.modules.Method.{Method}
 use Rattle.bsv_types.specs.Methods.{Signature}
 use Rattle.bsv_types.specs.Modules.{each_once}
-use Rattle.bsv_types.proofs.Same.{both}
-use Rattle.bsv_typing.proofs.Bound.{some_is, both_true}
 use Rattle.bsv_statements.proofs.RightCalls.{ok_is, went}
 use Rattle.bsv_modules.specs.Modules.{is_free}
 use Rattle.bsv_modules.specs.Programs.{no_methods, all_there}
@@ -54,14 +53,14 @@ one_stands (Some x ∷ ms) (suc n) m free = ap suc (one_stands ms n m free)
 pub all_freed : (ms : List (Option Method)) (n : ℕ) (m : Method) (ks : List ℕ) → list_all (λ k. is_free k (placed ms n m)) ks ≡ true → list_all (λ k. is_free k ms) ks ≡ true
 all_freed ms n m [] free = refl
 all_freed ms n m (k ∷ ks) free =
-    let b = both (is_free k (placed ms n m)) (list_all (λ k. is_free k (placed ms n m)) ks) free in
-    both_true (is_free k ms) (list_all (λ k. is_free k ms) ks) (freed ms n k m b.0) (all_freed ms n m ks b.1)
+    let b = and_parts (is_free k (placed ms n m)) (list_all (λ k. is_free k (placed ms n m)) ks) free in
+    and_from (is_free k ms) (list_all (λ k. is_free k ms) ks) (freed ms n k m b.0) (all_freed ms n m ks b.1)
 
 -- a number that is taken is none of those that are free
 pub none_of : (ms : List (Option Method)) (n : ℕ) (ks : List ℕ) → is_free n ms ≡ false → list_all (λ k. is_free k ms) ks ≡ true → list_any (λ k. n == k) ks ≡ false
 none_of ms n [] is_taken free = refl
 none_of ms n (k ∷ ks) is_taken free =
-    let b = both (is_free k ms) (list_all (λ k. is_free k ms) ks) free in
+    let b = and_parts (is_free k ms) (list_all (λ k. is_free k ms) ks) free in
     by (n == k) refl b.0 (none_of ms n ks is_taken b.1)
   where
     by : (t : Bool) → (n == k) ≡ t → is_free k ms ≡ true → list_any (λ k. n == k) ks ≡ false → list_any (λ k. n == k) (k ∷ ks) ≡ false
@@ -76,7 +75,7 @@ once_more ms n limit m ks many free others once =
     let within : n < length ms = free_within ms n free in
     let below = lt-ltb n limit (omega arith) in
     let other = ap not (none_of (placed ms n m) n ks (place_taken ms n m free) others) in
-    both_true (nat_lt n limit && not (list_any (λ k. n == k) ks)) (each_once limit ks) (both_true (nat_lt n limit) (not (list_any (λ k. n == k) ks)) below other) once
+    and_from (nat_lt n limit && not (list_any (λ k. n == k) ks)) (each_once limit ks) (and_from (nat_lt n limit) (not (list_any (λ k. n == k) ks)) below other) once
 
 -- ---- at the start and at the end
 
@@ -100,5 +99,5 @@ there_all s (Some x ∷ ms) xs e =
     subst (AllThere (Some x ∷ ms)) (ok_is (x ∷ rest.0) xs rest.2) (record { many = ap suc h.many; stand = ap suc h.stand; there = there_is })
   where
     at_place : (x : Method) (ms : List (Option Method)) (ys : List Method) → ((n : ℕ) (m : Method) → slice_get ms n ≡ Some (Some m) → slice_get ys n ≡ Some m) → (n : ℕ) (m : Method) → slice_get (Some x ∷ ms) n ≡ Some (Some m) → slice_get (x ∷ ys) n ≡ Some m
-    at_place x ms ys h zero m is = some_is (Some x) (Some m) is
+    at_place x ms ys h zero m is = same_Some (Some x) (Some m) is
     at_place x ms ys h (suc n) m is = h n m is

@@ -7,6 +7,7 @@ use Rattle.std.proofs.lemmas.List.Folds.{list_any-append}
 use Rattle.std.proofs.lemmas.Slice.Eq.{bytes_eq-Decides}
 use Rattle.bsv_scopes.specs.Scopes.{is_listed}
 use Rattle.bsv_types.specs.Names.{distinct}
+use Rattle.bsv_modules.proofs.Distinct.{one_more}
 
 -- none of the names came, and no two of them are one
 abbrev pub behind : List (List ℕ) → List (List ℕ) → Bool
@@ -27,13 +28,6 @@ or_none false false = refl
 
 listed_more : (x y : List ℕ) (came : List (List ℕ)) → is_listed y (came ++ x ∷ []) ≡ (is_listed y came || bytes_eq x y)
 listed_more x y came = list_any-append (bytes_eq y) came (x ∷ []) ∙ or_none (is_listed y came) (bytes_eq y x) ∙ ap (λ b. is_listed y came || b) (same_back x y)
-
-one_more : (a b here there : Bool) → (not (a || b) && (here && not there)) ≡ ((not a && here) && not (b || there))
-one_more true b here there = refl
-one_more false true true there = refl
-one_more false true false there = refl
-one_more false false true there = refl
-one_more false false false there = refl
 
 apart_more : (came : List (List ℕ)) (x : List ℕ) (xs : List (List ℕ)) → apart (came ++ x ∷ []) xs ≡ (apart came xs && not (list_any (bytes_eq x) xs))
 apart_more came x [] = refl

@@ -2,7 +2,7 @@
 use Rattle.std.proofs.Common.{◌≡◌, ◌∙◌, ℕ, ◌+◌, true, List, [], ◌∷◌, ◌++◌, map, length, Option, Some, None, Ok, option_map, refl, sym, ap, ap₂, subst, arith}
 use Rattle.std.specs.Prelude.{◌==◌}
 use Rattle.std.proofs.lemmas.List.{length-append}
-use Rattle.std.proofs.lemmas.Bool.{eq-eqb}
+use Rattle.std.proofs.lemmas.Bool.{eq-eqb, and_parts, and_from}
 use Rattle.bsv_ast.specs.declared.text.Span.{Span}
 use Rattle.bsv_ast.specs.declared.expressions.Expr.{Expr as Written}
 use Rattle.bsv_ast.specs.declared.types.WrittenType.{WrittenType}
@@ -23,10 +23,8 @@ use Rattle.bsv_types.specs.declared.modules.ModuleBranch.{ModuleBranch, fold-Mod
 use Rattle.bsv_types.specs.Kinds.{integer, type_of}
 use Rattle.bsv_types.specs.Expressions.{Slot, one, many}
 use Rattle.bsv_types.specs.Modules.{or_empty, concatenated, numbers_step, own_rule, own_method, counts_up}
-use Rattle.bsv_types.proofs.Same.{both}
 use Rattle.bsv_context.specs.Env.{variable_in}
 use Rattle.bsv_statements.specs.Bodies.{Or, Scopes, with_variable, check, of_kind, declared_kind, assignable, in_head}
-use Rattle.bsv_typing.proofs.Bound.{both_true}
 use Rattle.bsv_statements.proofs.RightCalls.{ok_is, went, there_is}
 use Rattle.bsv_modules.specs.Modules.{Site, State, Run, task, scoped, make_at, with_rule, rule_case, rule_at, done, array_named, inside, all_in, Arm, conditions, branch, arms, last_arm, if_case, block_case, interface_at, lower_name, with_slot, instance_case, array_case, count_at, place_case, declare_case, assign_case, for_case}
 
@@ -41,13 +39,13 @@ pub counts_none : (n : ℕ) → Counts n [] n
 counts_none n = record { up = refl; many = omega arith }
 
 counts_one : (n m : ℕ) → m ≡ n + 1 → Counts n (n ∷ []) m
-counts_one n m is = record { up = both_true (n == n) true (eq-eqb n n refl) refl; many = omega arith }
+counts_one n m is = record { up = and_from (n == n) true (eq-eqb n n refl) refl; many = omega arith }
 
 up_both : (n m : ℕ) (xs ys : List ℕ) → n + length xs ≡ m → counts_up n xs ≡ true → counts_up m ys ≡ true → counts_up n (xs ++ ys) ≡ true
 up_both n m [] ys is h g = let same : m ≡ n = omega arith in subst (λ k. counts_up k ys ≡ true) same g
 up_both n m (x ∷ xs) ys is h g =
-    let b = both (x == n) (counts_up (n + 1) xs) h in
-    both_true (x == n) (counts_up (n + 1) (xs ++ ys)) b.0 (up_both (n + 1) m xs ys (omega arith) b.1 g)
+    let b = and_parts (x == n) (counts_up (n + 1) xs) h in
+    and_from (x == n) (counts_up (n + 1) (xs ++ ys)) b.0 (up_both (n + 1) m xs ys (omega arith) b.1 g)
 
 pub counts_both : (a b c : ℕ) (xs ys : List ℕ) → Counts a xs b → Counts b ys c → Counts a (xs ++ ys) c
 counts_both a b c xs ys h g = record { up = up_both a b xs ys h.many h.up g.up; many = omega (arith, length-append xs ys, h.many, g.many) }

@@ -2,6 +2,7 @@
 use Rattle.std.proofs.Common.{◌≡◌, ◌∙◌, ℕ, suc, ◌+◌, true, List, [], ◌∷◌, ◌++◌, map, length, Some, None, Ok, refl, sym, ap, subst, arith}
 use Rattle.std.specs.List.{list_all}
 use Rattle.std.proofs.Math.ListN.{length-set}
+use Rattle.std.proofs.lemmas.Bool.{and_from}
 use Rattle.bsv_ast.specs.declared.text.Span.{Span}
 use Rattle.bsv_ast.specs.declared.modules.Method.{Method as WrittenMethod}
 use Rattle.bsv_ast.specs.declared.modules.ModuleStmt.{ModuleStmt as Written, roll-ModuleStmt, out-ModuleStmt, ind-ModuleStmt, map-ModuleStmt, fold-roll-ModuleStmt}
@@ -17,7 +18,6 @@ use Rattle.bsv_types.specs.Methods.{Signature}
 use Rattle.bsv_types.specs.Modules.{concatenated, numbers_step, own_rule, own_method, each_once}
 use Rattle.bsv_types.specs.Modules as rules
 use Rattle.bsv_context.specs.Methods.{method_from}
-use Rattle.bsv_typing.proofs.Bound.{both_true}
 use Rattle.bsv_statements.proofs.RightCalls.{ok_is, went, there_is}
 use Rattle.bsv_modules.specs.Modules.{Site, State, Run, Arm, is_free, wanted_method, with_method, method_case, method_at, done, all_in, stmt_step, arm_step, nested, direct_step, direct}
 use Rattle.bsv_modules.proofs.RightMethods.{sure_is}
@@ -161,7 +161,7 @@ with_single st mid next n m xs free same_rules same_methods g =
     record {
       counts = subst (λ ns. Counts (length st.rules) (ns ++ rules.rules_of xs) (length next.rules)) (sym (method_numbers own_rule n)) counts;
       same = ap (λ ns. ns ++ rules.methods_in xs) (method_numbers own_method n) ∙ ap (λ ns. n ∷ ns) g.same ∙ sym one;
-      free = subst (λ ns. list_all (λ k. is_free k st.methods) ns ≡ true) (sym one) (both_true (is_free n st.methods) (list_all (λ k. is_free k st.methods) (rules.direct xs)) free (all_freed st.methods n m (rules.direct xs) others));
+      free = subst (λ ns. list_all (λ k. is_free k st.methods) ns ≡ true) (sym one) (and_from (is_free n st.methods) (list_all (λ k. is_free k st.methods) (rules.direct xs)) free (all_freed st.methods n m (rules.direct xs) others));
       once = subst (λ ns. each_once (length st.methods) ns ≡ true) (sym one) (once_more st.methods n (length st.methods) m (rules.direct xs) refl free others once);
       stand = subst (λ ns. standing st.methods + length ns ≡ standing next.methods) (sym one) sum;
       many = g.many ∙ many;

@@ -4,7 +4,9 @@ use Rattle.std.specs.Prelude.{nat_le, ◌==◌, codes}
 use Rattle.std.specs.List.{list_all}
 use Rattle.std.specs.Str.{bytes_eq}
 use Rattle.std.specs.Option.{option_and_then}
-use Rattle.std.proofs.lemmas.Bool.{le-leb}
+use Rattle.std.proofs.lemmas.Bool.{le-leb, and_parts, and_from}
+use Rattle.std.proofs.lemmas.Option.{same_Some as some_is}
+use Rattle.bsv_lemmas.proofs.Lists.{all_joined}
 use Rattle.bsv_ast.specs.Names.{begins_name, is_word, is_name}
 use Rattle.bsv_ast.specs.declared.text.Span.{Span}
 use Rattle.bsv_ast.specs.declared.modules.Attribute.{Attribute as Written}
@@ -18,9 +20,8 @@ use Rattle.bsv_types.specs.declared.asked.Owner.TheVariants as owner
 use Rattle.bsv_types.specs.AttributeTexts.{first_is, mark, in_word, in_front, words_and_marks, is_good, all_good, pieces, Names, one_name, one_more, names_at, closed, side_at, alone, two_or_more, Sides, with_left, sides_from, listed, sides}
 use Rattle.bsv_types.specs.Names.{names_from, orders_rules, of_module, of_rule}
 use Rattle.bsv_types.specs.Asked.{without_text, preempts, with_text, meaning, attribute}
-use Rattle.bsv_types.proofs.Same.{both}
 use Rattle.bsv_statements.specs.Bodies.{at}
-use Rattle.bsv_typing.proofs.Bound.{some_is, tested_step, both_true}
+use Rattle.bsv_typing.proofs.Bound.{tested_step}
 use Rattle.bsv_statements.proofs.RightCalls.{ok_is, went, there_is}
 use Rattle.bsv_modules.specs.Modules.{asked_by, asked}
 
@@ -35,17 +36,13 @@ mapped None f y e = absurd cc
 mapped (Some x) f y e = (x, refl, some_is (f x) y e)
 
 all_more : {A : Type 0} (p : A → Bool) (x : A) (xs : List A) → p x ≡ true → list_all p xs ≡ true → list_all p (x ∷ xs) ≡ true
-all_more p x xs h g = both_true (p x) (list_all p xs) h g
+all_more p x xs h g = and_from (p x) (list_all p xs) h g
 
 all_behind : {A : Type 0} (p : A → Bool) (x : A) (xs : List A) → list_all p (x ∷ xs) ≡ true → list_all p xs ≡ true
-all_behind p x xs h = (both (p x) (list_all p xs) h).1
+all_behind p x xs h = (and_parts (p x) (list_all p xs) h).1
 
 all_first : {A : Type 0} (p : A → Bool) (x : A) (xs : List A) → list_all p (x ∷ xs) ≡ true → p x ≡ true
-all_first p x xs h = (both (p x) (list_all p xs) h).0
-
-pub all_append : {A : Type 0} (p : A → Bool) (xs ys : List A) → list_all p xs ≡ true → list_all p ys ≡ true → list_all p (xs ++ ys) ≡ true
-all_append p [] ys h g = g
-all_append p (x ∷ xs) ys h g = all_more p x (xs ++ ys) (all_first p x xs h) (all_append p xs ys (all_behind p x xs h) g)
+all_first p x xs h = (and_parts (p x) (list_all p xs) h).0
 
 -- ---- the pieces of a text
 
@@ -106,7 +103,7 @@ words_right (b ∷ bytes) ps e =
 
 name_is : (word : List ℕ) → is_whole word ≡ true → first_is begins_name word ≡ true → is_name word ≡ true
 name_is [] h g = absurd cc
-name_is (b ∷ bytes) h g = both_true (begins_name b) (list_all is_word bytes) g (all_behind is_word b bytes h)
+name_is (b ∷ bytes) h g = and_from (begins_name b) (list_all is_word bytes) g (all_behind is_word b bytes h)
 
 piece_is : (p : Piece) → of_bytes p ≡ true → is_good p ≡ true → is_right p ≡ true
 piece_is (Word word) h g = name_is word h g
@@ -174,7 +171,7 @@ alone_is names [] xs e = some_is names xs e
 alone_is names (p ∷ rest) xs e = absurd cc
 
 from_is : (least : ℕ) (xs : List (List ℕ)) → least ≤ length xs → list_all is_name xs ≡ true → names_from least xs ≡ true
-from_is least xs many all = both_true (nat_le least (length xs)) (list_all is_name xs) (le-leb least (length xs) many) all
+from_is least xs many all = and_from (nat_le least (length xs)) (list_all is_name xs) (le-leb least (length xs) many) all
 
 -- names alone, from a step that gives some
 alone_right : (o : Option Names) (xs : List (List ℕ)) → ((q : Names) → o ≡ Some q → Named q) → option_and_then (λ names. alone names.0 names.1) o ≡ Some xs → names_from 1 xs ≡ true
@@ -188,7 +185,7 @@ two_right [] xs h e = absurd cc
 two_right (first ∷ []) xs h e = absurd cc
 two_right (first ∷ second ∷ names) xs h e =
     subst (λ ys. names_from 2 ys ≡ true) (some_is (first ∷ second ∷ names) xs e)
-    (from_is 2 (first ∷ second ∷ names) (omega arith) (both (nat_le 1 (length (first ∷ second ∷ names))) (list_all is_name (first ∷ second ∷ names)) h).1)
+    (from_is 2 (first ∷ second ∷ names) (omega arith) (and_parts (nat_le 1 (length (first ∷ second ∷ names))) (list_all is_name (first ∷ second ∷ names)) h).1)
 
 listed_right : (text : List ℕ) (xs : List (List ℕ)) → listed text ≡ Some xs → names_from 2 xs ≡ true
 unfolding listed
@@ -201,7 +198,7 @@ sides_behind : (left : List (List ℕ)) (rest : List Piece) (q : Sides) → name
 sides_behind left (Comma ∷ rest) q h all e =
     let m = mapped (option_and_then (λ names. alone names.0 names.1) (side_at rest)) (with_left left) q e in
     let right = alone_right (side_at rest) m.0 (λ p is. side_right rest p (all_behind is_right Comma rest all) is) m.1 in
-    subst (λ (p : Sides). (names_from 1 p.0 && names_from 1 p.1) ≡ true) m.2 (both_true (names_from 1 left) (names_from 1 m.0) h right)
+    subst (λ (p : Sides). (names_from 1 p.0 && names_from 1 p.1) ≡ true) m.2 (and_from (names_from 1 left) (names_from 1 m.0) h right)
 sides_behind left [] q h all e = absurd cc
 sides_behind left (Word word ∷ rest) q h all e = absurd cc
 sides_behind left (Open ∷ rest) q h all e = absurd cc
@@ -267,4 +264,4 @@ asked_right s o [] xs e = subst (λ ys. list_all (of_owner o) ys ≡ true) (ok_i
 asked_right s o (g ∷ gs) xs e =
     let x = went (asked_by s o g.attributes) _ xs e in
     let more = went (asked s o gs) _ xs x.2 in
-    subst (λ ys. list_all (of_owner o) ys ≡ true) (ok_is (x.0 ++ more.0) xs more.2) (all_append (of_owner o) x.0 more.0 (group_right s o g.attributes x.0 x.1) (asked_right s o gs more.0 more.1))
+    subst (λ ys. list_all (of_owner o) ys ≡ true) (ok_is (x.0 ++ more.0) xs more.2) (all_joined (of_owner o) x.0 more.0 (group_right s o g.attributes x.0 x.1) (asked_right s o gs more.0 more.1))

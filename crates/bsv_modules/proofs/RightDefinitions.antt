@@ -2,35 +2,33 @@
 use Rattle.std.proofs.Common.{◌≡◌, ◌∙◌, ℕ, true, false, not, ◌&&◌, List, [], ◌∷◌, ◌++◌, length, Option, Some, None, Ok, refl, sym, ap, subst, arith, append_assoc, append-nil}
 use Rattle.std.specs.Prelude.{nat_le, nat_lt, slice_get}
 use Rattle.std.specs.List.{list_all}
-use Rattle.std.proofs.lemmas.Bool.{ltb-true, lt-ltb, eq-eqb}
+use Rattle.std.proofs.lemmas.Bool.{ltb-true, lt-ltb, eq-eqb, and_parts, and_from, or_left}
 use Rattle.std.proofs.lemmas.List.{length-append, length-map, map-append}
 use Rattle.std.proofs.lemmas.List.Folds.{list_all-map}
+use Rattle.std.proofs.lemmas.Option.{same_Some as some_is}
+use Rattle.bsv_lemmas.proofs.Places.{stays_left, at_end}
 use Rattle.bsv_ast.specs.Names.{is_upper}
 use Rattle.bsv_ast.specs.declared.text.Span.{Span}
 use Rattle.bsv_ast.specs.declared.text.Ident.{Ident}
 use Rattle.bsv_ast.specs.declared.types.WrittenType.{WrittenType}
 use Rattle.bsv_types.specs.declared.definitions.Enum.{Enum}
-use Rattle.bsv_types.specs.declared.definitions.Interface.{Interface}
 use Rattle.bsv_types.specs.Kinds.{Kind, enum}
 use Rattle.bsv_types.specs.Shapes.{Shapes, is_value, is_instance}
 use Rattle.bsv_types.specs.Expressions.{one, label_count}
 use Rattle.bsv_types.specs.Names.{distinct}
-use Rattle.bsv_types.specs.Programs.{begins_empty}
-use Rattle.bsv_types.proofs.Same.{both}
 use Rattle.bsv_scopes.specs.Scopes.{found, is_defined, is_listed, with_name}
 use Rattle.bsv_typing.specs.Laws.{slot_right}
-use Rattle.bsv_typing.proofs.Bound.{some_is, taken, both_true}
-use Rattle.bsv_statements.proofs.RightCalls.{ok_is, went, there_is, passed}
+use Rattle.bsv_typing.proofs.Bound.{taken}
+use Rattle.bsv_statements.proofs.RightCalls.{ok_is, went, there_is, passed, at_is}
 use Rattle.bsv_modules.specs.Growing.{Grows}
 use Rattle.bsv_modules.specs.Programs.{Types, shapes_of, type_names, added, with_type, names_of, labelled, are_new, is_undefined, is_label, enum_width, enum_named, written_at, alias_case, is_enum, with_enum, enum_case}
-use Rattle.bsv_modules.proofs.RightMakers.{at_is}
 use Rattle.bsv_modules.proofs.WrittenAt.{written_is}
-use Rattle.bsv_modules.proofs.Growth.{get_front}
-use Rattle.bsv_modules.proofs.Entries.{any_left, not_listed, distinct_with, defined_now, all_defined_more}
+use Rattle.bsv_modules.proofs.Entries.{not_listed, distinct_with, defined_now, all_defined_more}
 use Rattle.bsv_modules.proofs.RightWritten.{Names, written_right}
 use Rattle.bsv_modules.proofs.RightEnums.{enum_kept}
 use Rattle.bsv_modules.proofs.RightLabels.{labels_hold, all_more, labels_defined, joined}
 use Rattle.bsv_modules.proofs.RightTypes.{labels, enum_names, struct_names, interface_names, names_in, Kept, slot_kept, structs_stay, interfaces_stay, all_with, all_joined, all_within, name_added, types_with}
+use Rattle.bsv_modules.proofs.RightSites.{first_there}
 
 -- one definition more: what was there is there, and all is in order
 pub record Steps (t next : Types) : Type 0 where
@@ -40,13 +38,9 @@ pub record Steps (t next : Types) : Type 0 where
 pub same_shapes : (s : Shapes) → Grows s s
 same_shapes s = record { enums = []; structs = []; interfaces = []; enums_are = sym (append-nil s.enums); structs_are = sym (append-nil s.structs); interfaces_are = sym (append-nil s.interfaces) }
 
-some_empty : (is : List Interface) → begins_empty is ≡ true → nat_lt 0 (length is) ≡ true
-some_empty [] e = absurd cc
-some_empty (i ∷ is) e = lt-ltb 0 (length (i ∷ is)) (omega arith)
-
 pub names_right : (t : Types) → Kept t → Names (type_names t)
 unfolding type_names
-names_right t k = record { strict = k.strict; empty = some_empty t.interfaces k.empty; named = k.types }
+names_right t k = record { strict = k.strict; empty = first_there t.interfaces k.empty; named = k.types }
 
 -- the names of the types behind one more
 pub with_type_is : (name : List ℕ) (k : Kind) (t next : Types) → with_type name k t ≡ Some next →
@@ -85,10 +79,6 @@ alias_right s w name t next kept e =
 
 -- ---- an enum
 
-get_last : {A : Type 0} (xs : List A) (x : A) → slice_get (xs ++ x ∷ []) (length xs) ≡ Some x
-get_last [] x = refl
-get_last (y ∷ xs) x = get_last xs x
-
 pub last_within : {A : Type 0} (xs : List A) (x : A) → nat_lt (length xs) (length (xs ++ x ∷ [])) ≡ true
 last_within xs x = lt-ltb (length xs) (length (xs ++ x ∷ [])) (omega (arith, length-append xs (x ∷ [])))
 
@@ -96,7 +86,7 @@ count_kept : (es : List Enum) (e : Enum) (l : ℕ × ℕ) → nat_lt l.1 (label_
 count_kept es e l lt = by (slice_get es l.0) refl lt where
   by : (o : Option Enum) → slice_get es l.0 ≡ o → nat_lt l.1 (label_count o) ≡ true → nat_lt l.1 (label_count (slice_get (es ++ e ∷ []) l.0)) ≡ true
   by None is lt = absurd (omega (arith, ltb-true l.1 0 lt))
-  by (Some d) is lt = subst (λ o. nat_lt l.1 (label_count o) ≡ true) (sym (get_front es (e ∷ []) l.0 d is)) lt
+  by (Some d) is lt = subst (λ o. nat_lt l.1 (label_count o) ≡ true) (sym (stays_left es (e ∷ []) l.0 d is)) lt
 
 labels_with : (es : List Enum) (e : Enum) → labels (es ++ e ∷ []) ≡ labels es ++ e.labels
 labels_with [] e = append-nil e.labels
@@ -117,19 +107,19 @@ module _ (t : Types) (kept : Kept t) (name : List ℕ) (xs : List Ident) where
 
   named_so : is_enum name xs ≡ true → enum_kept e ≡ true
   named_so right =
-      let c = both (is_upper name && nat_le 2 (length xs)) (list_all is_label xs) right in
-      let b = both (is_upper name) (nat_le 2 (length xs)) c.0 in
+      let c = and_parts (is_upper name && nat_le 2 (length xs)) (list_all is_label xs) right in
+      let b = and_parts (is_upper name) (nat_le 2 (length xs)) c.0 in
       let many = length-map xs (λ (x : Ident). x.name) in
-      both_true (is_upper name && nat_le 2 (length e.labels) && list_all is_upper e.labels) _
-      (both_true (is_upper name && nat_le 2 (length e.labels)) (list_all is_upper e.labels)
-      (both_true (is_upper name) (nat_le 2 (length e.labels)) b.0 (ap (nat_le 2) many ∙ b.1))
+      and_from (is_upper name && nat_le 2 (length e.labels) && list_all is_upper e.labels) _
+      (and_from (is_upper name && nat_le 2 (length e.labels)) (list_all is_upper e.labels)
+      (and_from (is_upper name) (nat_le 2 (length e.labels)) b.0 (ap (nat_le 2) many ∙ b.1))
       (list_all-map is_upper (λ (x : Ident). x.name) xs ∙ c.1))
       (eq-eqb e.width (enum_width (length e.labels)) (ap enum_width (sym many)))
 
   label_held : (m : List ℕ) (l : ℕ × ℕ) → found m behind.labels ≡ Some l → nat_lt l.1 (label_count (slice_get behind.enums l.0)) ≡ true
   label_held = labels_hold (λ l. nat_lt l.1 (label_count (slice_get behind.enums l.0)) ≡ true) n 0 xs t.labels
       (λ m l is. count_kept t.enums e l (kept.label m l is))
-      (λ i lt. subst (λ o. nat_lt i (label_count o) ≡ true) (sym (get_last t.enums e)) (lt-ltb i (length e.labels) (omega (arith, lt, length-map xs (λ (x : Ident). x.name)))))
+      (λ i lt. subst (λ o. nat_lt i (label_count o) ≡ true) (sym (at_end t.enums e)) (lt-ltb i (length e.labels) (omega (arith, lt, length-map xs (λ (x : Ident). x.name)))))
 
   abbrev pub others : List (List ℕ)
   others = struct_names t.structs ++ interface_names t.interfaces
@@ -145,14 +135,14 @@ module _ (t : Types) (kept : Kept t) (name : List ℕ) (xs : List Ident) where
 
   enum_kept_right : is_enum name xs ≡ true → are_new xs t.labels ≡ true → is_defined name t.names ≡ false → Kept behind
   enum_kept_right right new unnamed =
-      let fresh = both (list_all (is_undefined t.labels) xs) (distinct (names_of xs)) new in
+      let fresh = and_parts (list_all (is_undefined t.labels) xs) (distinct (names_of xs)) new in
       record {
         strict = kept.strict;
         enums = all_with enum_kept t.enums e kept.enums (named_so right);
         structs = structs_stay (shapes_of t) (shapes_of behind) more 0 t.structs kept.structs;
         interfaces = interfaces_stay (shapes_of t) (shapes_of behind) more t.interfaces kept.interfaces;
         empty = kept.empty;
-        types = types_with (shapes_of behind) name (enum n) t.names (λ m k is. slot_kept (shapes_of t) (shapes_of behind) more k (kept.types m k is)) (any_left (is_value (shapes_of behind) (enum n)) (is_instance (shapes_of behind) (enum n)) (last_within t.enums e));
+        types = types_with (shapes_of behind) name (enum n) t.names (λ m k is. slot_kept (shapes_of t) (shapes_of behind) more k (kept.types m k is)) (or_left (is_value (shapes_of behind) (enum n)) (is_instance (shapes_of behind) (enum n)) (last_within t.enums e));
         label = label_held;
         names = subst (λ ns. distinct ns ≡ true) (sym names_are) (distinct_with name (enum_names t.enums) others (ap distinct names_were ∙ kept.names) (ap (is_listed name) names_were ∙ not_listed (λ m. is_defined m t.names) name (names_in t) kept.named unnamed));
         named = subst (λ ns. list_all (λ m. is_defined m behind.names) ns ≡ true) (sym names_are)

@@ -1,7 +1,7 @@
 -- Rules are in order, and so are methods.
-use Rattle.std.proofs.Common.{◌≡◌, ◌∙◌, ℕ, true, ◌&&◌, List, [], ◌∷◌, map, length, Option, Some, None, Ok, refl, sym, subst, arith}
+use Rattle.std.proofs.Common.{◌≡◌, ◌∙◌, ℕ, true, ◌&&◌, List, [], ◌∷◌, map, length, Option, Some, None, Ok, refl, sym, subst}
 use Rattle.std.specs.List.{list_all}
-use Rattle.std.proofs.lemmas.List.{length-append, length-map}
+use Rattle.std.proofs.lemmas.Bool.{and_from as both_true}
 use Rattle.bsv_ast.specs.Names.{is_lower}
 use Rattle.bsv_ast.specs.declared.text.Span.{Span}
 use Rattle.bsv_ast.specs.declared.expressions.Expr.{Expr as Written}
@@ -26,9 +26,8 @@ use Rattle.bsv_types.specs.Modules.{param_slots}
 use Rattle.bsv_statements.specs.Returns.{returns}
 use Rattle.bsv_statements.specs.Bodies.{Scopes, Task, of_kind, stmt_run}
 use Rattle.bsv_typing.specs.Laws.{FitsWorld}
-use Rattle.bsv_statements.specs.Laws.{slots_of, frame_of, typed_task, ScopesFit}
-use Rattle.bsv_typing.proofs.Bound.{both_true}
-use Rattle.bsv_statements.proofs.RightScopes.{frame_opened, opened_fit}
+use Rattle.bsv_statements.specs.Laws.{frame_of, typed_task, ScopesFit}
+use Rattle.bsv_statements.proofs.RightScopes.{frame_opened, opened_fit, frame_length}
 use Rattle.bsv_statements.proofs.RightCalls.{ok_is, went, passed, has_true, kind_right}
 use Rattle.bsv_statements.proofs.RightBlocks.{inner_true, EachRun, AllRan, all_ran}
 use Rattle.bsv_statements.proofs.RightStatements.{typed_run}
@@ -38,10 +37,6 @@ use Rattle.bsv_modules.specs.Modules.{Site, task, stmts_in, InBody, value_body, 
 use Rattle.bsv_modules.proofs.RightAttributes.{asked_right}
 
 -- ---- statements of rules and of methods
-
-pub frame_many : (ss : Scopes) → length (frame_of ss) ≡ in_scope ss
-frame_many [] = refl
-frame_many (es ∷ outer) = omega (arith, length-append (frame_of outer) (slots_of es), length-map es (λ e. e.1.1), frame_many outer)
 
 module _ (t : Task) (w : World) (fits : FitsWorld t.env w) where
   all_good : (xs : List InnerStmt) → EachRun t w (map (stmt_run t) xs)
@@ -109,7 +104,7 @@ module _ (site : Site) (w : World) (fits : FitsWorld site.env w) where
       let q = went (stmts_in (acts_task (in_scope ss)) (opened ss) xs) _ b e in
       let h = acts_is xs (in_scope ss) (opened ss) q.0 (opened_fit w.shapes ss fit) q.1 in
       let framed = subst (λ f. typed.acts_right w (in_scope ss) f q.0.1 ≡ true) (frame_opened ss) h.0 in
-      let right = subst (λ n. typed.acts_right w n (frame_of ss) q.0.1 ≡ true) (sym (frame_many ss)) framed in
+      let right = subst (λ n. typed.acts_right w n (frame_of ss) q.0.1 ≡ true) (sym (frame_length ss)) framed in
       subst (λ (c : Scopes × List Stmt). (typed.acts_right w (length (frame_of ss)) (frame_of ss) c.1 ≡ true) × (c.0 ≡ ss)) (ok_is (closed q.0.0, q.0.1) b q.2) (right, h.1)
 
   -- a rule that is made of parts in order

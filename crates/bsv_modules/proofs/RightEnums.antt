@@ -2,14 +2,12 @@
 use Rattle.std.proofs.Common.{◌≡◌, ℕ, zero, suc, ◌+◌, ◌-◌, ◌^◌, ◌<◌, ◌≤◌, Bool, true, false, cond, ◌&&◌, ◌⊎◌, inl, inr, length, refl, sym, subst, arith}
 use Rattle.std.specs.Prelude.{◌==◌, nat_le, nat_lt}
 use Rattle.std.specs.List.{list_all}
-use Rattle.std.proofs.lemmas.Bool.{ltb-true, ltb-false, lt-ltb, leb-true, le-leb, eqb-true}
+use Rattle.std.proofs.lemmas.Bool.{ltb-true, ltb-false, lt-ltb, leb-true, le-leb, eqb-true, and_parts, and_from}
 use Rattle.bsv_ast.specs.Names.{is_upper}
 use Rattle.bsv_types.specs.declared.definitions.Enum.{Enum}
 use Rattle.bsv_types.specs.Shapes.{is_enum_width}
 use Rattle.bsv_types.specs.Names.{countable}
 use Rattle.bsv_types.specs.Programs.{enum_right}
-use Rattle.bsv_types.proofs.Same.{both}
-use Rattle.bsv_typing.proofs.Bound.{both_true}
 use Rattle.bsv_modules.specs.Programs.{width_from, enum_width}
 
 -- an enum in order, but for how many labels it has
@@ -21,9 +19,6 @@ record Holds (width number found : ℕ) : Type 0 where
   least : width ≤ found
   holds : number < 2 ^ found
   before : (found ≡ width) ⊎ ((less : ℕ) × (less + 1 ≡ found) × (2 ^ less ≤ number))
-
-not_below : (a b : ℕ) → nat_lt a b ≡ false → b ≤ a
-not_below a b e = ltb-false a b e
 
 width_found : (more width number : ℕ) → number < 2 ^ (width + more) → Holds width number (width_from more width number)
 width_found zero width number lt =
@@ -38,7 +33,7 @@ width_found (suc more) width number lt =
         least = omega (arith, h.least);
         holds = h.holds;
         before = elim h.before [
-          | inl same ↦ inr (width, sym same, not_below number (2 ^ width) is)
+          | inl same ↦ inr (width, sym same, ltb-false number (2 ^ width) is)
           | inr larger ↦ inr larger
         ];
       }
@@ -55,8 +50,8 @@ width_is n w least h = by (leb-true 2 n least) h.before where
   by two (inr (less, is, le)) =
       let before : w - 1 ≡ less = omega (arith, is) in
       let some : 1 ≤ w = omega (arith, is) in
-      both_true (nat_le 2 n && nat_le 1 w && nat_lt (n - 1) (2 ^ w)) (nat_le (2 ^ (w - 1)) (n - 1))
-      (both_true (nat_le 2 n && nat_le 1 w) (nat_lt (n - 1) (2 ^ w)) (both_true (nat_le 2 n) (nat_le 1 w) least (le-leb 1 w some)) (lt-ltb (n - 1) (2 ^ w) h.holds))
+      and_from (nat_le 2 n && nat_le 1 w && nat_lt (n - 1) (2 ^ w)) (nat_le (2 ^ (w - 1)) (n - 1))
+      (and_from (nat_le 2 n && nat_le 1 w) (nat_lt (n - 1) (2 ^ w)) (and_from (nat_le 2 n) (nat_le 1 w) least (le-leb 1 w some)) (lt-ltb (n - 1) (2 ^ w) h.holds))
       (le-leb (2 ^ (w - 1)) (n - 1) (subst (λ k. 2 ^ k ≤ n - 1) (sym before) le))
 
 width_right : (n : ℕ) → nat_le 2 n ≡ true → n < 2 ^ 32 → is_enum_width (width_from 64 0 (n - 1)) n ≡ true
@@ -66,10 +61,10 @@ pub enum_is_right : (e : Enum) → enum_kept e ≡ true → countable e.labels �
 unfolding enum_width
 enum_is_right e kept few =
     let front = is_upper e.name && nat_le 2 (length e.labels) in
-    let c = both (front && list_all is_upper e.labels) (e.width == enum_width (length e.labels)) kept in
-    let b = both front (list_all is_upper e.labels) c.0 in
-    let a = both (is_upper e.name) (nat_le 2 (length e.labels)) b.0 in
+    let c = and_parts (front && list_all is_upper e.labels) (e.width == enum_width (length e.labels)) kept in
+    let b = and_parts front (list_all is_upper e.labels) c.0 in
+    let a = and_parts (is_upper e.name) (nat_le 2 (length e.labels)) b.0 in
     let lt : length e.labels < 2 ^ 32 = ltb-true (length e.labels) (2 ^ 32) few in
-    both_true (is_upper e.name && list_all is_upper e.labels && countable e.labels) (is_enum_width e.width (length e.labels))
-    (both_true (is_upper e.name && list_all is_upper e.labels) (countable e.labels) (both_true (is_upper e.name) (list_all is_upper e.labels) a.0 b.1) few)
+    and_from (is_upper e.name && list_all is_upper e.labels && countable e.labels) (is_enum_width e.width (length e.labels))
+    (and_from (is_upper e.name && list_all is_upper e.labels) (countable e.labels) (and_from (is_upper e.name) (list_all is_upper e.labels) a.0 b.1) few)
     (subst (λ n. is_enum_width n (length e.labels) ≡ true) (sym (eqb-true e.width (enum_width (length e.labels)) c.1)) (width_right (length e.labels) a.1 lt))

@@ -1,6 +1,7 @@
 -- What a function is typed as is in order, where the functions that it may call stand in the world.
 use Rattle.std.proofs.Common.{◌≡◌, ℕ, Bool, true, false, ◌&&◌, List, [], ◌∷◌, map, take, Ok, refl, sym, subst}
 use Rattle.std.specs.List.{list_all}
+use Rattle.std.proofs.lemmas.Bool.{and_parts, and_from}
 use Rattle.bsv_ast.specs.Names.{is_lower}
 use Rattle.bsv_ast.specs.declared.package.Function.{Function as Written}
 use Rattle.bsv_types.specs.declared.definitions.Body.{Body}
@@ -14,19 +15,16 @@ use Rattle.bsv_types.specs.Names.{lower_names}
 use Rattle.bsv_types.specs.Statements.{gives_body}
 use Rattle.bsv_types.specs.Modules.{param_names, param_slots}
 use Rattle.bsv_types.specs.Programs.{call_of, function_right}
-use Rattle.bsv_types.proofs.Same.{both}
 use Rattle.bsv_context.specs.Env.{is_typed_value}
 use Rattle.bsv_statements.specs.Bodies.{Scopes}
 use Rattle.bsv_typing.specs.Laws.{FitsWorld}
-use Rattle.bsv_typing.proofs.Bound.{both_true}
 use Rattle.bsv_typing.proofs.Typings.{kind_back}
 use Rattle.bsv_typing.proofs.RightOperands.{strict_value}
 use Rattle.bsv_typing.proofs.RightExpressions.{ground_is}
 use Rattle.bsv_statements.proofs.RightStatements.{value_slot_right}
-use Rattle.bsv_statements.proofs.RightCalls.{ok_is, went, passed}
+use Rattle.bsv_statements.proofs.RightCalls.{ok_is, went, passed, at_is}
 use Rattle.bsv_modules.specs.Modules.{InBody, params_at, with_params, are_named, task_of, value_body}
 use Rattle.bsv_modules.specs.Programs.{Program, type_names, env_of, value_kind, function_header, function_made, is_function, param_scopes, function_case, written_at, value_params, function_body}
-use Rattle.bsv_modules.proofs.RightMakers.{at_is}
 use Rattle.bsv_modules.proofs.RightElements.{value_right}
 use Rattle.bsv_modules.proofs.RightMethods.{sure_is, EachKind, params_are, SlotRight, params_in}
 use Rattle.bsv_modules.proofs.RightModules.{no_variables}
@@ -44,7 +42,7 @@ slots_of s (p ∷ ps) each = (value_slot_right s (kind p.ty) each.0, slots_of s 
 
 all_values : (s : Shapes) (ps : List Param) → EachKind (IsValue s) ps → list_all (is_value s) (param_kinds ps) ≡ true
 all_values s [] each = refl
-all_values s (p ∷ ps) each = both_true (is_value s (kind p.ty)) (list_all (is_value s) (param_kinds ps)) each.0 (all_values s ps each.1)
+all_values s (p ∷ ps) each = and_from (is_value s (kind p.ty)) (list_all (is_value s) (param_kinds ps)) each.0 (all_values s ps each.1)
 
 module _ (p : Program) (number : ℕ) (w : World) (fits : FitsWorld (env_of p number) w) where
   value_is : (k : Kind) → value_kind p k ≡ true → is_value w.shapes k ≡ true
@@ -63,8 +61,8 @@ module _ (p : Program) (number : ℕ) (w : World) (fits : FitsWorld (env_of p nu
       let k = went (written_at f.span f.result p.types) _ h e in
       let ps = went (params_at (type_names p.types) (value_kind p) f.span f.params) _ h k.2 in
       let c = sure_is f.span (is_lower f.name.name && value_kind p k.0 && are_named ps.0) (ps.0, k.0) h ps.2 in
-      let a = both (is_lower f.name.name && value_kind p k.0) (are_named ps.0) c.0 in
-      let b = both (is_lower f.name.name) (value_kind p k.0) a.0 in
+      let a = and_parts (is_lower f.name.name && value_kind p k.0) (are_named ps.0) c.0 in
+      let b = and_parts (is_lower f.name.name) (value_kind p k.0) a.0 in
       let values = params_are (type_names p.types) (value_kind p) (IsValue w.shapes) (λ t j is passes. value_is j passes) f.span f.params ps.0 ps.1 in
       subst (HeaderRight f) c.1 (record { lower = b.0; names = a.1; values = values; result = value_is k.0 b.1 })
 
@@ -83,7 +81,7 @@ module _ (p : Program) (number : ℕ) (w : World) (fits : FitsWorld (env_of p nu
   made_right : (f : Written) (h : List Param × Kind) (b : Body) → HeaderRight f h → gives_body w false 0 (param_slots h.0) h.1 b ≡ true → tested (function_made f h.0 h.1 b) (kind (function_made f h.0 h.1 b).result) ≡ true
   made_right f h b header gives =
       subst (λ k. tested (function_made f h.0 h.1 b) k ≡ true) (sym (kind_back h.1))
-      (both_true _ (gives_body w false 0 (param_slots h.0) h.1 b) (both_true _ (is_value w.shapes h.1) (both_true _ (list_all (is_value w.shapes) (param_kinds h.0)) (both_true (is_lower f.name.name) (lower_names (param_names h.0)) header.lower header.names)
+      (and_from _ (gives_body w false 0 (param_slots h.0) h.1 b) (and_from _ (is_value w.shapes h.1) (and_from _ (list_all (is_value w.shapes) (param_kinds h.0)) (and_from (is_lower f.name.name) (lower_names (param_names h.0)) header.lower header.names)
       (all_values w.shapes h.0 header.values)) header.result) gives)
 
   function_body_right : (f : Written) (h : List Param × Kind) (b : Body) → HeaderRight f h → function_body p number f.span h.0 h.1 f.body ≡ Ok b → gives_body w false 0 (param_slots h.0) h.1 b ≡ true

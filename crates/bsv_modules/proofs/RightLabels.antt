@@ -3,13 +3,12 @@ use Rattle.std.proofs.Common.{◌≡◌, ◌∙◌, ℕ, ◌+◌, ◌<◌, Bool,
 use Rattle.std.specs.List.{list_all}
 use Rattle.std.specs.Str.{bytes_eq}
 use Rattle.std.proofs.lemmas.List.Folds.{list_any-append}
+use Rattle.std.proofs.lemmas.Bool.{and_parts, and_from, or_from, not-true, not_from_false}
 use Rattle.bsv_ast.specs.declared.text.Ident.{Ident}
 use Rattle.bsv_types.specs.Names.{distinct}
-use Rattle.bsv_types.proofs.Same.{both}
 use Rattle.bsv_scopes.specs.Scopes.{Entries, found, is_defined, is_listed, with_name, with_new}
-use Rattle.bsv_typing.proofs.Bound.{both_true}
 use Rattle.bsv_modules.specs.Programs.{names_of, with_labels}
-use Rattle.bsv_modules.proofs.Entries.{found_more, not_listed, none_of, not_true, true_not, defined_more, defined_now}
+use Rattle.bsv_modules.proofs.Entries.{found_more, not_listed, defined_more, defined_now}
 
 -- ---- what labels stand for
 
@@ -53,14 +52,14 @@ labels_more name of_enum first (x ∷ xs) es e = labels_more name of_enum (first
 pub all_more : (ns : List (List ℕ)) (of_enum first : ℕ) (xs : List Ident) (es : Entries (ℕ × ℕ)) → list_all (λ n. is_defined n es) ns ≡ true → list_all (λ n. is_defined n (with_labels of_enum first xs es)) ns ≡ true
 all_more [] of_enum first xs es e = refl
 all_more (n ∷ ns) of_enum first xs es e =
-    let h = both (is_defined n es) (list_all (λ n. is_defined n es) ns) e in
-    both_true (is_defined n (with_labels of_enum first xs es)) (list_all (λ n. is_defined n (with_labels of_enum first xs es)) ns) (labels_more n of_enum first xs es h.0) (all_more ns of_enum first xs es h.1)
+    let h = and_parts (is_defined n es) (list_all (λ n. is_defined n es) ns) e in
+    and_from (is_defined n (with_labels of_enum first xs es)) (list_all (λ n. is_defined n (with_labels of_enum first xs es)) ns) (labels_more n of_enum first xs es h.0) (all_more ns of_enum first xs es h.1)
 
 pub labels_defined : (of_enum first : ℕ) (xs : List Ident) (es : Entries (ℕ × ℕ)) → list_all (λ n. is_defined n (with_labels of_enum first xs es)) (names_of xs) ≡ true
 labels_defined of_enum first [] es = refl
 labels_defined of_enum first (x ∷ xs) es =
     let inner = with_new x.name (of_enum, first) es in
-    both_true (is_defined x.name (with_labels of_enum (first + 1) xs inner)) (list_all (λ n. is_defined n (with_labels of_enum (first + 1) xs inner)) (names_of xs))
+    and_from (is_defined x.name (with_labels of_enum (first + 1) xs inner)) (list_all (λ n. is_defined n (with_labels of_enum (first + 1) xs inner)) (names_of xs))
     (labels_more x.name of_enum (first + 1) xs inner (new_now x.name (of_enum, first) es)) (labels_defined of_enum (first + 1) xs inner)
 
 -- ---- no two labels are one
@@ -68,8 +67,8 @@ labels_defined of_enum first (x ∷ xs) es =
 pub joined : (p : List ℕ → Bool) (xs ys : List (List ℕ)) → list_all p xs ≡ true → list_all (λ y. not (p y)) ys ≡ true → distinct xs ≡ true → distinct ys ≡ true → distinct (xs ++ ys) ≡ true
 joined p [] ys all none d e = e
 joined p (x ∷ xs) ys all none d e =
-    let h = both (p x) (list_all p xs) all in
-    let q = both (not (is_listed x xs)) (distinct xs) d in
-    both_true (not (is_listed x (xs ++ ys))) (distinct (xs ++ ys))
-    (true_not (is_listed x (xs ++ ys)) (list_any-append (bytes_eq x) xs ys ∙ none_of (is_listed x xs) (is_listed x ys) (not_true (is_listed x xs) q.0) (not_listed (λ y. not (p y)) x ys none (ap not h.0))))
+    let h = and_parts (p x) (list_all p xs) all in
+    let q = and_parts (not (is_listed x xs)) (distinct xs) d in
+    and_from (not (is_listed x (xs ++ ys))) (distinct (xs ++ ys))
+    (not_from_false (is_listed x (xs ++ ys)) (list_any-append (bytes_eq x) xs ys ∙ or_from (is_listed x xs) (is_listed x ys) (not-true (is_listed x xs) q.0) (not_listed (λ y. not (p y)) x ys none (ap not h.0))))
     (joined p xs ys h.1 none q.1 e)

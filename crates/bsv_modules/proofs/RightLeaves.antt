@@ -1,6 +1,9 @@
 -- Statements of modules without statements in them are in order.
 use Rattle.std.proofs.Common.{◌≡◌, ◌∙◌, ℕ, Bool, true, false, ◌&&◌, ◌||◌, List, [], ◌∷◌, ◌++◌, length, Option, Some, None, Ok, refl, sym, ap, subst}
 use Rattle.std.specs.Prelude.{slice_get}
+use Rattle.std.proofs.lemmas.Option.{same_Some}
+use Rattle.std.proofs.lemmas.Bool.{and_from}
+use Rattle.bsv_lemmas.proofs.Places.{stays_left, at_end}
 use Rattle.bsv_ast.specs.Names.{is_lower}
 use Rattle.bsv_ast.specs.declared.text.Span.{Span}
 use Rattle.bsv_ast.specs.declared.expressions.Expr.{Expr as Written}
@@ -30,7 +33,6 @@ use Rattle.bsv_context.specs.Written.{written}
 use Rattle.bsv_statements.specs.Bodies.{Or, Scopes, with_variable, check, of_kind, declared_kind, assignable}
 use Rattle.bsv_typing.specs.Laws.{slot_right}
 use Rattle.bsv_statements.specs.Laws.{frame_of, ScopesFit}
-use Rattle.bsv_typing.proofs.Bound.{some_is, both_true}
 use Rattle.bsv_typing.proofs.Typings.{kind_back, value_typed}
 use Rattle.bsv_typing.proofs.RightPlaces.{instance_slot}
 use Rattle.bsv_typing.proofs.RightSuffixes.{many_is}
@@ -42,7 +44,7 @@ use Rattle.bsv_modules.proofs.RightSites.{FitsSite, written_right}
 use Rattle.bsv_modules.proofs.RightMakers.{typed_site, make_right}
 use Rattle.bsv_modules.proofs.RightElements.{RuleRan, rule_ran}
 use Rattle.bsv_modules.proofs.RightMethods.{sure_is, MethodRan, method_ran}
-use Rattle.bsv_modules.proofs.RightStates.{kept_left, last_there, set_there, set_kept, run_in, Ran, GoodRun, ended, defines}
+use Rattle.bsv_modules.proofs.RightStates.{set_there, set_kept, run_in, Ran, GoodRun, ended, defines}
 
 instance_one : (s : Shapes) (k : Kind) → is_instance s k ≡ true → slot_right s (one k) ≡ true
 instance_one s k e = by (is_value s k) where
@@ -65,7 +67,7 @@ module _ (w : World) (headers : List rules.Header) (wanted : List Signature) (rs
       ap (λ f. f frame) (fold-roll-ModuleStmt typed.Run typed.Run (rules.module_stmt_step in_site) (rules.module_branch_step in_site) (ModuleStmt-F.Instance (type_of k) name m)) ∙
       ap (λ j. typed.if_right (is_instance w.shapes j && is_lower name && rules.makes in_site frame m j) (frame ++ one j ∷ [])) (kind_back k) ∙
       if_right_true (is_instance w.shapes k && is_lower name && rules.makes in_site frame m k) (frame ++ one k ∷ [])
-      (both_true (is_instance w.shapes k && is_lower name) (rules.makes in_site frame m k) (both_true (is_instance w.shapes k) (is_lower name) right lower) made)
+      (and_from (is_instance w.shapes k && is_lower name) (rules.makes in_site frame m k) (and_from (is_instance w.shapes k) (is_lower name) right lower) made)
 
   array_typed : (frame : Frame) (k : Kind) (name : List ℕ) (x : Expr) → is_instance w.shapes k ≡ true → is_lower name ≡ true → typing w x frame ≡ Some integer → ran (Array (type_of k) name x) frame ≡ Some (frame ++ many k ∷ [])
   array_typed frame k name x right lower many_is =
@@ -73,10 +75,10 @@ module _ (w : World) (headers : List rules.Header) (wanted : List Signature) (rs
       ap (λ f. f frame) (fold-roll-ModuleStmt typed.Run typed.Run (rules.module_stmt_step in_site) (rules.module_branch_step in_site) (ModuleStmt-F.Array (type_of k) name x)) ∙
       ap (λ j. typed.if_right (is_instance w.shapes j && is_lower name && has_type w frame x integer) (frame ++ many j ∷ [])) (kind_back k) ∙
       if_right_true (is_instance w.shapes k && is_lower name && has_type w frame x integer) (frame ++ many k ∷ [])
-      (both_true (is_instance w.shapes k && is_lower name) (has_type w frame x integer) (both_true (is_instance w.shapes k) (is_lower name) right lower) (has_true w frame x integer many_is))
+      (and_from (is_instance w.shapes k && is_lower name) (has_type w frame x integer) (and_from (is_instance w.shapes k) (is_lower name) right lower) (has_true w frame x integer many_is))
 
   place_is : (frame : Frame) (level : ℕ) (x : Expr) (m : Make) (k : Kind) → many_at frame level ≡ Some k → typing w x frame ≡ Some integer → rules.makes in_site frame m k ≡ true → rules.place_right in_site frame level x m ≡ true
-  place_is frame level x m k here index made = rw here (both_true (has_type w frame x integer) (rules.makes in_site frame m k) (has_true w frame x integer index) made)
+  place_is frame level x m k here index made = rw here (and_from (has_type w frame x integer) (rules.makes in_site frame m k) (has_true w frame x integer index) made)
 
   place_typed : (frame : Frame) (level : ℕ) (x : Expr) (m : Make) (k : Kind) → many_at frame level ≡ Some k → typing w x frame ≡ Some integer → rules.makes in_site frame m k ≡ true → ran (Place level x m) frame ≡ Some frame
   place_typed frame level x m k here index made =
@@ -90,7 +92,7 @@ module _ (w : World) (headers : List rules.Header) (wanted : List Signature) (rs
       ap (λ f. f frame) (fold-roll-ModuleStmt typed.Run typed.Run (rules.module_stmt_step in_site) (rules.module_branch_step in_site) (ModuleStmt-F.Declare (type_of k) name x)) ∙
       ap (λ j. typed.if_right (is_value w.shapes j && is_lower name && has_type w frame x j) (frame ++ one j ∷ [])) (kind_back k) ∙
       if_right_true (is_value w.shapes k && is_lower name && has_type w frame x k) (frame ++ one k ∷ [])
-      (both_true (is_value w.shapes k && is_lower name) (has_type w frame x k) (both_true (is_value w.shapes k) (is_lower name) (value_typed w frame x k h) lower) (has_true w frame x k h))
+      (and_from (is_value w.shapes k && is_lower name) (has_type w frame x k) (and_from (is_value w.shapes k) (is_lower name) (value_typed w frame x k h) lower) (has_true w frame x k h))
 
   assign_typed : (frame : Frame) (level : ℕ) (x : Expr) → typed.assigns w 0 frame level x ≡ true → ran (Assign level x) frame ≡ Some frame
   assign_typed frame level x right =
@@ -158,7 +160,7 @@ module _ (site : Site) (w : World) (headers : List rules.Header) (fits : FitsSit
   array_stands ss name a fit e = by (variable_in ss name) refl e where
     by_slot : (v : ℕ × Slot) (x : Slot) → v.1 ≡ x → slice_get (frame_of ss) v.0 ≡ Some v.1 → array_named (Some v) ≡ Some a → many_at (frame_of ss) a.0 ≡ Some a.1
     by_slot v (many k) is here given =
-        let same = some_is (v.0, k) a (rw is at given) in
+        let same = same_Some (v.0, k) a (rw is at given) in
         subst (λ (b : ℕ × Kind). many_at (frame_of ss) b.0 ≡ Some b.1) same (many_is w (frame_of ss) v.0 k (here ∙ ap Some is))
     by_slot v (one k) is here given = let none = rw is at given in absurd cc
 
@@ -200,8 +202,8 @@ module _ (site : Site) (w : World) (headers : List rules.Header) (fits : FitsSit
   rule_stands : (st : State) (ss : Scopes) (q : Rule) (r : State × ModuleStmt) → ScopesFit w.shapes st.scopes → RuleRan site w fits.world st.scopes (ss, q) → ◌≡◌ {A = Or (State × ModuleStmt)} (Ok (with_rule st ss q, RuleAt (length st.rules))) (Ok r) → Ran w headers site.wanted st r
   rule_stands st ss q r fit h e =
       subst (Ran w headers site.wanted st) (ok_is (with_rule st ss q, RuleAt (length st.rules)) r e) (record {
-        right = λ rs ms later. rule_typed w headers site.wanted rs ms (frame_of st.scopes) (length st.rules) q (later.rules (length st.rules) q (last_there st.rules q)) h.right ∙ ap (λ z. Some (frame_of z)) (sym h.same);
-        earlier = λ rs ms later. record { rules = λ n x is. later.rules n x (kept_left st.rules (q ∷ []) n x is); methods = later.methods };
+        right = λ rs ms later. rule_typed w headers site.wanted rs ms (frame_of st.scopes) (length st.rules) q (later.rules (length st.rules) q (at_end st.rules q)) h.right ∙ ap (λ z. Some (frame_of z)) (sym h.same);
+        earlier = λ rs ms later. record { rules = λ n x is. later.rules n x (stays_left st.rules (q ∷ []) n x is); methods = later.methods };
         fit = subst (ScopesFit w.shapes) (sym h.same) fit;
         outer = ap (λ z. closed z) h.same;
       })

@@ -1,9 +1,12 @@
 -- Methods are in order.
-use Rattle.std.proofs.Common.{◌≡◌, ◌∙◌, ℕ, zero, suc, ◌+◌, Bool, true, false, cond, ◌&&◌, List, [], ◌∷◌, ◌++◌, map, length, Option, Some, None, Ok, refl, sym, ap, subst, arith, append_assoc, append-nil}
+use Rattle.std.proofs.Common.{◌≡◌, ◌∙◌, ℕ, suc, ◌+◌, Bool, true, false, cond, ◌&&◌, List, [], ◌∷◌, ◌++◌, length, Option, Some, None, Ok, refl, sym, ap, subst, arith, append_assoc, append-nil}
 use Rattle.std.specs.Prelude.{slice_get}
 use Rattle.std.specs.List.{list_all}
 use Rattle.std.specs.Str.{bytes_eq}
 use Rattle.std.proofs.lemmas.Slice.Eq.{bytes_eq-Decides}
+use Rattle.std.proofs.lemmas.Bool.{and_parts}
+use Rattle.std.proofs.lemmas.Option.{same_Some}
+use Rattle.bsv_lemmas.proofs.Places.{passes_at}
 use Rattle.bsv_ast.specs.Names.{is_lower, is_keyword, grammar_words, reserved_words}
 use Rattle.bsv_ast.specs.declared.text.Span.{Span}
 use Rattle.bsv_ast.specs.declared.types.WrittenType.{WrittenType}
@@ -14,7 +17,6 @@ use Rattle.bsv_scopes.specs.Scopes.{opened, closed, in_scope}
 use Rattle.bsv_types.specs.declared.definitions.Body.{Body}
 use Rattle.bsv_types.specs.declared.definitions.Param.{Param}
 use Rattle.bsv_types.specs.declared.definitions.Interface.{Interface}
-use Rattle.bsv_types.specs.declared.definitions.MethodHeader.{MethodHeader}
 use Rattle.bsv_types.specs.declared.expressions.Expr.{Expr}
 use Rattle.bsv_types.specs.declared.modules.Method.{Method}
 use Rattle.bsv_types.specs.declared.types.PartTy.{PartTy}
@@ -22,26 +24,26 @@ use Rattle.bsv_types.specs.declared.types.PartTy.TheVariants as part_type
 use Rattle.bsv_types.specs.Kinds.{Kind, interface, part, bare, kind}
 use Rattle.bsv_types.specs.Shapes.{Shapes}
 use Rattle.bsv_types.specs.Operators.{same_kinds}
-use Rattle.bsv_types.specs.Methods.{Signature, Effect, value, action, action_value, effect, same_effect, header_signature, methods, methods_of, part_methods, bare_methods, param_kinds}
+use Rattle.bsv_types.specs.Methods.{Signature, Effect, value, action, action_value, effect, same_effect, methods, methods_of, part_methods, bare_methods, param_kinds}
 use Rattle.bsv_types.specs.Expressions.{one, World, Frame}
 use Rattle.bsv_types.specs.Names.{lower_names}
 use Rattle.bsv_types.specs.Programs.{interface_right, method_header_right, effect_right, shapes_right, begins_empty}
 use Rattle.bsv_types.specs.Statements as typed
 use Rattle.bsv_types.specs.Modules as rules
 use Rattle.bsv_types.specs.Modules.{param_names, param_slots}
-use Rattle.bsv_types.proofs.Same.{both, same_is, same_self}
+use Rattle.bsv_types.proofs.Same.{same_is, same_self}
 use Rattle.bsv_context.specs.Methods.{method_from}
 use Rattle.bsv_context.specs.Written.{TypeNames, written, written_effect}
 use Rattle.bsv_statements.specs.Bodies.{at, sure, Scopes, with_variable}
 use Rattle.bsv_typing.specs.Laws.{slot_right}
 use Rattle.bsv_statements.specs.Laws.{frame_of, ScopesFit}
-use Rattle.bsv_typing.proofs.Bound.{some_is, taken}
+use Rattle.bsv_typing.proofs.Bound.{taken}
 use Rattle.bsv_typing.proofs.Typings.{kind_back}
-use Rattle.bsv_statements.proofs.RightScopes.{frame_opened, opened_fit, defined_right}
-use Rattle.bsv_statements.proofs.RightCalls.{ok_is, went, there_is, passed}
+use Rattle.bsv_statements.proofs.RightScopes.{frame_opened, opened_fit, defined_right, frame_length}
+use Rattle.bsv_statements.proofs.RightCalls.{ok_is, went, there_is, passed, header_at}
 use Rattle.bsv_modules.specs.Modules.{Site, task, InBody, body_of, guard, param, param_at, params_at, with_params, are_named, method_result, any_kind, method_header, method_made, method_body}
 use Rattle.bsv_modules.proofs.RightSites.{FitsSite, written_right}
-use Rattle.bsv_modules.proofs.RightElements.{frame_many, body_right, guard_right}
+use Rattle.bsv_modules.proofs.RightElements.{body_right, guard_right}
 
 pub sure_is : {A : Type 0} (s : Span) (b : Bool) (x y : A) → sure s b x ≡ Ok y → (b ≡ true) × (x ≡ y)
 sure_is s true x y e = (refl, ok_is x y e)
@@ -77,7 +79,7 @@ abbrev pub SlotRight : Shapes → Kind → Type 0
 SlotRight s k = slot_right s (one k) ≡ true
 
 pub params_in : (s : Shapes) (ps : List Param) (ss inner : Scopes) → EachKind (SlotRight s) ps → ScopesFit s ss → with_params ps ss ≡ Some inner → ParamsIn s ps ss inner
-params_in s [] ss inner right fit e = subst (ParamsIn s [] ss) (some_is ss inner e) (record { fit = fit; frame = sym (append-nil (frame_of ss)); outer = refl })
+params_in s [] ss inner right fit e = subst (ParamsIn s [] ss) (same_Some ss inner e) (record { fit = fit; frame = sym (append-nil (frame_of ss)); outer = refl })
 params_in s (p ∷ ps) ss inner right fit e =
     let next = taken (with_variable p.name (one (kind p.ty)) ss) (with_params ps) inner e in
     let d = defined_right s p.name (one (kind p.ty)) ss next.0 fit right.0 next.1 in
@@ -112,7 +114,7 @@ wanted_at n name (m ∷ ms) q e = by (bytes_eq name m.name) refl (wanted_at (n +
   by : (b : Bool) → bytes_eq name m.name ≡ b → (method_from (n + 1) name ms ≡ Some q → (i : ℕ) × (q.0 ≡ n + 1 + i) × (slice_get ms i ≡ Some q.1) × (bytes_eq name q.1.name ≡ true)) →
       cond b (Some (n, m)) (method_from (n + 1) name ms) ≡ Some q → (i : ℕ) × (q.0 ≡ n + i) × (slice_get (m ∷ ms) i ≡ Some q.1) × (bytes_eq name q.1.name ≡ true)
   by true named later at =
-      let is = some_is (n, m) q at in
+      let is = same_Some (n, m) q at in
       let first : n ≡ n + 0 = omega arith in
       (0, sym (ap (λ (r : ℕ × Signature). r.0) is) ∙ first, ap (λ (r : ℕ × Signature). Some r.1) is, subst (λ (r : ℕ × Signature). bytes_eq name r.1.name ≡ true) is named)
   by false named later at =
@@ -130,16 +132,6 @@ wanted_is name ms q e =
     let h = wanted_at 0 name ms q e in
     let first : 0 + h.0 ≡ h.0 = omega arith in
     record { there = ap (slice_get ms) (h.1 ∙ first) ∙ h.2; named = h.3 }
-
-each_is : {A : Type 0} (p : A → Bool) (xs : List A) (k : ℕ) (x : A) → list_all p xs ≡ true → slice_get xs k ≡ Some x → p x ≡ true
-each_is p [] k x all is = absurd cc
-each_is p (y ∷ ys) zero x all is = subst (λ z. p z ≡ true) (some_is y x is) (both (p y) (list_all p ys) all).0
-each_is p (y ∷ ys) (suc k) x all is = each_is p ys k x (both (p y) (list_all p ys) all).1 is
-
-header_at : (hs : List MethodHeader) (n : ℕ) (q : Signature) → slice_get (map header_signature hs) n ≡ Some q → (h : MethodHeader) × (slice_get hs n ≡ Some h) × (header_signature h ≡ q)
-header_at [] n q e = absurd cc
-header_at (h ∷ hs) zero q e = (h, refl, some_is (header_signature h) q e)
-header_at (h ∷ hs) (suc n) q e = header_at hs n q e
 
 abbrev has_lower : Signature → Bool
 has_lower q = is_lower q.name
@@ -165,13 +157,13 @@ methods_lower s (interface i) n q right is = by (slice_get s.interfaces i) refl 
   by None at here = absurd cc
   by (Some face) at here =
       let h = header_at face.methods n q here in
-      let faces = (both _ (list_all (interface_right s) s.interfaces) (both _ (begins_empty s.interfaces) right).0).1 in
-      let face_right = each_is (interface_right s) s.interfaces i face faces at in
-      let header = each_is (method_header_right s) face.methods n h.0 (both _ (list_all (method_header_right s) face.methods) face_right).1 h.1 in
-      let named = (both (is_lower h.0.name) _ (both _ _ (both _ (effect_right s (effect h.0.result)) header).0).0).0 in
+      let faces = (and_parts _ (list_all (interface_right s) s.interfaces) (and_parts _ (begins_empty s.interfaces) right).0).1 in
+      let face_right = passes_at (interface_right s) s.interfaces i face faces at in
+      let header = passes_at (method_header_right s) face.methods n h.0 (and_parts _ (list_all (method_header_right s) face.methods) face_right).1 h.1 in
+      let named = (and_parts (is_lower h.0.name) _ (and_parts _ _ (and_parts _ (effect_right s (effect h.0.result)) header).0).0).0 in
       subst (λ (r : Signature). is_lower r.name ≡ true) h.2 named
-methods_lower s (part p t) n q right is = each_is has_lower (part_methods p t) n q (part_lower p t) is
-methods_lower s (bare p) n q right is = each_is has_lower (bare_methods p) n q (bare_lower p) is
+methods_lower s (part p t) n q right is = passes_at has_lower (part_methods p t) n q (part_lower p t) is
+methods_lower s (bare p) n q right is = passes_at has_lower (bare_methods p) n q (bare_lower p) is
 methods_lower s _ n q right is = absurd cc
 
 -- ---- methods
@@ -189,7 +181,7 @@ module _ (site : Site) (w : World) (headers : List rules.Header) (fits : FitsSit
       let p = passed s (same_kinds (param_kinds ps.0) wanted.params && are_named ps.0) true _ h ps.2 in
       let f = there_is s (written_effect site.types m.result) _ h p.1 in
       let same = sure_is s (same_effect f.0 wanted.effect) (ps.0, f.0) h f.2 in
-      let b = both (same_kinds (param_kinds ps.0) wanted.params) (are_named ps.0) p.0 in
+      let b = and_parts (same_kinds (param_kinds ps.0) wanted.params) (are_named ps.0) p.0 in
       let slots = params_are site.types any_kind (SlotRight w.shapes) (λ t k is passes. written_right site w headers fits t k is) s m.params ps.0 ps.1 in
       subst (HeaderIs wanted) same.1 (record { kinds = b.0; names = b.1; slots = slots; same = effect_is f.0 wanted.effect same.0 })
 
@@ -201,7 +193,7 @@ module _ (site : Site) (w : World) (headers : List rules.Header) (fits : FitsSit
       let d = params_in w.shapes ps (opened ss) inner.0 slots (opened_fit w.shapes ss fit) inner.1 in
       let h = body_right site w fits.world s (in_scope ss) inner.0 f b q.0 d.fit q.1 in
       let framed = subst (λ z. typed.body_right w (in_scope ss) z f q.0.1 ≡ true) (d.frame ∙ ap (λ z. z ++ param_slots ps) (frame_opened ss)) h.0 in
-      let right = subst (λ n. typed.body_right w n (frame_of ss ++ param_slots ps) f q.0.1 ≡ true) (sym (frame_many ss)) framed in
+      let right = subst (λ n. typed.body_right w n (frame_of ss ++ param_slots ps) f q.0.1 ≡ true) (sym (frame_length ss)) framed in
       subst (λ (c : InBody). (typed.body_right w (length (frame_of ss)) (frame_of ss ++ param_slots ps) f c.1 ≡ true) × (c.0 ≡ ss)) (ok_is (closed q.0.0, q.0.1) r q.2) (right, h.1 ∙ d.outer)
 
   -- a method that is made of parts in order

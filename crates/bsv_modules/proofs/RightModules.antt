@@ -2,7 +2,7 @@
 use Rattle.std.proofs.Common.{◌≡◌, ◌∙◌, ℕ, Bool, true, ◌&&◌, List, [], ◌∷◌, map, length, Some, None, Ok, refl, sym, ap, subst, arith}
 use Rattle.std.specs.Prelude.{◌==◌, slice_get}
 use Rattle.std.specs.List.{list_all}
-use Rattle.std.proofs.lemmas.Bool.{eq-eqb}
+use Rattle.std.proofs.lemmas.Bool.{eq-eqb, and_parts, and_from}
 use Rattle.std.proofs.lemmas.List.{length-map}
 use Rattle.bsv_ast.specs.Names.{is_lower}
 use Rattle.bsv_ast.specs.declared.modules.Module.{Module as Written}
@@ -21,21 +21,18 @@ use Rattle.bsv_types.specs.Names.{lower_names, countable, of_module}
 use Rattle.bsv_types.specs.Statements as typed
 use Rattle.bsv_types.specs.Modules as rules
 use Rattle.bsv_types.specs.Modules.{param_names, param_slots, param_right}
-use Rattle.bsv_types.proofs.Same.{both}
 use Rattle.bsv_statements.specs.Bodies.{Or, Scopes}
 use Rattle.bsv_typing.specs.Laws.{slot_right}
 use Rattle.bsv_statements.specs.Laws.{frame_of, ScopesFit}
-use Rattle.bsv_typing.proofs.Bound.{both_true}
 use Rattle.bsv_typing.proofs.Typings.{kind_back}
 use Rattle.bsv_typing.proofs.RightPlaces.{instance_slot}
-use Rattle.bsv_statements.proofs.RightCalls.{ok_is, went, passed}
+use Rattle.bsv_statements.proofs.RightCalls.{ok_is, went, passed, at_is}
 use Rattle.bsv_typing.proofs.RightExpressions.{ground_is}
 use Rattle.bsv_statements.proofs.RightBlocks.{inner_true}
 use Rattle.bsv_modules.specs.Laws.{FitsProgram}
 use Rattle.bsv_modules.specs.Modules.{State, asked, params_at, with_params, are_named, all_in, direct, defines_all}
 use Rattle.bsv_modules.specs.Programs.{Program, type_names, param_scopes, param_kind, module_header, site_of, is_module, all_there, Parts, module_made, opening_state, module_body, module_parts, module_params, site_at, env_of, written_at, module_case}
 use Rattle.bsv_modules.proofs.RightSites.{FitsSite, written_right}
-use Rattle.bsv_modules.proofs.RightMakers.{at_is}
 use Rattle.bsv_modules.proofs.WrittenAt.{written_is}
 use Rattle.bsv_modules.proofs.RightAttributes.{asked_right}
 use Rattle.bsv_modules.proofs.RightMethods.{sure_is, EachKind, params_are, ParamsIn, SlotRight, params_in, methods_lower}
@@ -79,8 +76,8 @@ module _ (p : Program) (w : World) (headers : List rules.Header) (fits : FitsPro
       let ps = went (params_at (type_names p.types) (param_kind p) m.span m.params) _ h e in
       let k = went (written_at m.span m.interface p.types) _ h ps.2 in
       let c = sure_is m.span (is_lower m.name.name && is_interface k.0 && are_named ps.0) (ps.0, k.0) h k.2 in
-      let a = both (is_lower m.name.name && is_interface k.0) (are_named ps.0) c.0 in
-      let b = both (is_lower m.name.name) (is_interface k.0) a.0 in
+      let a = and_parts (is_lower m.name.name && is_interface k.0) (are_named ps.0) c.0 in
+      let b = and_parts (is_lower m.name.name) (is_interface k.0) a.0 in
       let site = site_of p k.0 in
       let right = written_right site w headers (site_fits p w headers k.0 fits) in
       let slots = params_are (type_names p.types) (param_kind p) (SlotRight w.shapes) (λ t j is passes. right t j is) m.span m.params ps.0 ps.1 in
@@ -88,7 +85,7 @@ module _ (p : Program) (w : World) (headers : List rules.Header) (fits : FitsPro
 
   params_right : (ps : List Param) → EachKind (SlotRight w.shapes) ps → list_all (param_right w) ps ≡ true
   params_right [] each = refl
-  params_right (x ∷ ps) each = both_true (param_right w x) (list_all (param_right w) ps) each.0 (params_right ps each.1)
+  params_right (x ∷ ps) each = and_from (param_right w x) (list_all (param_right w) ps) each.0 (params_right ps each.1)
 
   -- ---- the body
 
@@ -133,16 +130,16 @@ module _ (p : Program) (w : World) (headers : List rules.Header) (fits : FitsPro
 
   numbers_are : (x : Module) (k : Kind) → BodyRight k x.params x.rules x.methods x.body → rules.numbers_right x ≡ true
   numbers_are x k h =
-      both_true _ _ (both_true _ _ (both_true _ _ (both_true _ _ h.up (eq-eqb (length (rules.rules_of x.body)) (length x.rules) h.rule_count)) h.once)
+      and_from _ _ (and_from _ _ (and_from _ _ (and_from _ _ h.up (eq-eqb (length (rules.rules_of x.body)) (length x.rules) h.rule_count)) h.once)
       (eq-eqb (length (rules.direct x.body)) (length x.methods) h.direct_count)) (eq-eqb (length (rules.methods_in x.body)) (length x.methods) h.method_count)
 
   -- what does not depend on the body
   front_is : (x : Module) (k : Kind) → is_lower x.name ≡ true → list_all of_module x.attributes ≡ true → lower_names (param_names x.params) ≡ true → list_all (param_right w) x.params ≡ true → is_instance w.shapes k ≡ true →
       (is_lower x.name && list_all of_module x.attributes && lower_names (param_names x.params) && list_all (param_right w) x.params && is_instance w.shapes k) ≡ true
   front_is x k lower owned names slots instance =
-      both_true (is_lower x.name && list_all of_module x.attributes && lower_names (param_names x.params) && list_all (param_right w) x.params) (is_instance w.shapes k)
-      (both_true (is_lower x.name && list_all of_module x.attributes && lower_names (param_names x.params)) (list_all (param_right w) x.params)
-      (both_true (is_lower x.name && list_all of_module x.attributes) (lower_names (param_names x.params)) (both_true (is_lower x.name) (list_all of_module x.attributes) lower owned) names) slots) instance
+      and_from (is_lower x.name && list_all of_module x.attributes && lower_names (param_names x.params) && list_all (param_right w) x.params) (is_instance w.shapes k)
+      (and_from (is_lower x.name && list_all of_module x.attributes && lower_names (param_names x.params)) (list_all (param_right w) x.params)
+      (and_from (is_lower x.name && list_all of_module x.attributes) (lower_names (param_names x.params)) (and_from (is_lower x.name) (list_all of_module x.attributes) lower owned) names) slots) instance
 
   abbrev body_test : Module → Kind → Bool
   body_test x k = typed.inner (typed.run (map (run_in w headers (methods w.shapes k) x.rules x.methods) x.body)) (param_slots x.params)
@@ -155,8 +152,8 @@ module _ (p : Program) (w : World) (headers : List rules.Header) (fits : FitsPro
   all_is : (x : Module) (k : Kind) → (is_lower x.name && list_all of_module x.attributes && lower_names (param_names x.params) && list_all (param_right w) x.params && is_instance w.shapes k) ≡ true →
       countable x.rules ≡ true → countable x.methods ≡ true → BodyRight k x.params x.rules x.methods x.body → tested x k ≡ true
   all_is x k front few_rules few_methods h =
-      both_true _ (body_test x k) (both_true _ (rules.numbers_right x) (both_true _ (countable x.methods) (both_true _ (countable x.rules)
-      (both_true _ (length x.methods == length (methods w.shapes k)) front (eq-eqb (length x.methods) (length (methods w.shapes k)) h.wanted_count)) few_rules) few_methods) (numbers_are x k h)) h.right
+      and_from _ (body_test x k) (and_from _ (rules.numbers_right x) (and_from _ (countable x.methods) (and_from _ (countable x.rules)
+      (and_from _ (length x.methods == length (methods w.shapes k)) front (eq-eqb (length x.methods) (length (methods w.shapes k)) h.wanted_count)) few_rules) few_methods) (numbers_are x k h)) h.right
 
   module_is : (x : Module) (k : Kind) → kind x.interface ≡ k → tested x k ≡ true → rules.module_right w headers x ≡ true
   module_is x k is right = subst (λ j. tested x j ≡ true) (sym is) right

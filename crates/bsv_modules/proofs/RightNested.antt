@@ -1,5 +1,6 @@
 -- Statements of modules with statements in them are in order.
 use Rattle.std.proofs.Common.{◌≡◌, ◌∙◌, Bool, true, ◌&&◌, List, [], ◌∷◌, map, Option, Some, None, Ok, option_map, refl, sym, ap, subst}
+use Rattle.std.proofs.lemmas.Bool.{and_from}
 use Rattle.bsv_ast.specs.declared.text.Span.{Span}
 use Rattle.bsv_ast.specs.declared.statements.Head.{Head as WrittenHead}
 use Rattle.bsv_scopes.specs.Scopes.{opened, closed}
@@ -19,7 +20,6 @@ use Rattle.bsv_types.specs.Statements as typed
 use Rattle.bsv_types.specs.Modules as rules
 use Rattle.bsv_statements.specs.Bodies.{Or, Scopes, of_kind, in_head}
 use Rattle.bsv_statements.specs.Laws.{frame_of, ScopesFit}
-use Rattle.bsv_typing.proofs.Bound.{both_true}
 use Rattle.bsv_statements.proofs.RightScopes.{frame_opened, opened_fit}
 use Rattle.bsv_statements.proofs.RightCalls.{ok_is, went, has_true, kind_right}
 use Rattle.bsv_statements.proofs.RightStatements.{if_right_true}
@@ -57,7 +57,7 @@ module _ (w : World) (headers : List rules.Header) (wanted : List Signature) (rs
 
   if_typed : (frame : Frame) (bs : List ModuleBranch) (o : Option ModuleStmt) → typed.all_inner (map branch_in bs) frame ≡ true → last_right o frame ≡ true → ran (If bs o) frame ≡ Some frame
   if_typed frame bs o all last =
-      if_is frame bs o ∙ if_right_true (typed.all_inner (map branch_in bs) frame && last_right o frame) frame (both_true (typed.all_inner (map branch_in bs) frame) (last_right o frame) all last)
+      if_is frame bs o ∙ if_right_true (typed.all_inner (map branch_in bs) frame && last_right o frame) frame (and_from (typed.all_inner (map branch_in bs) frame) (last_right o frame) all last)
 
   for_typed : (frame inner next : Frame) (head : Head) (y : ModuleStmt) → typed.in_loop w 0 head frame ≡ Some inner → ran y inner ≡ Some next → ran (For head y) frame ≡ Some frame
   for_typed frame inner next head y enters h =
@@ -182,7 +182,7 @@ module _ (w : World) (headers : List rules.Header) (wanted : List Signature) whe
         right = λ rs ms later.
             let others = subst (λ z. typed.all_inner (map (branch_in w headers wanted rs ms) more.0.1) (frame_of z) ≡ true) h.same (g.right rs ms later) in
             let first = branch_typed w headers wanted rs ms (frame_of st.scopes) t r.0.1 asks.0 (h.right rs ms (g.earlier rs ms later)) in
-            both_true (typed.inner (branch_in w headers wanted rs ms (branch t r.0.1)) (frame_of st.scopes)) (typed.all_inner (map (branch_in w headers wanted rs ms) more.0.1) (frame_of st.scopes)) first others;
+            and_from (typed.inner (branch_in w headers wanted rs ms (branch t r.0.1)) (frame_of st.scopes)) (typed.all_inner (map (branch_in w headers wanted rs ms) more.0.1) (frame_of st.scopes)) first others;
         earlier = λ rs ms later. h.earlier rs ms (g.earlier rs ms later);
       })
   arms_ran [] xs st q asks good fit e = no_arms st q e

@@ -3,8 +3,9 @@ use Rattle.std.proofs.Common.{◌≡◌, ◌∙◌, ℕ, ◌+◌, Bool, true, fa
 use Rattle.std.specs.Prelude.{nat_le}
 use Rattle.std.specs.List.{list_all}
 use Rattle.std.specs.Str.{bytes_eq}
-use Rattle.std.proofs.lemmas.Bool.{eq-eqb}
+use Rattle.std.proofs.lemmas.Bool.{eq-eqb, and_parts, and_from, or_left, or_right}
 use Rattle.std.proofs.lemmas.List.{map-append}
+use Rattle.std.proofs.lemmas.Option.{same_Some}
 use Rattle.bsv_ast.specs.Names.{is_lower, is_upper}
 use Rattle.bsv_ast.specs.declared.text.Span.{Span}
 use Rattle.bsv_ast.specs.declared.text.Ident.{Ident}
@@ -32,26 +33,22 @@ use Rattle.bsv_types.specs.Methods.{Effect, value, action, action_value, effect,
 use Rattle.bsv_types.specs.Operators.{◌>>=◌}
 use Rattle.bsv_types.specs.Names.{distinct, lower_names}
 use Rattle.bsv_types.specs.Programs.{begins_empty, effect_right, method_header_right}
-use Rattle.bsv_types.proofs.Same.{both}
 use Rattle.bsv_scopes.specs.Scopes.{is_defined, is_listed, with_name}
 use Rattle.bsv_context.specs.Env.{has_bits}
 use Rattle.bsv_context.specs.Written.{TypeNames, with_bits, written, Argument, of_type, number, argument, value_effect, action_effect, effect_in, written_effect}
-use Rattle.bsv_statements.specs.Bodies.{Or, sure}
-use Rattle.bsv_typing.proofs.Bound.{some_is, taken, both_true}
+use Rattle.bsv_statements.specs.Bodies.{Or}
+use Rattle.bsv_typing.proofs.Bound.{taken}
 use Rattle.bsv_typing.proofs.Typings.{kind_back}
 use Rattle.bsv_statements.proofs.RightCalls.{ok_is, went, there_is, passed}
 use Rattle.bsv_modules.specs.Growing.{Grows}
 use Rattle.bsv_modules.specs.Modules.{param, param_at, params_at, are_named, method_result}
 use Rattle.bsv_modules.specs.Programs.{Types, shapes_of, type_names, with_type, field_at, fields_at, field_names, width_passes, struct_named, is_struct, struct_at, with_struct, struct_case, typedef_case, header_at, headers_at, header_names, interface_named, interface_of, with_interface, interface_case, types_behind}
 use Rattle.bsv_modules.proofs.Growth.{bits_kept, widths_kept}
-use Rattle.bsv_modules.proofs.Entries.{any_left, any_right, not_listed, distinct_with, defined_now, all_defined_more}
+use Rattle.bsv_modules.proofs.Entries.{not_listed, distinct_with, defined_now, all_defined_more}
 use Rattle.bsv_modules.proofs.RightWritten.{has_bits_is}
 use Rattle.bsv_modules.proofs.RightTypes.{struct_kept, interface_kept, enum_names, struct_names, interface_names, names_in, Kept, slot_kept, structs_stay, interface_stays, interfaces_stay, all_with, each_with, all_within, types_with}
 use Rattle.bsv_modules.proofs.RightDefinitions.{Steps, same_shapes, with_type_is, last_within, alias_right, enum_right}
-
-pub sure_is : {A : Type 0} (s : Span) (b : Bool) (x y : A) → sure s b x ≡ Ok y → (b ≡ true) × (x ≡ y)
-sure_is s true x y e = (refl, ok_is x y e)
-sure_is s false x y e = absurd cc
+use Rattle.bsv_modules.proofs.RightMethods.{sure_is}
 
 -- ---- fields
 
@@ -71,7 +68,7 @@ module _ (types : TypeNames) (strict : types.limits.strict ≡ true) where
       let f = went (field_at types p x) _ fs e in
       let rest = went (fields_at types p xs) _ fs f.2 in
       subst (λ ds. list_all (ranged.has_bits s) (field_kinds ds) ≡ true) (ok_is (f.0 ∷ rest.0) fs rest.2)
-      (both_true (ranged.has_bits s (kind f.0.ty)) (list_all (ranged.has_bits s) (field_kinds rest.0)) (field_right p x f.0 f.1) (fields_right p xs rest.0 rest.1))
+      (and_from (ranged.has_bits s (kind f.0.ty)) (list_all (ranged.has_bits s) (field_kinds rest.0)) (field_right p x f.0 f.1) (fields_right p xs rest.0 rest.1))
 
   -- ---- the headers of methods
 
@@ -87,12 +84,12 @@ module _ (types : TypeNames) (strict : types.limits.strict ≡ true) where
       let y = went (param_at types (has_bits types.limits) p x) _ ps e in
       let rest = went (params_at types (has_bits types.limits) p xs) _ ps y.2 in
       subst (λ ds. list_all (ranged.has_bits s) (param_kinds ds) ≡ true) (ok_is (y.0 ∷ rest.0) ps rest.2)
-      (both_true (ranged.has_bits s (kind y.0.ty)) (list_all (ranged.has_bits s) (param_kinds rest.0)) (param_right p x y.0 y.1) (params_right p xs rest.0 rest.1))
+      (and_from (ranged.has_bits s (kind y.0.ty)) (list_all (ranged.has_bits s) (param_kinds rest.0)) (param_right p x y.0 y.1) (params_right p xs rest.0 rest.1))
 
   pub with_bits_is : (k j : Kind) → with_bits types.limits k ≡ Some j → ranged.has_bits s j ≡ true
   with_bits_is k j e = by (has_bits types.limits k) refl e where
     by : (b : Bool) → has_bits types.limits k ≡ b → cond b (Some k) None ≡ Some j → ranged.has_bits s j ≡ true
-    by true is e = subst (λ i. ranged.has_bits s i ≡ true) (some_is k j e) (has_bits_is types.limits k strict is)
+    by true is e = subst (λ i. ranged.has_bits s i ≡ true) (same_Some k j e) (has_bits_is types.limits k strict is)
     by false is e = absurd cc
 
   abbrev pub EffectRight : Option Effect → Type 0
@@ -102,21 +99,21 @@ module _ (types : TypeNames) (strict : types.limits.strict ≡ true) where
   value_is t e is =
       let j = taken (t >>= with_bits types.limits) (λ k. Some (value k)) e is in
       let k = taken t (with_bits types.limits) j.0 j.1 in
-      subst (λ x. effect_right s x ≡ true) (some_is (value j.0) e j.2) (with_bits_is k.0 j.0 k.2)
+      subst (λ x. effect_right s x ≡ true) (same_Some (value j.0) e j.2) (with_bits_is k.0 j.0 k.2)
 
   acting_is : (x : Argument) → EffectRight (action_effect types.limits x)
   acting_is (number n) e is = absurd cc
   acting_is (of_type t) e is =
       let j = taken (t >>= with_bits types.limits) (λ k. Some (action_value k)) e is in
       let k = taken t (with_bits types.limits) j.0 j.1 in
-      subst (λ x. effect_right s x ≡ true) (some_is (action_value j.0) e j.2) (with_bits_is k.0 j.0 k.2)
+      subst (λ x. effect_right s x ≡ true) (same_Some (action_value j.0) e j.2) (with_bits_is k.0 j.0 k.2)
 
   by_test : (b : Bool) (x y : Option Effect) → EffectRight x → EffectRight y → EffectRight (cond b x y)
   by_test true x y h k = h
   by_test false x y h k = k
 
   acts : EffectRight (Some action)
-  acts e is = subst (λ x. effect_right s x ≡ true) (some_is action e is) refl
+  acts e is = subst (λ x. effect_right s x ≡ true) (same_Some action e is) refl
 
   effect_of : (t : WrittenType) (x : WrittenType-F TypeArgument WrittenType) → EffectRight (effect_in types t x)
   effect_of t (WrittenType-F.Named p name) = by_test (bytes_eq name.name (codes "Action")) (Some action) (value_effect types.limits (written types t)) acts (value_is (written types t))
@@ -135,8 +132,8 @@ module _ (types : TypeNames) (strict : types.limits.strict ≡ true) where
       let made : MethodHeader = record { name = x.name.name; params = ps.0; result = method_result f.0 } in
       let h = sure_is p (is_lower x.name.name && are_named ps.0) made m f.2 in
       subst (λ d. method_header_right s d ≡ true) h.1
-      (both_true (is_lower x.name.name && are_named ps.0 && list_all (ranged.has_bits s) (param_kinds ps.0)) (effect_right s (effect made.result))
-      (both_true (is_lower x.name.name && are_named ps.0) (list_all (ranged.has_bits s) (param_kinds ps.0)) h.0 (params_right p x.params ps.0 ps.1))
+      (and_from (is_lower x.name.name && are_named ps.0 && list_all (ranged.has_bits s) (param_kinds ps.0)) (effect_right s (effect made.result))
+      (and_from (is_lower x.name.name && are_named ps.0) (list_all (ranged.has_bits s) (param_kinds ps.0)) h.0 (params_right p x.params ps.0 ps.1))
       (ap (effect_right s) (effect_back f.0) ∙ effect_of x.result (out-WrittenType x.result) f.0 f.1))
 
   pub headers_right : (p : Span) (xs : List WrittenHeader) (ms : List MethodHeader) → headers_at types p xs ≡ Ok ms → list_all (method_header_right s) ms ≡ true
@@ -145,7 +142,7 @@ module _ (types : TypeNames) (strict : types.limits.strict ≡ true) where
       let m = went (header_at types p x) _ ms e in
       let rest = went (headers_at types p xs) _ ms m.2 in
       subst (λ ds. list_all (method_header_right s) ds ≡ true) (ok_is (m.0 ∷ rest.0) ms rest.2)
-      (both_true (method_header_right s m.0) (list_all (method_header_right s) rest.0) (header_right p x m.0 m.1) (headers_right p xs rest.0 rest.1))
+      (and_from (method_header_right s m.0) (list_all (method_header_right s) rest.0) (header_right p x m.0 m.1) (headers_right p xs rest.0 rest.1))
 
 -- ---- a struct
 
@@ -178,7 +175,7 @@ module _ (t : Types) (kept : Kept t) (x : Struct) where
         structs = each_with (struct_kept (shapes_of behind)) 0 t.structs x (structs_stay (shapes_of t) (shapes_of behind) more 0 t.structs kept.structs) (subst (λ k. struct_kept (shapes_of behind) k x ≡ true) none_before right);
         interfaces = interfaces_stay (shapes_of t) (shapes_of behind) more t.interfaces kept.interfaces;
         empty = kept.empty;
-        types = types_with (shapes_of behind) x.name (struct n) t.names (λ m k is. slot_kept (shapes_of t) (shapes_of behind) more k (kept.types m k is)) (any_left (is_value (shapes_of behind) (struct n)) (is_instance (shapes_of behind) (struct n)) (last_within t.structs x));
+        types = types_with (shapes_of behind) x.name (struct n) t.names (λ m k is. slot_kept (shapes_of t) (shapes_of behind) more k (kept.types m k is)) (or_left (is_value (shapes_of behind) (struct n)) (is_instance (shapes_of behind) (struct n)) (last_within t.structs x));
         label = kept.label;
         names = subst (λ ns. distinct ns ≡ true) (sym names_are)
             (distinct_with x.name front back kept.names (not_listed (λ m. is_defined m t.names) x.name (names_in t) kept.named unnamed));
@@ -191,8 +188,8 @@ module _ (t : Types) (kept : Kept t) (x : Struct) where
 fields_bits : (s z : Shapes) → Grows s z → (ks : List Kind) → list_all (ranged.has_bits s) ks ≡ true → list_all (is_bits z (length s.structs)) ks ≡ true
 fields_bits s z more [] e = refl
 fields_bits s z more (k ∷ ks) e =
-    let h = both (ranged.has_bits s k) (list_all (ranged.has_bits s) ks) e in
-    both_true (is_bits z (length s.structs) k) (list_all (is_bits z (length s.structs)) ks) (bits_kept s z more (length s.structs) (length s.structs) k (omega arith) h.0) (fields_bits s z more ks h.1)
+    let h = and_parts (ranged.has_bits s k) (list_all (ranged.has_bits s) ks) e in
+    and_from (is_bits z (length s.structs) k) (list_all (is_bits z (length s.structs)) ks) (bits_kept s z more (length s.structs) (length s.structs) k (omega arith) h.0) (fields_bits s z more ks h.1)
 
 range_is : (strict : Bool) (w : ℕ) → strict ≡ true → width_passes strict w ≡ true → in_range w ≡ true
 range_is true w is e = e
@@ -214,8 +211,8 @@ made_so s name xs t x strict e =
     let named = passed s (is_struct name fs.0) true _ x fs.2 in
     let w = there_is s (widths_by t.enums t.structs (field_kinds fs.0)) _ x named.1 in
     let range = sure_is s (width_passes t.strict w.0) (struct_named name fs.0 w.0) x w.2 in
-    let b = both (is_upper name && nat_le 1 (length fs.0)) (lower_names (field_names fs.0)) named.0 in
-    let a = both (is_upper name) (nat_le 1 (length fs.0)) b.0 in
+    let b = and_parts (is_upper name && nat_le 1 (length fs.0)) (lower_names (field_names fs.0)) named.0 in
+    let a = and_parts (is_upper name) (nat_le 1 (length fs.0)) b.0 in
     subst (Made s name xs t) range.1 (record { fields = fields_right (type_names t) strict s xs fs.0 fs.1; named = refl; upper = a.0; lower = b.1; widths = w.1; range = range.0 })
 
 pub struct_right : (s : Span) (name : Ident) (xs : List WrittenField) (t next : Types) → Kept t → struct_case s name xs t ≡ Ok next → Steps t next
@@ -229,9 +226,9 @@ struct_right s name xs t next kept e =
     let front = is_upper x.0.name && lower_names (map (λ f. f.name) x.0.fields) in
     let bits = fields_bits (shapes_of t) z (more t kept x.0) ks made.fields in
     let widths = widths_kept (shapes_of t) z (more t kept x.0) ks x.0.width made.widths in
-    let right = both_true (front && list_all (is_bits z (length t.structs)) ks && in_range x.0.width) (is_width (widths_by z.enums z.structs ks) x.0.width)
-    (both_true (front && list_all (is_bits z (length t.structs)) ks) (in_range x.0.width)
-    (both_true front (list_all (is_bits z (length t.structs)) ks) (both_true (is_upper x.0.name) (lower_names (map (λ f. f.name) x.0.fields)) made.upper made.lower) bits)
+    let right = and_from (front && list_all (is_bits z (length t.structs)) ks && in_range x.0.width) (is_width (widths_by z.enums z.structs ks) x.0.width)
+    (and_from (front && list_all (is_bits z (length t.structs)) ks) (in_range x.0.width)
+    (and_from front (list_all (is_bits z (length t.structs)) ks) (and_from (is_upper x.0.name) (lower_names (map (λ f. f.name) x.0.fields)) made.upper made.lower) bits)
     (range_is t.strict x.0.width kept.strict made.range))
     (ap (λ o. is_width o x.0.width) widths ∙ eq-eqb x.0.width x.0.width refl) in
     let new = ap (λ n. is_defined n t.names) made.named ∙ is.0 in
@@ -274,7 +271,7 @@ module _ (t : Types) (kept : Kept t) (x : Interface) where
     structs = structs_stay (shapes_of t) (shapes_of beyond) wider 0 t.structs kept.structs;
     interfaces = all_with (interface_kept (shapes_of beyond)) t.interfaces x (interfaces_stay (shapes_of t) (shapes_of beyond) wider t.interfaces kept.interfaces) right;
     empty = begins_more t.interfaces x kept.empty;
-    types = types_with (shapes_of beyond) x.name (interface m) t.names (λ n k is. slot_kept (shapes_of t) (shapes_of beyond) wider k (kept.types n k is)) (any_right (is_value (shapes_of beyond) (interface m)) (is_instance (shapes_of beyond) (interface m)) (last_within t.interfaces x));
+    types = types_with (shapes_of beyond) x.name (interface m) t.names (λ n k is. slot_kept (shapes_of t) (shapes_of beyond) wider k (kept.types n k is)) (or_right (is_value (shapes_of beyond) (interface m)) (is_instance (shapes_of beyond) (interface m)) (last_within t.interfaces x));
     label = kept.label;
     names = subst (λ ns. distinct ns ≡ true) (sym names_are_so)
         (distinct_with x.name front [] (ap distinct whole ∙ kept.names) (ap (is_listed x.name) whole ∙ not_listed (λ n. is_defined n t.names) x.name (names_in t) kept.named unnamed));
@@ -296,7 +293,7 @@ made_of_so i t x strict e =
     let named = sure_is i.span (is_upper i.name.name && distinct (header_names hs.0)) (interface_named i.name.name hs.0) x hs.2 in
     subst (MadeOf i t) named.1 (record {
       called = refl;
-      kept_so = both_true (is_upper i.name.name && distinct (header_names hs.0)) (list_all (method_header_right (shapes_of t)) hs.0) named.0 (headers_right (type_names t) strict i.span i.methods hs.0 hs.1);
+      kept_so = and_from (is_upper i.name.name && distinct (header_names hs.0)) (list_all (method_header_right (shapes_of t)) hs.0) named.0 (headers_right (type_names t) strict i.span i.methods hs.0 hs.1);
     })
 
 pub interface_right : (i : WrittenInterface) (t next : Types) → Kept t → interface_case i t ≡ Ok next → Steps t next

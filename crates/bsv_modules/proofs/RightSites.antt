@@ -2,7 +2,8 @@
 use Rattle.std.proofs.Common.{◌≡◌, ◌∙◌, ℕ, Bool, true, false, cond, List, [], ◌∷◌, length, Option, Some, None, refl, sym, subst, arith}
 use Rattle.std.specs.Prelude.{nat_lt, slice_get, codes}
 use Rattle.std.specs.Str.{bytes_eq}
-use Rattle.std.proofs.lemmas.Bool.{lt-ltb}
+use Rattle.std.proofs.lemmas.Bool.{lt-ltb, and_parts}
+use Rattle.std.proofs.lemmas.Option.{same_Some}
 use Rattle.bsv_ast.specs.Names.{is_lower}
 use Rattle.bsv_ast.specs.declared.types.WrittenType.{WrittenType, out-WrittenType, map-WrittenType, fold_out-WrittenType}
 use Rattle.bsv_ast.specs.declared.types.TypeArgument.{TypeArgument}
@@ -17,11 +18,10 @@ use Rattle.bsv_types.specs.Methods.{Signature}
 use Rattle.bsv_types.specs.Expressions.{one, World}
 use Rattle.bsv_types.specs.Modules as rules
 use Rattle.bsv_types.specs.Programs.{begins_empty, shapes_right}
-use Rattle.bsv_types.proofs.Same.{both}
 use Rattle.bsv_context.specs.Env.{has_bits}
 use Rattle.bsv_context.specs.Written.{TypeNames, Argument, of_type, number, with_bits, plain_type, sized_type, widest, part_over, type_over, written_step, argument_step, written, argument}
 use Rattle.bsv_typing.specs.Laws.{slot_right, FitsWorld}
-use Rattle.bsv_typing.proofs.Bound.{some_is, taken, tested_step}
+use Rattle.bsv_typing.proofs.Bound.{taken, tested_step}
 use Rattle.bsv_typing.proofs.RightOperands.{strictly}
 use Rattle.bsv_typing.proofs.RightGiven.{bits_value}
 use Rattle.bsv_statements.proofs.RightStatements.{value_slot_right}
@@ -37,12 +37,12 @@ pub record FitsSite (site : Site) (w : World) (headers : List rules.Header) : Ty
   pub lower : (n : ℕ) (q : Signature) → slice_get site.wanted n ≡ Some q → is_lower q.name ≡ true
 
 -- the first interface is there
-first_there : (faces : List Interface) → begins_empty faces ≡ true → nat_lt 0 (length faces) ≡ true
+pub first_there : (faces : List Interface) → begins_empty faces ≡ true → nat_lt 0 (length faces) ≡ true
 first_there [] e = absurd cc
 first_there (i ∷ faces) e = lt-ltb 0 (length (i ∷ faces)) (omega arith)
 
 empty_right : (s : Shapes) → shapes_right s ≡ true → slot_right s (one (interface 0)) ≡ true
-empty_right s right = first_there s.interfaces (both _ (begins_empty s.interfaces) right).1
+empty_right s right = first_there s.interfaces (and_parts _ (begins_empty s.interfaces) right).1
 
 module _ (w : World) (named : List ℕ → Option Kind) (right : shapes_right w.shapes ≡ true) (types : (name : List ℕ) (k : Kind) → named name ≡ Some k → slot_right w.shapes (one k) ≡ true) where
   abbrev names : TypeNames
@@ -55,7 +55,7 @@ module _ (w : World) (named : List ℕ → Option Kind) (right : shapes_right w.
   unfolding has_bits
   bits_right k j e =
       let h = tested_step (ranged.has_bits w.shapes k) (Some k) j e in
-      value_slot_right w.shapes j (subst (λ i. ranged.is_value w.shapes i ≡ true) (some_is k j h.1) (bits_value w.shapes k h.0))
+      value_slot_right w.shapes j (subst (λ i. ranged.is_value w.shapes i ≡ true) (same_Some k j h.1) (bits_value w.shapes k h.0))
 
   -- one of two
   either : (b : Bool) (o p : Option Kind) → Right o → Right p → Right (cond b o p)
@@ -63,7 +63,7 @@ module _ (w : World) (named : List ℕ → Option Kind) (right : shapes_right w.
   either false o p h g = g
 
   just : (k : Kind) → slot_right w.shapes (one k) ≡ true → Right (Some k)
-  just k h j e = subst (λ i. slot_right w.shapes (one i) ≡ true) (some_is k j e) h
+  just k h j e = subst (λ i. slot_right w.shapes (one i) ≡ true) (same_Some k j e) h
 
   no_kind : Right None
   no_kind k e = absurd cc
@@ -85,7 +85,7 @@ module _ (w : World) (named : List ℕ → Option Kind) (right : shapes_right w.
   unfolding has_bits
   part_right p k there j e =
       let h = tested_step (ranged.has_bits w.shapes (widest p k)) (Some (part p k)) j e in
-      subst (λ i. slot_right w.shapes (one i) ≡ true) (some_is (part p k) j h.1) (there h.0)
+      subst (λ i. slot_right w.shapes (one i) ≡ true) (same_Some (part p k) j h.1) (there h.0)
 
   over_right : (name : List ℕ) (k : Kind) → Right (type_over (strictly w) name k)
   over_right name k =

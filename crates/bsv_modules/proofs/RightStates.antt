@@ -1,6 +1,7 @@
 -- What stood in a module stands in it later, and statements that define a variable or nothing are in order.
-use Rattle.std.proofs.Common.{◌≡◌, ◌∙◌, ℕ, zero, suc, true, List, [], ◌∷◌, ◌++◌, length, Option, Some, None, Ok, refl, sym, ap, subst}
+use Rattle.std.proofs.Common.{◌≡◌, ◌∙◌, ℕ, zero, suc, true, List, [], ◌∷◌, ◌++◌, Option, Some, None, Ok, refl, sym, ap, subst}
 use Rattle.std.specs.Prelude.{slice_get, slice_set}
+use Rattle.std.proofs.lemmas.Option.{same_Some}
 use Rattle.bsv_scopes.specs.Scopes.{closed}
 use Rattle.bsv_types.specs.declared.modules.Rule.{Rule}
 use Rattle.bsv_types.specs.declared.modules.Method.{Method}
@@ -11,22 +12,12 @@ use Rattle.bsv_types.specs.Statements as typed
 use Rattle.bsv_types.specs.Modules as rules
 use Rattle.bsv_statements.specs.Bodies.{Or, Scopes}
 use Rattle.bsv_statements.specs.Laws.{frame_of, ScopesFit}
-use Rattle.bsv_typing.proofs.Bound.{some_is}
 use Rattle.bsv_statements.proofs.RightCalls.{ok_is}
 use Rattle.bsv_statements.proofs.RightScopes.{Defined}
 use Rattle.bsv_modules.specs.Modules.{Run, State, scoped, is_free}
 use Rattle.bsv_modules.proofs.RightMakers.{typed_site}
 
 -- ---- lists that grow, and places that are taken
-
-pub kept_left : {A : Type 0} (xs ys : List A) (n : ℕ) (x : A) → slice_get xs n ≡ Some x → slice_get (xs ++ ys) n ≡ Some x
-kept_left [] ys n x e = absurd cc
-kept_left (y ∷ xs) ys zero x e = e
-kept_left (y ∷ xs) ys (suc n) x e = kept_left xs ys n x e
-
-pub last_there : {A : Type 0} (xs : List A) (x : A) → slice_get (xs ++ x ∷ []) (length xs) ≡ Some x
-last_there [] x = refl
-last_there (y ∷ xs) x = last_there xs x
 
 pub set_there : (ms : List (Option Method)) (n : ℕ) (m : Method) → is_free n ms ≡ true → slice_get (slice_set ms n (Some m)) n ≡ Some (Some m)
 set_there [] n m free = absurd cc
@@ -35,7 +26,7 @@ set_there (x ∷ ms) (suc n) m free = set_there ms n m free
 
 pub set_kept : (ms : List (Option Method)) (n k : ℕ) (m old : Method) → is_free n ms ≡ true → slice_get ms k ≡ Some (Some old) → slice_get (slice_set ms n (Some m)) k ≡ Some (Some old)
 set_kept [] n k m old free is = absurd cc
-set_kept (None ∷ ms) zero zero m old free is = let never : None ≡ Some old = some_is None (Some old) is in absurd cc
+set_kept (None ∷ ms) zero zero m old free is = let never : None ≡ Some old = same_Some None (Some old) is in absurd cc
 set_kept (Some x ∷ ms) zero zero m old free is = absurd cc
 set_kept (x ∷ ms) zero (suc k) m old free is = is
 set_kept (x ∷ ms) (suc n) zero m old free is = is

@@ -3,6 +3,8 @@ use Rattle.std.proofs.Common.{◌≡◌, ◌∙◌, ℕ, suc, ◌+◌, Bool, tru
 use Rattle.std.specs.Prelude.{nat_lt, slice_get}
 use Rattle.std.specs.List.{list_all}
 use Rattle.std.proofs.lemmas.List.Folds.{list_all-append}
+use Rattle.std.proofs.lemmas.Bool.{and_parts, and_from, or_left, or_right}
+use Rattle.std.proofs.lemmas.Option.{same_Some}
 use Rattle.bsv_ast.specs.Names.{is_lower, is_upper}
 use Rattle.bsv_types.specs.declared.definitions.Enum.{Enum}
 use Rattle.bsv_types.specs.declared.definitions.Struct.{Struct}
@@ -16,15 +18,13 @@ use Rattle.bsv_types.specs.Expressions.{one, label_count}
 use Rattle.bsv_types.specs.Names.{distinct, lower_names}
 use Rattle.bsv_types.specs.Modules.{param_names}
 use Rattle.bsv_types.specs.Programs.{each_at, begins_empty, method_header_right}
-use Rattle.bsv_types.proofs.Same.{both}
 use Rattle.bsv_scopes.specs.Scopes.{Entries, found, is_defined, with_name}
 use Rattle.bsv_typing.specs.Laws.{slot_right}
-use Rattle.bsv_typing.proofs.Bound.{some_is, both_true}
 use Rattle.bsv_modules.specs.Growing.{Grows}
 use Rattle.bsv_modules.specs.Programs.{Types, shapes_of, added}
 use Rattle.bsv_modules.proofs.RightEnums.{enum_kept}
 use Rattle.bsv_modules.proofs.Growth.{widths_kept, bits_kept, value_kept, instance_kept, all_kept, effect_kept}
-use Rattle.bsv_modules.proofs.Entries.{found_more, any_left, any_right}
+use Rattle.bsv_modules.proofs.Entries.{found_more}
 
 -- a struct in order, but for how many fields it has
 abbrev pub struct_kept : Shapes → ℕ → Struct → Bool
@@ -70,8 +70,8 @@ module _ (s z : Shapes) (more : Grows s z) where
   pub slot_kept : (k : Kind) → slot_right s (one k) ≡ true → slot_right z (one k) ≡ true
   slot_kept k e = by (is_value s k) refl e where
     by : (b : Bool) → is_value s k ≡ b → (b || is_instance s k) ≡ true → slot_right z (one k) ≡ true
-    by true is e = any_left (is_value z k) (is_instance z k) (value_kept s z more k is)
-    by false is e = any_right (is_value z k) (is_instance z k) (instance_kept s z more k e)
+    by true is e = or_left (is_value z k) (is_instance z k) (value_kept s z more k is)
+    by false is e = or_right (is_value z k) (is_instance z k) (instance_kept s z more k e)
 
   has_width : (o : Option ℕ) (n : ℕ) → is_width o n ≡ true → (m : ℕ) × (o ≡ Some m)
   has_width None n e = absurd cc
@@ -80,75 +80,75 @@ module _ (s z : Shapes) (more : Grows s z) where
   fields_kept : (number : ℕ) (ks : List Kind) → list_all (is_bits s number) ks ≡ true → list_all (is_bits z number) ks ≡ true
   fields_kept number [] e = refl
   fields_kept number (k ∷ ks) e =
-      let h = both (is_bits s number k) (list_all (is_bits s number) ks) e in
-      both_true (is_bits z number k) (list_all (is_bits z number) ks) (bits_kept s z more number number k (omega arith) h.0) (fields_kept number ks h.1)
+      let h = and_parts (is_bits s number k) (list_all (is_bits s number) ks) e in
+      and_from (is_bits z number k) (list_all (is_bits z number) ks) (bits_kept s z more number number k (omega arith) h.0) (fields_kept number ks h.1)
 
   struct_stays : (number : ℕ) (t : Struct) → struct_kept s number t ≡ true → struct_kept z number t ≡ true
   struct_stays number t e =
       let front = is_upper t.name && lower_names (map (λ f. f.name) t.fields) in
       let ks = field_kinds t.fields in
-      let d = both (front && list_all (is_bits s number) ks && in_range t.width) (is_width (widths_by s.enums s.structs ks) t.width) e in
-      let c = both (front && list_all (is_bits s number) ks) (in_range t.width) d.0 in
-      let b = both front (list_all (is_bits s number) ks) c.0 in
+      let d = and_parts (front && list_all (is_bits s number) ks && in_range t.width) (is_width (widths_by s.enums s.structs ks) t.width) e in
+      let c = and_parts (front && list_all (is_bits s number) ks) (in_range t.width) d.0 in
+      let b = and_parts front (list_all (is_bits s number) ks) c.0 in
       let w = has_width (widths_by s.enums s.structs ks) t.width d.1 in
-      both_true (front && list_all (is_bits z number) ks && in_range t.width) (is_width (widths_by z.enums z.structs ks) t.width)
-      (both_true (front && list_all (is_bits z number) ks) (in_range t.width) (both_true front (list_all (is_bits z number) ks) b.0 (fields_kept number ks b.1)) c.1)
+      and_from (front && list_all (is_bits z number) ks && in_range t.width) (is_width (widths_by z.enums z.structs ks) t.width)
+      (and_from (front && list_all (is_bits z number) ks) (in_range t.width) (and_from front (list_all (is_bits z number) ks) b.0 (fields_kept number ks b.1)) c.1)
       (ap (λ o. is_width o t.width) (widths_kept s z more ks w.0 w.1 ∙ sym w.1) ∙ d.1)
 
   pub structs_stay : (first : ℕ) (ts : List Struct) → each_at (struct_kept s) first ts ≡ true → each_at (struct_kept z) first ts ≡ true
   structs_stay first [] e = refl
   structs_stay first (t ∷ ts) e =
-      let h = both (struct_kept s first t) (each_at (struct_kept s) (first + 1) ts) e in
-      both_true (struct_kept z first t) (each_at (struct_kept z) (first + 1) ts) (struct_stays first t h.0) (structs_stay (first + 1) ts h.1)
+      let h = and_parts (struct_kept s first t) (each_at (struct_kept s) (first + 1) ts) e in
+      and_from (struct_kept z first t) (each_at (struct_kept z) (first + 1) ts) (struct_stays first t h.0) (structs_stay (first + 1) ts h.1)
 
   header_stays : (h : MethodHeader) → method_header_right s h ≡ true → method_header_right z h ≡ true
   header_stays h e =
       let front = is_lower h.name && lower_names (param_names h.params) in
-      let c = both (front && list_all (has_bits s) (param_kinds h.params)) _ e in
-      let b = both front (list_all (has_bits s) (param_kinds h.params)) c.0 in
-      both_true (front && list_all (has_bits z) (param_kinds h.params)) _ (both_true front (list_all (has_bits z) (param_kinds h.params)) b.0 (all_kept s z more (param_kinds h.params) b.1))
+      let c = and_parts (front && list_all (has_bits s) (param_kinds h.params)) _ e in
+      let b = and_parts front (list_all (has_bits s) (param_kinds h.params)) c.0 in
+      and_from (front && list_all (has_bits z) (param_kinds h.params)) _ (and_from front (list_all (has_bits z) (param_kinds h.params)) b.0 (all_kept s z more (param_kinds h.params) b.1))
       (effect_kept s z more (effect h.result) c.1)
 
   headers_stay : (hs : List MethodHeader) → list_all (method_header_right s) hs ≡ true → list_all (method_header_right z) hs ≡ true
   headers_stay [] e = refl
   headers_stay (h ∷ hs) e =
-      let b = both (method_header_right s h) (list_all (method_header_right s) hs) e in
-      both_true (method_header_right z h) (list_all (method_header_right z) hs) (header_stays h b.0) (headers_stay hs b.1)
+      let b = and_parts (method_header_right s h) (list_all (method_header_right s) hs) e in
+      and_from (method_header_right z h) (list_all (method_header_right z) hs) (header_stays h b.0) (headers_stay hs b.1)
 
   pub interface_stays : (i : Interface) → interface_kept s i ≡ true → interface_kept z i ≡ true
   interface_stays i e =
       let front = is_upper i.name && distinct (map (λ h. h.name) i.methods) in
-      let b = both front (list_all (method_header_right s) i.methods) e in
-      both_true front (list_all (method_header_right z) i.methods) b.0 (headers_stay i.methods b.1)
+      let b = and_parts front (list_all (method_header_right s) i.methods) e in
+      and_from front (list_all (method_header_right z) i.methods) b.0 (headers_stay i.methods b.1)
 
   pub interfaces_stay : (is : List Interface) → list_all (interface_kept s) is ≡ true → list_all (interface_kept z) is ≡ true
   interfaces_stay [] e = refl
   interfaces_stay (i ∷ is) e =
-      let b = both (interface_kept s i) (list_all (interface_kept s) is) e in
-      both_true (interface_kept z i) (list_all (interface_kept z) is) (interface_stays i b.0) (interfaces_stay is b.1)
+      let b = and_parts (interface_kept s i) (list_all (interface_kept s) is) e in
+      and_from (interface_kept z i) (list_all (interface_kept z) is) (interface_stays i b.0) (interfaces_stay is b.1)
 
 -- ---- lists that grow by one
 
 pub all_with : {A : Type 0} (p : A → Bool) (xs : List A) (x : A) → list_all p xs ≡ true → p x ≡ true → list_all p (xs ++ x ∷ []) ≡ true
-all_with p [] x h k = both_true (p x) true k refl
-all_with p (y ∷ xs) x h k = let b = both (p y) (list_all p xs) h in both_true (p y) (list_all p (xs ++ x ∷ [])) b.0 (all_with p xs x b.1 k)
+all_with p [] x h k = and_from (p x) true k refl
+all_with p (y ∷ xs) x h k = let b = and_parts (p y) (list_all p xs) h in and_from (p y) (list_all p (xs ++ x ∷ [])) b.0 (all_with p xs x b.1 k)
 
 pub each_with : {A : Type 0} (p : ℕ → A → Bool) (first : ℕ) (xs : List A) (x : A) → each_at p first xs ≡ true → p (first + length xs) x ≡ true → each_at p first (xs ++ x ∷ []) ≡ true
-each_with p first [] x h k = let same : first + 0 ≡ first = omega arith in both_true (p first x) true (subst (λ n. p n x ≡ true) same k) refl
+each_with p first [] x h k = let same : first + 0 ≡ first = omega arith in and_from (p first x) true (subst (λ n. p n x ≡ true) same k) refl
 each_with p first (y ∷ xs) x h k =
-    let b = both (p first y) (each_at p (first + 1) xs) h in
+    let b = and_parts (p first y) (each_at p (first + 1) xs) h in
     let next : first + suc (length xs) ≡ first + 1 + length xs = omega arith in
-    both_true (p first y) (each_at p (first + 1) (xs ++ x ∷ [])) b.0 (each_with p (first + 1) xs x b.1 (subst (λ n. p n x ≡ true) next k))
+    and_from (p first y) (each_at p (first + 1) (xs ++ x ∷ [])) b.0 (each_with p (first + 1) xs x b.1 (subst (λ n. p n x ≡ true) next k))
 
 pub all_front : (p : List ℕ → Bool) (xs ys : List (List ℕ)) → list_all p (xs ++ ys) ≡ true → (list_all p xs ≡ true) × (list_all p ys ≡ true)
-all_front p xs ys e = both (list_all p xs) (list_all p ys) (sym (list_all-append p xs ys) ∙ e)
+all_front p xs ys e = and_parts (list_all p xs) (list_all p ys) (sym (list_all-append p xs ys) ∙ e)
 
 pub all_joined : (p : List ℕ → Bool) (xs ys : List (List ℕ)) → list_all p xs ≡ true → list_all p ys ≡ true → list_all p (xs ++ ys) ≡ true
-all_joined p xs ys h k = list_all-append p xs ys ∙ both_true (list_all p xs) (list_all p ys) h k
+all_joined p xs ys h k = list_all-append p xs ys ∙ and_from (list_all p xs) (list_all p ys) h k
 
 -- one name more among those that are there
 pub all_within : (p : List ℕ → Bool) (xs : List (List ℕ)) (m : List ℕ) (ys : List (List ℕ)) → list_all p (xs ++ ys) ≡ true → p m ≡ true → list_all p (xs ++ m ∷ ys) ≡ true
-all_within p xs m ys h k = let b = all_front p xs ys h in all_joined p xs (m ∷ ys) b.0 (both_true (p m) (list_all p ys) k b.1)
+all_within p xs m ys h k = let b = all_front p xs ys h in all_joined p xs (m ∷ ys) b.0 (and_from (p m) (list_all p ys) k b.1)
 
 -- ---- one name of a type more
 
@@ -160,7 +160,7 @@ unfolding added
 name_added name v es next e = by (is_defined name es) refl e where
   by : (b : Bool) → is_defined name es ≡ b → cond b None (Some (with_name name v es)) ≡ Some next → (is_defined name es ≡ false) × (with_name name v es ≡ next)
   by true is e = absurd cc
-  by false is e = (is, some_is (with_name name v es) next e)
+  by false is e = (is, same_Some (with_name name v es) next e)
 
 -- the types behind one more name
 pub types_with : (s : Shapes) (name : List ℕ) (k : Kind) (es : Entries Kind) → ((n : List ℕ) (j : Kind) → found n es ≡ Some j → slot_right s (one j) ≡ true) → slot_right s (one k) ≡ true → (n : List ℕ) (j : Kind) → found n (with_name name k es) ≡ Some j → slot_right s (one j) ≡ true

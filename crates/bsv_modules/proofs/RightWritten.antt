@@ -2,6 +2,7 @@
 use Rattle.std.proofs.Common.{◌≡◌, ◌∙◌, ℕ, Bool, true, false, cond, ◌&&◌, ◌||◌, List, codes, Option, Some, None, refl, sym, subst}
 use Rattle.std.specs.Prelude.{nat_lt, length, is_some}
 use Rattle.std.specs.Str.{bytes_eq}
+use Rattle.std.proofs.lemmas.Bool.{or_left, or_right}
 use Rattle.bsv_ast.specs.declared.types.WrittenType.{WrittenType, out-WrittenType, map-WrittenType, fold_out-WrittenType}
 use Rattle.bsv_ast.specs.declared.types.TypeArgument.{TypeArgument}
 use Rattle.bsv_ast.specs.declared.types.TypeArgument.TheOpen.{WrittenType-F}
@@ -16,7 +17,6 @@ use Rattle.bsv_context.specs.Env.{Limits, packed, has_bits, nests_within, most_m
 use Rattle.bsv_context.specs.Written.{TypeNames, with_bits, Argument, of_type, number, plain_type, sized_type, widest, part_over, type_over, applied_type, written_step, argument_step, written, argument}
 use Rattle.bsv_typing.specs.Laws.{slot_right}
 use Rattle.bsv_typing.proofs.RightGiven.{bits_value}
-use Rattle.bsv_modules.proofs.Entries.{any_left, any_right}
 
 -- a type of values or of instances
 abbrev pub InOrder : Shapes → Option Kind → Type 0
@@ -47,7 +47,7 @@ module _ (names : TypeNames) (right : Names names) where
   bits_right : (k : Kind) → InOrder s (with_bits names.limits k)
   bits_right k = by (has_bits names.limits k) refl where
     by : (b : Bool) → has_bits names.limits k ≡ b → InOrder s (cond b (Some k) None)
-    by true is = any_left (is_value s k) (is_instance s k) (bits_value s k (has_bits_is names.limits k right.strict is))
+    by true is = or_left (is_value s k) (is_instance s k) (bits_value s k (has_bits_is names.limits k right.strict is))
     by false is = tt
 
   named_right : (name : List ℕ) → InOrder s (names.named name)
@@ -60,7 +60,7 @@ module _ (names : TypeNames) (right : Names names) where
   plain_right name =
       by_test s (bytes_eq name (codes "Bool")) _ _ refl
       (by_test s (bytes_eq name (codes "Integer")) _ _ refl
-      (by_test s (bytes_eq name (codes "Empty")) _ _ (any_right (is_value s (interface 0)) (is_instance s (interface 0)) right.empty)
+      (by_test s (bytes_eq name (codes "Empty")) _ _ (or_right (is_value s (interface 0)) (is_instance s (interface 0)) right.empty)
       (by_test s (bytes_eq name (codes "PulseWire")) _ _ refl (named_right name))))
 
   sized_right : (name : List ℕ) (n : ℕ) → InOrder s (sized_type names.limits name n)
@@ -72,7 +72,7 @@ module _ (names : TypeNames) (right : Names names) where
   part_right : (p : PartTy) (k : Kind) → (ranged.has_bits s (widest p k) ≡ true → is_instance s (part p k) ≡ true) → InOrder s (part_over names.limits p k)
   part_right p k is_one = by (has_bits names.limits (widest p k)) refl where
     by : (b : Bool) → has_bits names.limits (widest p k) ≡ b → InOrder s (cond b (Some (part p k)) None)
-    by true is = any_right (is_value s (part p k)) (is_instance s (part p k)) (is_one (has_bits_is names.limits (widest p k) right.strict is))
+    by true is = or_right (is_value s (part p k)) (is_instance s (part p k)) (is_one (has_bits_is names.limits (widest p k) right.strict is))
     by false is = tt
 
   over_right : (name : List ℕ) (k : Kind) → InOrder s (type_over names.limits name k)

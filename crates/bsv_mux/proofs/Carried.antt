@@ -1,13 +1,13 @@
 -- The net with the next words of the registers carries the design: it tells what the net before told, and its next words
 -- show the parts behind the clock.
-use Rattle.std.proofs.Common.{◌≡◌, ◌∙◌, ◌<◌, ◌≤◌, ◌+◌, ◌⊎◌, inl, inr, ℕ, zero, suc, Bool, true, false, List, [], ◌∷◌, ◌++◌, Option, Some, None, is_some, refl, sym, ap, ap₂, subst, arith, length, map, drop, append-nil}
+use Rattle.std.proofs.Common.{◌≡◌, ◌∙◌, ◌<◌, ◌≤◌, ◌+◌, ◌⊎◌, inl, inr, ℕ, Bool, true, false, List, [], ◌∷◌, ◌++◌, Option, Some, None, is_some, refl, sym, ap, ap₂, subst, arith, length, map, drop, append-nil}
 use Rattle.std.specs.Prelude.{slice_get, nat_lt, if◌then◌else◌}
-use Rattle.std.proofs.Math.Nat.{ℕ_set}
 use Rattle.std.proofs.Math.Logic.{∥∥₁_elim}
 use Rattle.std.proofs.lemmas.Bool.{cases_lt, ltb-true}
-use mathlib.Core.Sum.{⊎_set}
 use Rattle.std.proofs.lemmas.List.{length-map}
-use Rattle.std.proofs.lemmas.Option.{slice_get_within, slice_get_past}
+use Rattle.std.proofs.lemmas.Option.{slice_get_within, slice_get_past, same_Some}
+use Rattle.bsv_lemmas.proofs.Places.{mapped_at, at_left, at_right, item_there}
+use Rattle.bsv_lemmas.proofs.Choices.{option_set}
 use Rattle.bsv_bits.specs.Words.{Bits, bit}
 use Rattle.bsv_prim.specs.Table.{word_at}
 use Rattle.bsv_prim.specs.declared.part.Part.{Part}
@@ -27,7 +27,6 @@ use Rattle.bsv_graph.specs.Edges.{numbers_below}
 use Rattle.bsv_graph.specs.Orders.{In}
 use Rattle.bsv_guard.specs.ElementLaws.{IsUse}
 use Rattle.bsv_guard.specs.Fitting.{HaveWidths}
-use Rattle.bsv_guard.proofs.Lists.{mapped_at}
 use Rattle.bsv_clock.specs.Hardware.{Cell, Given, Shows, TellsElements, TellsClock, Carries, cell, cells_of, cell_widths, inputs_of, input_widths}
 use Rattle.bsv_clock.specs.Clocks.{IsClock, is_in}
 use Rattle.bsv_clock.specs.Grounds.{BelongTogether, Fit, IsLawful, IsScheduleOf, KeepsRules}
@@ -59,19 +58,15 @@ use Rattle.bsv_net.proofs.WidthsFit.{cells_have, inputs_have}
 use Rattle.bsv_fire.proofs.Firings.{node_there}
 use Rattle.bsv_ports.proofs.Scene.{Scene, does, looks, TellsFiring, TellsSite}
 use Rattle.bsv_fire.proofs.GroundTold.{registers_within}
-use Rattle.bsv_net.proofs.Numbers.{count_below, got_before, got_behind, number_at}
-use Rattle.bsv_fire.proofs.Structure.{some_same}
+use Rattle.bsv_net.proofs.Numbers.{number_at}
 use Rattle.bsv_fire.proofs.Whole.{after_is, fired_is, fires_is, look_is}
 use Rattle.bsv_mux.specs.Nexts.{IsNextCircuit, Told, next_words, renamed, told, with_registers}
 use Rattle.bsv_mux.proofs.NextsTold.{NextsTold, nexts_grow, nexts_told, words_are}
 use Rattle.bsv_mux.proofs.Older.{Named, named, results_renamed, words_grown, words_long}
+use Rattle.bsv_graph.proofs.Below.{count_below}
+use Rattle.bsv_clock.proofs.Propositions.{bits_set}
 
 -- ---- lists
-
-there_is : {X : Type 0} (xs : List X) (n : ℕ) → n < length xs → (x : X) × (slice_get xs n ≡ Some x)
-there_is [] n l = absurd (omega arith)
-there_is (x ∷ xs) zero l = (x, refl)
-there_is (x ∷ xs) (suc n) l = there_is xs n (omega arith)
 
 -- ---- registers behind the nodes
 
@@ -84,14 +79,14 @@ module _ (ns : List NetNode) (count : ℕ) where
 
   pub register_stands : (k : ℕ) → k < count → slice_get (with_registers ns count) (length ns + k) ≡ Some (net.Register k)
   register_stands k l =
-      got_behind ns behind k
-      ∙ (got_before (map net.Register (numbers_below count)) (net.Constant (bit false) ∷ []) k (omega (arith, many))
+      at_right ns behind k
+      ∙ (at_left (map net.Register (numbers_below count)) (net.Constant (bit false) ∷ []) k (omega (arith, many))
       ∙ mapped_at net.Register (numbers_below count) k k (number_at count k l))
 
   pub zero_stands : slice_get (with_registers ns count) (length ns + count) ≡ Some (net.Constant (bit false))
   zero_stands =
-      got_behind ns behind count
-      ∙ (ap (slice_get behind) (omega (arith, many)) ∙ got_behind (map net.Register (numbers_below count)) (net.Constant (bit false) ∷ []) 0)
+      at_right ns behind count
+      ∙ (ap (slice_get behind) (omega (arith, many)) ∙ at_right (map net.Register (numbers_below count)) (net.Constant (bit false) ∷ []) 0)
 
 -- ---- a clock
 
@@ -170,7 +165,7 @@ module _ (b : Blueprint) (right : IsDesign b) (made : Schedule) (lawful : IsLawf
   same_word : (n : ℕ) → n < length old → at vs n ≡ at old n
   same_word n l =
       let g = words_grown c.nodes e.nodes grown_nodes (inputs_of T q) ws in
-      ap (λ (us : List Bits). at us n) g.1 ∙ ap or_zero (got_before old g.0 n l)
+      ap (λ (us : List Bits). at us n) g.1 ∙ ap or_zero (at_left old g.0 n l)
 
   names : Named vs old c
   names = named vs old before.widths (λ n l. same_word n (omega (arith, old_long, l))) c before.in_order
@@ -192,11 +187,11 @@ module _ (b : Blueprint) (right : IsDesign b) (made : Schedule) (lawful : IsLawf
     below n i = (execution_order T made scheduled).below n i
 
     old_node : (ns : List ℕ) (n : ℕ) (w : Bits) → n < length ns → slice_get (map (at old) ns) n ≡ Some w → at old (node_at ns n) ≡ w
-    old_node ns n w l h = some_same (at old (node_at ns n)) w (sym (mapped_at (at old) ns n (node_at ns n) (node_there ns n l)) ∙ h)
+    old_node ns n w l h = same_Some (at old (node_at ns n)) w (sym (mapped_at (at old) ns n (node_at ns n) (node_there ns n l)) ∙ h)
 
     new_node : (ns : List ℕ) (n : ℕ) (w : Bits) → n < length ns → map (at vs) ns ≡ map (at old) ns → slice_get (map (at old) ns) n ≡ Some w → at vs (node_at ns n) ≡ w
     new_node ns n w l same h =
-        some_same (at vs (node_at ns n)) w
+        same_Some (at vs (node_at ns n)) w
         (sym (mapped_at (at vs) ns n (node_at ns n) (node_there ns n l)) ∙ (ap (λ (us : List Bits). slice_get us n) same ∙ h))
 
     fire_told : (n : ℕ) → In made.execution n → at vs (node_at c.fires n) ≡ bit (is_some (does scene n))
@@ -208,7 +203,7 @@ module _ (b : Blueprint) (right : IsDesign b) (made : Schedule) (lawful : IsLawf
     calls_told : (n : ℕ) → In made.execution n → (k : ℕ) (t : Target) → slice_get (T.uses n) k ≡ Some t
         → (y : NetSite) × (slice_get (or_none (slice_get c.sites n)) k ≡ Some y) × (length y.args ≡ arity_of (kind_at T.kinds t) t.method)
     calls_told n i k t used =
-        let found = there_is (firing.sites_of c n) k (omega (arith, promise.calls n (below n i), slice_get_within (T.uses n) k t used)) in
+        let found = item_there (firing.sites_of c n) k (omega (arith, promise.calls n (below n i), slice_get_within (T.uses n) k t used)) in
         (found.0, found.1, promise.arguments n k t found.0 used found.1)
 
     fires_in : (n : ℕ) → In made.execution n → fires (does scene) n ≡ true → In fired n
@@ -316,12 +311,6 @@ module _ (b : Blueprint) (right : IsDesign b) (made : Schedule) (lawful : IsLawf
     }
 
 -- ---- the whole
-
-bits_set : IsSet Bits
-bits_set = hlevel ℕ_set
-
-option_set : {A : Type 0} → IsSet A → IsSet (Option A)
-option_set set = hlevel (⊎_set, set)
 
 shows_prop : (k : Kind) (p : Part) (r : ℕ → Bits) → IsProp ((kind_table k).Shows p r)
 shows_prop (Reg k) p r = hlevel bits_set

@@ -2,7 +2,8 @@
 use Rattle.std.proofs.Common.{◌≡◌, ◌∙◌, ◌<◌, ◌≤◌, ◌+◌, ◌⊎◌, inl, inr, ℕ, zero, suc, Bool, true, false, cond, List, [], ◌∷◌, ◌++◌, Option, Some, None, refl, sym, ap, subst, arith, length, map, append-nil, append_assoc, length-append}
 use Rattle.std.specs.Prelude.{slice_get, ◌==◌, if◌then◌else◌}
 use Rattle.std.proofs.lemmas.Bool.{cases_lt, eqb-true}
-use Rattle.std.proofs.lemmas.List.{length-map}
+use Rattle.std.proofs.lemmas.List.{length-map, map-append}
+use Rattle.bsv_lemmas.proofs.Places.{at_left, at_end}
 use Rattle.bsv_bits.specs.Words.{Bits, bit}
 use Rattle.bsv_prim.specs.Signals.{Signals, word_of}
 use Rattle.bsv_prim.specs.Table.{Table, word_at}
@@ -35,15 +36,6 @@ use Rattle.bsv_net.proofs.ShownRegisters.{shows_same, shows_more}
 
 -- ---- lists
 
-got_left : {X : Type 0} (xs ys : List X) (k : ℕ) → k < length xs → slice_get (xs ++ ys) k ≡ slice_get xs k
-got_left [] ys k l = absurd (omega arith)
-got_left (x ∷ xs) ys zero l = refl
-got_left (x ∷ xs) ys (suc k) l = got_left xs ys k (omega arith)
-
-got_last : {X : Type 0} (xs : List X) (y : X) → slice_get (xs ++ y ∷ []) (length xs) ≡ Some y
-got_last [] y = refl
-got_last (x ∷ xs) y = got_last xs y
-
 node_left : (xs ys : List ℕ) (k : ℕ) → k < length xs → node_at (xs ++ ys) k ≡ node_at xs k
 node_left [] ys k l = absurd (omega arith)
 node_left (x ∷ xs) ys zero l = refl
@@ -57,10 +49,6 @@ pub words_are : (V : ℕ → Bits) (ns : List ℕ) (k : ℕ) → k < length ns �
 words_are V [] k l = absurd (omega arith)
 words_are V (n ∷ ns) zero l = refl
 words_are V (n ∷ ns) (suc k) l = words_are V ns k (omega arith)
-
-map_both : (V : ℕ → Bits) (xs ys : List ℕ) → map V (xs ++ ys) ≡ map V xs ++ map V ys
-map_both V [] ys = refl
-map_both V (x ∷ xs) ys = ap (λ (ws : List Bits). V x ∷ ws) (map_both V xs ys)
 
 -- ---- growth
 
@@ -144,11 +132,11 @@ module _ (z : Scene) (x : Told) (zero_bit : z.V x.none ≡ bit false) (all : Lis
     where
       of : (m : ℕ) → (m < n) ⊎ (n ≤ m) → m < suc n
           → (q : MethodPort) × (slice_get (r.ports ++ Some p ∷ []) m ≡ Some (Some q)) × TellsPort z.V (t.arity m) (last_call z i m) q
-      of m (inl l) _ = let old = h.port_at m l in (old.0, got_left r.ports (Some p ∷ []) m (omega (arith, h.long)) ∙ old.1, old.2)
+      of m (inl l) _ = let old = h.port_at m l in (old.0, at_left r.ports (Some p ∷ []) m (omega (arith, h.long)) ∙ old.1, old.2)
       of m (inr l) less =
           let is : n ≡ m = omega arith in (
             p,
-            ap (slice_get (r.ports ++ Some p ∷ [])) (omega (arith, h.long)) ∙ got_last r.ports (Some p),
+            ap (slice_get (r.ports ++ Some p ∷ [])) (omega (arith, h.long)) ∙ at_end r.ports (Some p),
             subst (λ j. TellsPort z.V (t.arity j) (last_call z i j) p) is tells,
           )
 
@@ -320,7 +308,7 @@ module _ (z : Scene) (x : Told) (zero_bit : z.V x.none ≡ bit false) (all : Lis
       record {
         more = one.more ++ rest.more;
         is = rest.is ∙ (ap (λ (xs : List ℕ). xs ++ rest.more) one.is ∙ append_assoc so_far one.more rest.more);
-        shows = subst (λ (ws : List Bits). Shows (k ∷ ks) (p ∷ ps) ws) (sym (map_both z.V one.more rest.more))
+        shows = subst (λ (ws : List Bits). Shows (k ∷ ks) (p ∷ ps) ws) (sym (map-append z.V one.more rest.more))
             (shows_more k p ks ps (map z.V one.more) (map z.V rest.more) fit.0 (length-map one.more z.V ∙ one.long)
             (subst (λ (y : Part). (kind_table k).Shows y (word_at (map z.V one.more))) end_is one.shows) rest.shows);
       }

@@ -1,5 +1,5 @@
 -- What goes through the numbers below a number: how it goes on with one more.
-use Rattle.std.proofs.Common.{◌≡◌, ◌∙◌, ℕ, ◌+◌, List, [], ◌∷◌, ◌++◌, Option, Some, refl, ap, add-one}
+use Rattle.std.proofs.Common.{◌≡◌, ◌∙◌, ℕ, ◌+◌, List, [], ◌∷◌, ◌++◌, Option, Some, refl, ap}
 use Rattle.bsv_graph.specs.Edges.{numbers_below}
 use Rattle.bsv_prim.specs.Table.{Table}
 use Rattle.bsv_net.specs.declared.node.NetNode.{NetNode}
@@ -8,9 +8,7 @@ use Rattle.bsv_net.specs.Placing.{Wires, piece}
 use Rattle.bsv_ports.specs.declared.call_sites.CallSite.{CallSite}
 use Rattle.bsv_ports.specs.Ports.{PlacedAll, port}
 use Rattle.bsv_mux.specs.Nexts.{Told, PlacedPorts, ports, pieces}
-
-numbers_more : (n : ℕ) → numbers_below (n + 1) ≡ numbers_below n ++ n ∷ []
-numbers_more n = ap numbers_below (add-one n)
+use Rattle.bsv_graph.proofs.Below.{numbers_more}
 
 -- ---- methods of a part
 

@@ -1,13 +1,13 @@
 -- The next pieces of a part, in a clock: they show the part behind it.
-use Rattle.std.proofs.Common.{◌≡◌, ◌∙◌, ◌<◌, ℕ, true, false, List, [], ◌∷◌, Option, Some, None, MatchOption, is_some, refl, sym, ap, ap₂, subst}
+use Rattle.std.proofs.Common.{◌≡◌, ◌∙◌, ◌<◌, ℕ, true, false, List, Option, Some, None, MatchOption, is_some, refl, sym, ap, ap₂, subst}
 use Rattle.std.specs.Prelude.{slice_get}
-use Rattle.std.specs.List.{AllByRecursion}
+use Rattle.bsv_lemmas.proofs.Places.{all_from}
 use Rattle.bsv_bits.specs.Words.{Bits}
-use Rattle.bsv_prim.specs.Calls.{IsReady, IsInOrder, IsOrderly, latest, look}
+use Rattle.bsv_prim.specs.Calls.{IsReady, latest, look}
 use Rattle.bsv_prim.specs.Calls as prim
 use Rattle.bsv_prim.specs.Parallel.{IsParallel}
 use Rattle.bsv_prim.specs.Signals.{Signals, word_of}
-use Rattle.bsv_prim.specs.Table.{Table, Call, CallFits, word_at}
+use Rattle.bsv_prim.specs.Table.{Table, Call, word_at}
 use Rattle.bsv_prim.specs.declared.part.Part.{Part}
 use Rattle.bsv_prim.proofs.Parallel.{step_in_turn}
 use Rattle.bsv_design.specs.declared.kind.Kind.{Kind}
@@ -18,25 +18,17 @@ use Rattle.bsv_design.specs.States.{FitsKinds, emptied, part_at}
 use Rattle.bsv_design.specs.Traces.{kind_at}
 use Rattle.bsv_guard.specs.ElementLaws.{call_of}
 use Rattle.bsv_guard.specs.Turns.{calls_on}
-use Rattle.bsv_guard.proofs.Turns.{sound_turns}
+use Rattle.bsv_guard.proofs.Turns.{sound_turns, all_on, fits_at}
 use Rattle.bsv_clock.specs.Feeding.{IsFed}
 use Rattle.bsv_clock.specs.Grounds.{BelongTogether}
 use Rattle.bsv_clock.specs.Settling.{deeds, end_of, look_of}
-use Rattle.bsv_clock.proofs.CallLists.{all_from, all_on}
 use Rattle.bsv_clock.proofs.Clocks.{clock_fed}
-use Rattle.bsv_clock.proofs.Steadily.{emptied_fits, looked_at, part_fits, steady_scheme}
+use Rattle.bsv_clock.proofs.Steadily.{emptied_fits, looked_at, steady_scheme}
 use Rattle.bsv_ports.proofs.Scene.{Scene, S, does, looks, last_call}
 use Rattle.bsv_fire.proofs.PiecesTold.{emptied_at}
+use Rattle.bsv_prim.proofs.Orderly.{fit_from_orderly, order_from_orderly}
 
 -- ---- orderly calls
-
-all_fit : (t : Table) (p : Part) (cs : List Call) → IsOrderly t p cs → AllByRecursion (CallFits t) cs
-all_fit t p [] h = tt
-all_fit t p (c ∷ cs) h = (h.0, all_fit t (prim.after_call t p c) cs h.3)
-
-in_order : (t : Table) (p : Part) (cs : List Call) → IsOrderly t p cs → IsInOrder t cs
-in_order t p [] h = tt
-in_order t p (c ∷ cs) h = (h.2, in_order t (prim.after_call t p c) cs h.3)
 
 -- ---- signals of the last calls: the word of an argument of a method that is not called is any
 
@@ -91,9 +83,9 @@ module _ (z : Scene) (i : ℕ) (kind : Kind) (there : slice_get (S z).kinds i �
 
   parallel : IsParallel (kind_table kind) start calls
   parallel = record {
-    part = part_fits (S z).kinds (emptied (S z).kinds z.s) starts_fit i kind there;
-    calls = all_fit (kind_table kind) start calls (fed.orderly i kind there);
-    order = in_order (kind_table kind) start calls (fed.orderly i kind there);
+    part = fits_at (S z).kinds (emptied (S z).kinds z.s) starts_fit i kind there;
+    calls = fit_from_orderly (kind_table kind) start calls (fed.orderly i kind there);
+    order = order_from_orderly (kind_table kind) start calls (fed.orderly i kind there);
     ready = all_on (λ c. IsReady (kind_table kind) (look (kind_table kind) c.method start calls) c) i (deeds (does z) z.made.execution)
         (all_from (λ c. c.target.part ≡ i → IsReady (kind_table kind) (look (kind_table kind) c.target.method start calls) (call_of c)) (deeds (does z) z.made.execution)
         (λ k c at. each_ready c (fed.open_in_look k c at)));
@@ -112,5 +104,5 @@ module _ (z : Scene) (i : ℕ) (kind : Kind) (there : slice_get (S z).kinds i �
       subst (λ (p : Part). (kind_table kind).Shows p (λ r. word_of v ((kind_table kind).next_piece r))) (sym end_is)
       (step_in_turn (kind_table kind) (kind_laws kind) start calls v parallel
       (subst (λ (p : Part). (kind_table kind).Shows p registers) (sym (emptied_at (S z).kinds z.s z.fit.parts i kind there))
-      ((kind_laws kind).shows.emptied (part_at z.s i) registers (part_fits (S z).kinds z.s z.fit.parts i kind there) shown))
+      ((kind_laws kind).shows.emptied (part_at z.s i) registers (fits_at (S z).kinds z.s z.fit.parts i kind there) shown))
       (λ m below. tells_last (kind_table kind) v m (latest m None calls) refl (λ k. or_any_twice (latest m None calls) k (others m k))))

@@ -17,8 +17,4 @@ first_of_both (x ∷ xs) ys =
     ap (if_malformed (attribute x.owner x.written) (place_of x)) (first_of_both xs ys)
     ∙ parted (attribute x.owner x.written) (place_of x) (first_malformed xs) (first_malformed ys)
 
--- nothing stands behind the arms of an `if` that has no `else`
-pub nothing_behind : (xs : List Standing) → xs ++ [] ≡ xs
-nothing_behind xs = append-nil xs
-
-pub ruleset malformed = (first_of_both, nothing_behind)
+pub ruleset malformed = (first_of_both, append-nil)

@@ -1,10 +1,10 @@
 -- The words of the nodes of a net, one after the other.
-use Rattle.std.proofs.Common.{◌≡◌, ◌∙◌, ℕ, zero, suc, ◌+◌, true, List, [], ◌∷◌, ◌++◌, length, take, Some, refl, ap, subst, arith}
+use Rattle.std.proofs.Common.{◌≡◌, ◌∙◌, ℕ, ◌+◌, true, List, [], ◌∷◌, ◌++◌, length, take, Some, refl, ap, subst}
 use Rattle.std.proofs.Math.Bool.{Bool-set}
 use Rattle.std.specs.Prelude.{slice_get}
 use Rattle.std.proofs.lemmas.List.{map-append}
-use Rattle.std.proofs.lemmas.Option.{same_Some}
 use Rattle.std.proofs.Math.Logic.{∥∥₁_elim}
+use Rattle.bsv_lemmas.proofs.Places.{take_one}
 use Rattle.bsv_bits.specs.Words.{Bits}
 use Rattle.bsv_design.specs.Bodies.{at, of_parts, values, words_behind}
 use Rattle.bsv_design.specs.Relations.{no_answers}
@@ -17,11 +17,6 @@ use Rattle.bsv_net.specs.AtHand.{circuit}
 use Rattle.bsv_net.specs.Circuits.{as_node, as_nodes, is_within, word, words, IsCircuit}
 use Rattle.bsv_net.specs.Equations.{computed}
 use Rattle.bsv_net.proofs.Solution.{same_length, as_computed}
-
-take_one : {A : Type 0} (xs : List A) (i : ℕ) (x : A) → slice_get xs i ≡ Some x → take (i + 1) xs ≡ take i xs ++ x ∷ []
-take_one {A} [] i x e = absurd (let n : ⊥ = cc in n)
-take_one {A} (y ∷ ys) zero x e = ap (λ (z : A). z ∷ []) (same_Some y x e)
-take_one {A} (y ∷ ys) (suc i) x e = let place : suc i + 1 ≡ suc (i + 1) = omega arith in ap (λ (n : ℕ). take n (y ∷ ys)) place ∙ ap (λ (zs : List A). y ∷ zs) (take_one ys i x e)
 
 pub words_none : (inputs registers : List Bits) → words [] inputs registers ≡ []
 unfolding words words_behind

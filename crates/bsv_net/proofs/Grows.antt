@@ -2,11 +2,11 @@
 use Rattle.std.proofs.Common.{◌≡◌, ◌∙◌, ℕ, ◌+◌, ◌≤◌, List, [], ◌∷◌, ◌++◌, length, Some, refl, sym, ap, arith, append_assoc, append-nil, length-append}
 use Rattle.std.specs.Prelude.{slice_get}
 use Rattle.std.proofs.lemmas.Option.{slice_get_within}
+use Rattle.bsv_lemmas.proofs.Places.{at_left, at_right}
 use Rattle.bsv_prim.specs.Shape.{Shape, Given, IsCalled, ArgumentOf, Fixed, Inverted, Both, Chosen, Cut, Joined, Extended}
 use Rattle.bsv_net.specs.declared.node.NetNode.{NetNode}
 use Rattle.bsv_net.specs.declared.node.NetNode.TheVariants as net
 use Rattle.bsv_net.specs.Placing.{Wires, add, piece}
-use Rattle.bsv_net.proofs.Lists.{got_left, got_right}
 
 -- the new nodes are the old ones with others behind
 pub record Grows (old new : List NetNode) : Type 0 where
@@ -31,13 +31,13 @@ pub length_grows : {old new : List NetNode} → Grows old new → length old ≤
 length_grows {old} {new} g = let e = ap length g.is in omega (arith, length-append old g.more)
 
 pub kept : {old new : List NetNode} → Grows old new → (k : ℕ) (x : NetNode) → slice_get old k ≡ Some x → slice_get new k ≡ Some x
-kept {old} {new} g k x e = ap (λ (ns : List NetNode). slice_get ns k) g.is ∙ got_left old g.more k (slice_get_within old k x e) ∙ e
+kept {old} {new} g k x e = ap (λ (ns : List NetNode). slice_get ns k) g.is ∙ at_left old g.more k (slice_get_within old k x e) ∙ e
 
 -- a node that was added stands at the place that it was given
 pub added_there : (ns : List NetNode) (x : NetNode) {full : List NetNode} → Grows (ns ++ x ∷ []) full → slice_get full (length ns) ≡ Some x
 added_there ns x g =
     let place : length ns + 0 ≡ length ns = omega arith in
-    kept g (length ns) x (ap (slice_get (ns ++ x ∷ [])) (sym place) ∙ got_right ns (x ∷ []) 0)
+    kept g (length ns) x (ap (slice_get (ns ++ x ∷ [])) (sym place) ∙ at_right ns (x ∷ []) 0)
 
 pub piece_grows : (w : Wires) (ns : List NetNode) (shape : Shape) → Grows ns (piece w ns shape).nodes
 unfolding piece

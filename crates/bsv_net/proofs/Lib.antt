@@ -1,4 +1,3 @@
-pub mod Lists
 pub mod Operands
 pub mod Solution
 pub mod Evaluating

@@ -2,6 +2,7 @@
 use Rattle.std.proofs.Common.{◌≡◌, ◌∙◌, ℕ, ◌<◌, List, [], ◌++◌, length, Option, Some, None, refl, ap, ap₂}
 use Rattle.std.specs.Prelude.{slice_get}
 use Rattle.std.proofs.lemmas.Option.{slice_get_within}
+use Rattle.bsv_lemmas.proofs.Places.{at_left as got_left}
 use Rattle.bsv_bits.specs.Words.{Bits, word_not}
 use Rattle.bsv_bits.specs.declared.operator.Operator.{Operator}
 use Rattle.bsv_design.specs.declared.element.Port.{Port}
@@ -12,7 +13,6 @@ use Rattle.bsv_design.specs.Computing as computing
 use Rattle.bsv_design.specs.Relations.{no_answers}
 use Rattle.bsv_design.specs.Running.{or_zero}
 use Rattle.bsv_design.specs.Widths.{node_width, two_width, pick_width, slice_width, join_width, extend_width}
-use Rattle.bsv_net.proofs.Lists.{got_left}
 
 -- the nodes that a node uses stand before this place, and it is not what a call gives
 abbrev pub Below : ℕ → Node → Type 0

@@ -32,7 +32,7 @@ speaks_of_all (Cut a high low) = speaks_of_all a
 speaks_of_all (Joined a b) = (speaks_of_all a, speaks_of_all b)
 speaks_of_all (Extended a width) = speaks_of_all a
 
-if_one : (c d a p b q : Bits) → c ≡ d → a ≡ p → b ≡ q → (if is_one c then a else b) ≡ (if is_one d then p else q)
+pub if_one : (c d a p b q : Bits) → c ≡ d → a ≡ p → b ≡ q → (if is_one c then a else b) ≡ (if is_one d then p else q)
 if_one c d a p b q e f g = ap₂ (λ (x y : Bits). if is_one x then y else b) e f ∙ ap (λ (y : Bits). if is_one d then p else y) g
 
 module _ (t : Table) (Calls Arguments : ℕ → Type 0) (inputs registers : List Bits) (V : Values) (full : List NetNode) (widths : List ℕ) (s : Satisfies inputs registers V full widths) (w : Wires) (v : Signals) (h : Carries t Calls Arguments V w v) where

@@ -3,6 +3,7 @@ use Rattle.std.proofs.Common.{◌≡◌, ◌∙◌, ℕ, zero, suc, ◌+◌, ◌
 use Rattle.std.specs.Prelude.{◌==◌, nat_le, nat_lt, if◌then◌else◌, slice_get}
 use Rattle.std.proofs.lemmas.Bool.{ltb-true, eqb-true, eq-eqb}
 use Rattle.std.proofs.lemmas.Option.{same_Some}
+use Rattle.bsv_lemmas.proofs.Places.{mapped_at, at_left, at_right}
 use Rattle.bsv_bits.specs.Operators.{operate, is_shift}
 use Rattle.bsv_bits.specs.Signed.{word_sign_extend}
 use Rattle.bsv_bits.specs.Words.{Bits, word_slice, word_concat, word_extend}
@@ -17,14 +18,13 @@ use Rattle.bsv_design.specs.States.{AreWordsOf}
 use Rattle.bsv_design.specs.Widths.{if_width, gives_bit, two_width, slice_width, join_width, extend_width, node_width, widths_from}
 use Rattle.bsv_guard.specs.Fitting.{HaveWidths}
 use Rattle.bsv_guard.proofs.BodyFits.{word_there, words_fit}
-use Rattle.bsv_guard.proofs.Lists.{holds_at_all, mapped_at}
+use Rattle.bsv_guard.proofs.Lists.{holds_at_all}
 use Rattle.bsv_guard.proofs.Nodes.{grown, chained, where_width}
 use Rattle.bsv_net.specs.declared.circuit.Circuit.{Circuit}
 use Rattle.bsv_net.specs.declared.node.NetNode.{NetNode}
 use Rattle.bsv_net.specs.declared.node.NetNode.TheVariants as net
 use Rattle.bsv_net.specs.Circuits.{as_node, as_nodes, port, ports, register_widths, word, words, is_within, IsCircuit}
 use Rattle.bsv_net.specs.Equations.{Satisfies, operated, computed}
-use Rattle.bsv_net.proofs.Lists.{got_left, got_right}
 use Rattle.bsv_net.proofs.Operands.{Below, is_below, width_kept, word_kept}
 
 -- ---- words of widths
@@ -75,7 +75,7 @@ module _ (ps : List Port) (arguments : List Bits) where
       record {
         width = width;
         has = width_kept us ps (width ∷ after) x below ∙ e;
-        word = ap or_zero (got_right vs (w ∷ behind) 0) ∙ sym (word_kept arguments vs (w ∷ behind) x (subst (λ (n : ℕ). Below n x) (sym long) below));
+        word = ap or_zero (at_right vs (w ∷ behind) 0) ∙ sym (word_kept arguments vs (w ∷ behind) x (subst (λ (n : ℕ). Below n x) (sym long) below));
       }
 
   each_at : (ns : List Node) (vs : List Bits) (us ends : List ℕ) → length vs ≡ length us → widths_from ps [] [] us ns ≡ Some ends → (k : ℕ) (x : Node) → slice_get ns k ≡ Some x
@@ -103,8 +103,8 @@ module _ (ps : List Port) (arguments : List Bits) where
 -- ---- as a net computes
 
 pub as_computed : (inputs registers vs : List Bits) (m : ℕ) (x : NetNode) → is_within (length inputs) m x ≡ true → word inputs registers vs x ≡ computed inputs registers (at vs) x
-as_computed inputs registers vs m (net.Input k) h = ap or_zero (got_left inputs registers k (ltb-true k (length inputs) h))
-as_computed inputs registers vs m (net.Register k) h = ap or_zero (got_right inputs registers k)
+as_computed inputs registers vs m (net.Input k) h = ap or_zero (at_left inputs registers k (ltb-true k (length inputs) h))
+as_computed inputs registers vs m (net.Register k) h = ap or_zero (at_right inputs registers k)
 as_computed inputs registers vs m (net.Constant w) h = refl
 as_computed inputs registers vs m (net.Not a) h = refl
 as_computed inputs registers vs m (net.Two o a b) h = refl

@@ -10,17 +10,13 @@ use Rattle.bsv_guard.specs.Fitting.{HaveWidths}
 use Rattle.bsv_clock.specs.Hardware.{inputs_from, input_widths_of, cell, cell_widths}
 use Rattle.bsv_clock.specs.Clocks.{is_asked}
 use Rattle.bsv_net.proofs.Solution.{have_both}
-use Rattle.bsv_prim.specs.Table.{IsWordOf}
 use Rattle.bsv_prim.specs.declared.primitive.RegisterInfo.{RegisterInfo}
 use Rattle.bsv_net.specs.Circuits.{register_widths}
+use Rattle.bsv_prim.specs.WireKinds.{bit_is_word}
 
 pub cells_have : (rs : List RegisterInfo) → cell_widths (map cell rs) ≡ register_widths rs
 cells_have [] = refl
 cells_have (r ∷ rs) = ap (λ (ws : List ℕ). r.width ∷ ws) (cells_have rs)
-
-bit_fits : (b : Bool) → IsWordOf 1 (bit b)
-bit_fits true = record { word = record { some = omega arith; most = omega arith; below = omega arith }; same_width = refl }
-bit_fits false = record { word = record { some = omega arith; most = omega arith; below = omega arith }; same_width = refl }
 
 words_have : (ps : List Port) (ws : List Bits) → AreWordsOf ps ws → HaveWidths (map (λ p. p.width) ps) ws
 words_have [] [] h = tt
@@ -39,4 +35,4 @@ inputs_have T q n (o ∷ os) fit =
     of : (b : Bool) → HaveWidths (input_widths_of os) (inputs_from T q (n + 1) os) → HaveWidths (map (λ p. p.width) o.ports) (given T q n)
         → HaveWidths (cond b [] (map (λ p. p.width) o.ports ++ (1 ∷ input_widths_of os))) (cond b [] (given T q n ++ (bit (is_asked q n) ∷ inputs_from T q (n + 1) os)))
     of true rest first = tt
-    of false rest first = have_both (map (λ p. p.width) o.ports) (given T q n) (1 ∷ input_widths_of os) (bit (is_asked q n) ∷ inputs_from T q (n + 1) os) first (bit_fits (is_asked q n), rest)
+    of false rest first = have_both (map (λ p. p.width) o.ports) (given T q n) (1 ∷ input_widths_of os) (bit (is_asked q n) ∷ inputs_from T q (n + 1) os) first (bit_is_word (is_asked q n), rest)

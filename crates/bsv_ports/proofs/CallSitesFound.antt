@@ -1,34 +1,23 @@
 -- The call sites of methods that act, as they are found one by one: on each part there are its own.
-use Rattle.std.proofs.Common.{◌≡◌, ◌≢◌, ◌∙◌, ℕ, zero, suc, ◌+◌, ◌<◌, Bool, true, false, cond, ◌&&◌, List, [], ◌∷◌, ◌++◌, Option, Some, None, refl, sym, ap, ap₂, subst, arith, length, map, replicate, append_assoc}
+use Rattle.std.proofs.Common.{◌≡◌, ◌∙◌, ℕ, zero, suc, ◌+◌, ◌<◌, Bool, true, false, cond, ◌&&◌, List, [], ◌∷◌, ◌++◌, Option, Some, None, refl, sym, ap, ap₂, subst, arith, length, map, replicate, append_assoc}
 use Rattle.std.specs.Prelude.{slice_get, slice_set, ◌==◌, nat_lt}
 use Rattle.std.proofs.lemmas.Bool.{eqb-true, eqb-false, lt-ltb}
 use Rattle.std.proofs.lemmas.List.{append-nil, length-map, length-set}
 use Rattle.std.proofs.lemmas.Option.{slice_get_within}
+use Rattle.bsv_lemmas.proofs.Places.{mapped_at, set_there, set_elsewhere}
 use Rattle.bsv_design.specs.declared.element.Call.{Call}
 use Rattle.bsv_design.specs.declared.element.Element.{Element}
 use Rattle.bsv_design.specs.declared.kind.Kind.{Kind}
 use Rattle.bsv_graph.specs.Edges.{numbers_below}
-use Rattle.bsv_guard.proofs.Lists.{mapped_at}
 use Rattle.bsv_ports.specs.declared.call_sites.CallSite.{CallSite}
 use Rattle.bsv_ports.specs.CallSites.{or_none, acts_in, all_call_sites, call_sites_from, call_sites_in, call_sites_of, with_call, with_calls, with_elements}
-use Rattle.bsv_net.proofs.Numbers.{count_below, number_at}
+use Rattle.bsv_net.proofs.Numbers.{number_at}
+use Rattle.bsv_graph.proofs.Below.{count_below}
 
 -- ---- lists of lists
 
 abbrev pub call_sites_on : List (List CallSite) → ℕ → List CallSite
 call_sites_on ss i = or_none (slice_get ss i)
-
-set_there : {X : Type 0} (xs : List X) (i : ℕ) (x : X) → i < length xs → slice_get (slice_set xs i x) i ≡ Some x
-set_there [] i x l = absurd (omega arith)
-set_there (y ∷ xs) zero x l = refl
-set_there (y ∷ xs) (suc i) x l = set_there xs i x (omega arith)
-
-set_elsewhere : {X : Type 0} (xs : List X) (j i : ℕ) (x : X) → j ≢ i → slice_get (slice_set xs j x) i ≡ slice_get xs i
-set_elsewhere [] j i x o = refl
-set_elsewhere (y ∷ xs) zero zero x o = absurd (o refl)
-set_elsewhere (y ∷ xs) zero (suc i) x o = refl
-set_elsewhere (y ∷ xs) (suc j) zero x o = refl
-set_elsewhere (y ∷ xs) (suc j) (suc i) x o = set_elsewhere xs j i x (λ e. o (ap suc e))
 
 same_on : (xs ys : List (List CallSite)) → length xs ≡ length ys → ((i : ℕ) → i < length xs → call_sites_on xs i ≡ call_sites_on ys i) → xs ≡ ys
 same_on [] [] n h = refl

@@ -3,6 +3,7 @@ use Rattle.std.proofs.Common.{◌≡◌, ◌∙◌, ◌<◌, ◌≤◌, ◌+◌,
 use Rattle.std.specs.Prelude.{slice_get, unwrap_or}
 use Rattle.std.proofs.lemmas.List.{drop-drop, get_or-drop}
 use Rattle.std.proofs.lemmas.Option.{unwrap_or-slice_get}
+use Rattle.bsv_lemmas.proofs.Places.{at_left, at_right}
 use Rattle.bsv_bits.specs.Words.{Bits, bit}
 use Rattle.bsv_prim.specs.Table.{word_at}
 use Rattle.bsv_prim.specs.declared.part.Part.{Part}
@@ -18,7 +19,6 @@ use Rattle.bsv_clock.specs.Hardware.{Shows, inputs_from}
 use Rattle.bsv_clock.specs.Clocks.{is_asked}
 use Rattle.bsv_net.specs.Placing.{node_at}
 use Rattle.bsv_ports.specs.Starts.{input_count, input_starts, register_starts}
-use Rattle.bsv_net.proofs.Numbers.{got_before, got_behind}
 
 -- ---- inputs
 
@@ -48,7 +48,7 @@ behind_method S q base e es k rule long =
     let rest = inputs_from S q (base + 1) (map outline es) in
     let ws = given S q base in
     ap (λ (b : Bool). slice_get (cond b [] (ws ++ (bit (is_asked q base) ∷ rest))) (cond b 0 (length e.arguments + 1) + k)) rule
-    ∙ (ap (slice_get (ws ++ (bit (is_asked q base) ∷ rest))) (omega (arith, long)) ∙ got_behind ws (bit (is_asked q base) ∷ rest) (suc k))
+    ∙ (ap (slice_get (ws ++ (bit (is_asked q base) ∷ rest))) (omega (arith, long)) ∙ at_right ws (bit (is_asked q base) ∷ rest) (suc k))
 
 of_method : (S : Scheme) (q : Asking) (base : ℕ) (e : Element) (es : List Element) → is_rule e.role ≡ false
     → inputs_from S q base (map outline (e ∷ es)) ≡ given S q base ++ (bit (is_asked q base) ∷ inputs_from S q (base + 1) (map outline es))
@@ -79,7 +79,7 @@ argument_at S q base (x ∷ es) first long zero e there rule k l =
     let many = ap (λ (y : Element). length y.arguments) same in
     ap (λ (xs : List Bits). slice_get xs (0 + k)) (of_method S q base x es not_rule)
     ∙ (ap (slice_get (given S q base ++ (bit (is_asked q base) ∷ inputs_from S q (base + 1) (map outline es)))) (omega arith)
-    ∙ (got_before (given S q base) (bit (is_asked q base) ∷ inputs_from S q (base + 1) (map outline es)) k (omega (arith, len, many))
+    ∙ (at_left (given S q base) (bit (is_asked q base) ∷ inputs_from S q (base + 1) (map outline es)) k (omega (arith, len, many))
     ∙ ap (λ n. slice_get (given S q n) k) (omega arith)))
 argument_at S q base (x ∷ es) first long (suc j) e there rule k l =
     let not_rule = first_is_method x es j e first there rule in
@@ -101,7 +101,7 @@ asked_at S q base (x ∷ es) first long zero e there rule =
     let many = ap (λ (y : Element). length y.arguments) same in
     ap (λ (xs : List Bits). slice_get xs (0 + length e.arguments)) (of_method S q base x es not_rule)
     ∙ (ap (slice_get (given S q base ++ (bit (is_asked q base) ∷ inputs_from S q (base + 1) (map outline es)))) (omega (arith, len, many))
-    ∙ (got_behind (given S q base) (bit (is_asked q base) ∷ inputs_from S q (base + 1) (map outline es)) 0
+    ∙ (at_right (given S q base) (bit (is_asked q base) ∷ inputs_from S q (base + 1) (map outline es)) 0
     ∙ ap (λ n. Some (bit (is_asked q n))) (omega arith)))
 asked_at S q base (x ∷ es) first long (suc j) e there rule =
     let not_rule = first_is_method x es j e first there rule in

@@ -2,6 +2,7 @@
 use Rattle.std.proofs.Common.{◌≡◌, ◌<◌, ◌∙◌, ℕ, Bool, true, false, List, [], ◌∷◌, length, map, Option, Some, None, is_some, refl, sym, ap, ap₂, subst, arith}
 use Rattle.std.specs.Prelude.{slice_get}
 use Rattle.std.proofs.lemmas.Option.{slice_get_within}
+use Rattle.bsv_lemmas.proofs.Places.{mapped_at}
 use Rattle.bsv_bits.specs.Words.{Bits, bit}
 use Rattle.bsv_prim.specs.Calls.{latest}
 use Rattle.bsv_prim.proofs.Orderly.{latest-append}
@@ -19,7 +20,6 @@ use Rattle.bsv_guard.specs.ElementLaws.{IsUse}
 use Rattle.bsv_guard.specs.Fitting.{IsFitCall}
 use Rattle.bsv_guard.specs.Turns.{calls_on}
 use Rattle.bsv_guard.proofs.Fits.{fitting_keeps}
-use Rattle.bsv_guard.proofs.Lists.{mapped_at}
 use Rattle.bsv_clock.specs.Grounds.{BelongTogether}
 use Rattle.bsv_clock.specs.Settling.{IsSettled, deed, deeds, fires}
 use Rattle.bsv_clock.proofs.CallLists.{calls_on-append}

@@ -1,5 +1,5 @@
 -- A word that is 0 for each argument of a method: how they go on with one more.
-use Rattle.std.proofs.Common.{◌≡◌, ◌∙◌, ℕ, ◌+◌, List, [], ◌∷◌, ◌++◌, refl, ap, add-one}
+use Rattle.std.proofs.Common.{◌≡◌, ◌∙◌, ℕ, ◌+◌, List, [], ◌∷◌, ◌++◌, refl, ap}
 use Rattle.bsv_bits.specs.Words.{zero_word}
 use Rattle.bsv_graph.specs.Edges.{numbers_below}
 use Rattle.bsv_prim.specs.Table.{Table}
@@ -7,9 +7,7 @@ use Rattle.bsv_net.specs.declared.node.NetNode.{NetNode}
 use Rattle.bsv_net.specs.declared.node.NetNode.TheVariants as net
 use Rattle.bsv_net.specs.Placing.{add}
 use Rattle.bsv_ports.specs.Ports.{PlacedAll, zeros}
-
-pub numbers_more : (n : ℕ) → numbers_below (n + 1) ≡ numbers_below n ++ n ∷ []
-numbers_more n = ap numbers_below (add-one n)
+use Rattle.bsv_graph.proofs.Below.{numbers_more}
 
 abbrev pub one_zero : Table → ℕ → PlacedAll → ℕ → PlacedAll
 one_zero t m p k = record {

@@ -1,7 +1,7 @@
 -- The start of a register without one, cut from one number for every width.
-use Rattle.std.proofs.Common.{◌≡◌, ℕ, zero, suc, ◌+◌, ◌-◌, ◌/◌, ◌%◌, ◌^◌, ◌≤◌, Bool, true, false, refl, ap, sym, subst, ◌∙◌, arith, inl, inr}
+use Rattle.std.proofs.Common.{◌≡◌, ℕ, zero, suc, ◌+◌, ◌-◌, ◌/◌, ◌%◌, ◌^◌, ◌≤◌, Bool, true, refl, ap, sym, subst, ◌∙◌, arith, inl, inr}
 use Rattle.std.specs.Prelude.{◌&&◌, nat_eq}
-use Rattle.std.proofs.lemmas.Bool.{eqb-true, cases_lt}
+use Rattle.std.proofs.lemmas.Bool.{eqb-true, cases_lt, and_parts}
 use Rattle.bsv_bits.specs.Words.{reduced}
 use Rattle.bsv_prim.specs.Registers.{odd_bits, unset_start}
 
@@ -18,17 +18,12 @@ agrees_everywhere : agrees 128 ≡ true
 unfolding agrees
 agrees_everywhere = refl
 
-both_true : (a b : Bool) → (a && b) ≡ true → (a ≡ true) × (b ≡ true)
-both_true true true h = (refl, refl)
-both_true true false h = absurd (let x : ⊥ = cc in x)
-both_true false b h = absurd (let x : ⊥ = cc in x)
-
 agrees_at : (n : ℕ) → agrees n ≡ true → (width : ℕ) → width ≤ n → odd_bits width ≡ all_odd % 2 ^ width
 unfolding agrees
 agrees_at zero h zero l = eqb-true _ _ h
 agrees_at zero h (suc width) l = absurd (omega arith)
 agrees_at (suc n) h width l =
-    let parts = both_true (nat_eq (odd_bits (suc n)) (all_odd % 2 ^ suc n)) (agrees n) h in
+    let parts = and_parts (nat_eq (odd_bits (suc n)) (all_odd % 2 ^ suc n)) (agrees n) h in
     elim (cases_lt n width) [
       | inl above ↦ let same : suc n ≡ width = omega arith in subst (λ (k : ℕ). odd_bits k ≡ all_odd % 2 ^ k) same (eqb-true _ _ parts.0)
       | inr within ↦ agrees_at n parts.1 width within

@@ -2,6 +2,7 @@
 use Rattle.std.proofs.Common.{◌≡◌, ℕ, Bool, true, false, List, [], ◌∷◌, ◌++◌, ap, refl, sym, subst, ◌∙◌, append_assoc, append-nil}
 use Rattle.std.specs.Prelude.{cond}
 use Rattle.std.specs.List.{AllByRecursion}
+use Rattle.std.proofs.lemmas.Bool.{false_from_ne_true}
 use Rattle.bsv_prim.specs.Table.{Table, Call, CallFits, goes_before, converse}
 use Rattle.bsv_prim.specs.Laws.{Laws}
 use Rattle.bsv_prim.specs.Calls.{IsReady, MayPrecede, IsInOrder, IsReadyInLooks, look, seen_by, after_calls}
@@ -9,20 +10,15 @@ use Rattle.bsv_prim.specs.declared.part.Part.{Part}
 use Rattle.bsv_prim.specs.declared.primitive.Rel.TheVariants.{Sa}
 use Rattle.bsv_prim.proofs.Orderly.{seen_by-append}
 
--- a test that is not true is false
-false_unless : (b : Bool) → (b ≡ true → ⊥) → b ≡ false
-false_unless true h = absurd (h refl)
-false_unless false h = refl
-
 -- a method does not see itself
 pub unseen_by_itself : (t : Table) → Laws t → (m : ℕ) → t.sees m m ≡ false
 unseen_by_itself t laws m =
-    false_unless (t.sees m m) (λ seen. let none = laws.table.seen_sees_none m m m seen in let x : true ≡ false = sym seen ∙ none in cc)
+    false_from_ne_true (t.sees m m) (λ seen. let none = laws.table.seen_sees_none m m m seen in let x : true ≡ false = sym seen ∙ none in cc)
 
 -- a later call is never seen
 pub later_unseen : (t : Table) → Laws t → (c d : Call) → MayPrecede t c d → t.sees d.method c.method ≡ false
 later_unseen t laws c d before =
-    false_unless (t.sees d.method c.method)
+    false_from_ne_true (t.sees d.method c.method)
     (λ seen.
     let after : t.relation c.method d.method ≡ Sa = laws.table.dual d.method c.method ∙ ap converse (laws.table.seen_before d.method c.method seen) in
     let x : false ≡ true = sym (ap goes_before after) ∙ before in

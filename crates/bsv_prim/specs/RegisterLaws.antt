@@ -119,7 +119,7 @@ is_read zero h e = refl
 is_read (suc zero) h e = cc
 is_read (suc (suc m)) h e = absurd (omega arith)
 
-bit_is_word : IsWord (bit true)
+pub bit_is_word : IsWord (bit true)
 bit_is_word = record { some = omega arith; most = omega arith; below = omega arith }
 
 pub register_laws : (width : ℕ) (start : Bits) (resets : Bool) → IsWordOf width start → Laws (register_table width start resets)

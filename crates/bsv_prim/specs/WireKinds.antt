@@ -12,10 +12,10 @@ use Rattle.bsv_prim.specs.Laws.{Laws}
 use Rattle.bsv_prim.specs.WireTables.{wire_table, wire_row, dwire_row, rwire_row, pulse_row, or_else, or_else_piece, valid_or_invalid, valid_piece, is_filled, FitsOption}
 use Rattle.bsv_prim.specs.WireLaws.{wire_laws, IsWire, IsWritten, filled_by}
 
-zero_is_word : (width : ℕ) → 1 ≤ width → width ≤ 128 → IsWordOf width (zero_word width)
+pub zero_is_word : (width : ℕ) → 1 ≤ width → width ≤ 128 → IsWordOf width (zero_word width)
 zero_is_word width some most = record { word = record { some = some; most = most; below = pow_pos width }; same_width = refl }
 
-bit_is_word : (truth : Bool) → IsWordOf 1 (bit truth)
+pub bit_is_word : (truth : Bool) → IsWordOf 1 (bit truth)
 bit_is_word true = record { word = record { some = omega arith; most = omega arith; below = omega arith }; same_width = refl }
 bit_is_word false = record { word = record { some = omega arith; most = omega arith; below = omega arith }; same_width = refl }
 

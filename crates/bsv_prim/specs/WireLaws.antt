@@ -5,7 +5,7 @@ use Rattle.std.proofs.Common.{◌≡◌, ℕ, zero, suc, ◌<◌, ◌≤◌, Boo
 use Rattle.std.specs.Prelude.{◌⊎◌, nat_eq, if◌then◌else◌, MatchOption}
 use Rattle.std.specs.List.{AllByRecursion}
 use Rattle.std.proofs.lemmas.Bool.Decides.{nat_tests}
-use Rattle.bsv_bits.specs.Words.{Bits, IsWord, bit}
+use Rattle.bsv_bits.specs.Words.{Bits, bit}
 use Rattle.bsv_prim.specs.Signals.{Signals, word_of}
 use Rattle.bsv_prim.specs.Widths.{HasWidth}
 use Rattle.bsv_prim.specs.Speaks.{SpeaksOf}
@@ -18,6 +18,7 @@ use Rattle.bsv_prim.specs.CallLists.{look_whole, all_weaker}
 use Rattle.bsv_prim.specs.declared.part.Part.{Part}
 use Rattle.bsv_prim.specs.declared.part.Part.TheVariants.{Number, Held, Queue}
 use Rattle.bsv_prim.specs.declared.primitive.Rel.TheVariants.{Cf, Sb}
+use Rattle.bsv_prim.specs.RegisterLaws.{bit_is_word}
 
 -- what a wire holds after a write, if there is one
 abbrev pub filled_by : ℕ → Option (List Bits) → Option Bits
@@ -89,9 +90,6 @@ by_rank zero zero e s r = cc
 by_rank zero (suc n) e s r = refl
 by_rank (suc m) zero e s r = absurd (let x : ⊥ = cc in x)
 by_rank (suc m) (suc n) e s r = refl
-
-bit_is_word : IsWord (bit true)
-bit_is_word = record { some = omega arith; most = omega arith; below = omega arith }
 
 module _ (row : WireRow) (is : IsWire row) where
   abbrev t : Table

@@ -5,6 +5,7 @@ use Rattle.std.proofs.lemmas.List.FromFn.{length-map-range_with_len, get_or-map-
 use Rattle.std.proofs.lemmas.Option.{slice_get-get_or, get_or_from_slice_get}
 use Rattle.std.specs.List.{range_with_len}
 use Rattle.std.specs.Prelude.{IsTrue, IsFalse, slice_get, Some}
+use Rattle.std.proofs.lemmas.Bool.{cases_Bool}
 use Rattle.bsv_graph.specs.declared.edge.Edge.{Edge}
 use Rattle.bsv_graph.specs.Edges.{edges_where}
 use Rattle.bsv_schedule.specs.executing.Orders.{HasNeither, IsValueClash, NoValueClash, WireCycle, ValueClash, ExecutionCycle, Executes}
@@ -15,7 +16,6 @@ use Rattle.bsv_schedule.specs.stopping.Stops.{Stops, Picks, AreStops}
 use Rattle.bsv_schedule.specs.urging.Orders.{urgency_edges, UrgencyOrder, IsBehindRule, IsFirstRule, UrgencyCycle, MethodBehindRule, Urges}
 use Rattle.bsv_graph.specs.Walks.{HasCycle, IsAcyclic, NoneCloses}
 use Rattle.bsv_graph.proofs.EdgeLemmas.{where_of}
-use Rattle.bsv_graph.proofs.LeastLemmas.{bool_cases}
 use Rattle.bsv_graph.proofs.OrderedLemmas.{before_in}
 use Rattle.bsv_graph.proofs.WalkLemmas.{edge_parts, keeps_acyclic, none_acyclic}
 use Rattle.bsv_schedule.proofs.ValueLemmas.{acyclic_zero, acyclic_next}
@@ -107,7 +107,7 @@ rule_later r y ys p n f = record {
 
 first_rule : (r : Relating) (xs : List ℕ) (q : ℕ) → In xs q → IsTrue (r.rule q) → (p : ℕ) × IsFirstRule r xs p
 first_rule r [] q i h = absurd i
-first_rule r (y ∷ ys) q i h = elim (bool_cases (r.rule y)) [
+first_rule r (y ∷ ys) q i h = elim (cases_Bool (r.rule y)) [
   | inl t ↦ (y, record { before = []; behind = ys; split = refl; rule = t; earlier = λ p k. absurd k })
   | inr n ↦ elim i [
     | inl e ↦ let k : IsTrue (r.rule y) = subst (λ z. IsTrue (r.rule z)) e h in cc

@@ -2,12 +2,12 @@
 use Rattle.std.proofs.Common.{◌≡◌, ℕ, ◌+◌, ◌-◌, ◌<◌, inl, inr, List, [], ◌∷◌, ◌++◌, length, get_or, take, drop, refl, suc, sym, ◌∙◌, ap, subst, arith, add-one, take-append-drop, drop-cons}
 use Rattle.std.proofs.lemmas.List.{take_more, take_all, length-drop}
 use Rattle.std.specs.Prelude.{IsTrue, IsFalse, All}
+use Rattle.std.proofs.lemmas.Bool.{both_ways}
 use Rattle.bsv_graph.specs.Orders.{In, StandsBefore}
 use Rattle.bsv_schedule.specs.relating.Relating.{Relating}
 use Rattle.bsv_schedule.specs.urging.Orders.{IsBehindRule, NoneBehindRule, IsLeastBehindRule, IsFirstRule}
 use Rattle.bsv_graph.proofs.LeastLemmas.{in_parts}
 use Rattle.bsv_graph.proofs.OrderedLemmas.{before_in}
-use Rattle.bsv_graph.proofs.WalkLemmas.{false_not}
 use Rattle.bsv_schedule.specs.urging.Acting.{IsActionIn, IsLeastActionIn, NoActionIn}
 
 -- one more that is not the number
@@ -45,7 +45,7 @@ module _ (r : Relating) where
       → StandsBefore (before ++ (q ∷ behind)) p m → In behind m
   behind_in [] behind q p m f h (inl s) = s.1
   behind_in [] behind q p m f h (inr s) = (before_in behind p m s).1
-  behind_in (x ∷ before) behind q p m f h (inl s) = absurd (false_not (r.rule x) (f x (inl refl)) (subst (λ z. IsTrue (r.rule z)) s.0 h))
+  behind_in (x ∷ before) behind q p m f h (inl s) = absurd (both_ways (r.rule x) (f x (inl refl)) (subst (λ z. IsTrue (r.rule z)) s.0 h))
   behind_in (x ∷ before) behind q p m f h (inr s) = behind_in before behind q p m (λ k i. f k (inr i)) h s
 
   in_behind : (before behind : List ℕ) (q m : ℕ) → In behind m → StandsBefore (before ++ (q ∷ behind)) q m
@@ -89,4 +89,4 @@ module _ (r : Relating) where
     none_behind g m b = g m (behind_action m b)
 
   pub none_at_all : (xs : List ℕ) → ((q : ℕ) → In xs q → IsFalse (r.rule q)) → NoneBehindRule r xs
-  none_at_all xs f m b = false_not (r.rule b.behind.0) (f b.behind.0 (before_in xs b.behind.0 m b.behind.2).0) b.behind.1
+  none_at_all xs f m b = both_ways (r.rule b.behind.0) (f b.behind.0 (before_in xs b.behind.0 m b.behind.2).0) b.behind.1

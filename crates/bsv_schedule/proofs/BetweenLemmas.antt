@@ -1,13 +1,11 @@
 -- The edges between a value method and the others one by one are those of the definition.
 use Rattle.std.proofs.Common.{◌≡◌, ℕ, ◌<◌, ◌⊎◌, inl, inr, Bool, true, false, [], ◌∷◌, ◌++◌, refl, zero, suc, sym, subst, arith}
-use Rattle.std.proofs.lemmas.Bool.{cases_eq}
+use Rattle.std.proofs.lemmas.Bool.{cases_eq, lt-ltb, ltb-true, and_parts, and_from}
 use Rattle.std.specs.Prelude.{IsTrue, if◌then◌else◌, ◌&&◌, ◌||◌, not, nat_lt}
 use Rattle.bsv_graph.specs.declared.edge.Edge.{Edge}
 use Rattle.bsv_schedule.specs.relating.Relating.{Relating, goes_only, is_one_value, value_of, is_value_edge, value_edges}
 use Rattle.bsv_graph.specs.Walks.{HasEdge}
 use Rattle.bsv_graph.proofs.EdgeLemmas.{where_has, where_of}
-use Rattle.bsv_schedule.proofs.ValueLemmas.{lt_true, true_lt}
-use Rattle.bsv_schedule.proofs.Truths.{and_both, both_and}
 use Rattle.bsv_graph.proofs.WalkLemmas.{edge_parts, edge_left, edge_right}
 use Rattle.bsv_schedule.specs.executing.Between.{edge_between, edges_between}
 
@@ -118,7 +116,7 @@ module _ (r : Relating) (v : ℕ) (is_value : r.value v ≡ true) where
     | inl k ↦ let t = between_list r.count a b k in
         where_has (is_value_edge r (suc v)) r.count a b (both t.1).0 (both t.1).1 (test t.0)
     | inr k ↦ let t = where_of (is_value_edge r v) r.count a b k in
-        where_has (is_value_edge r (suc v)) r.count a b t.0 t.1 (more (and_both (is_one_value r a b && goes_only r a b) (nat_lt (value_of r a b) v) t.2))
+        where_has (is_value_edge r (suc v)) r.count a b t.0 t.1 (more (and_parts (is_one_value r a b && goes_only r a b) (nat_lt (value_of r a b) v) t.2))
   ]
     where
       both : ((a ≡ v) × (b < r.count)) ⊎ ((b ≡ v) × (a < r.count)) → (a < r.count) × (b < r.count)
@@ -126,28 +124,28 @@ module _ (r : Relating) (v : ℕ) (is_value : r.value v ≡ true) where
       both (inr h) = (h.1, omega (arith, h.0, l))
 
       test : TouchesAt r v a b → IsTrue (is_value_edge r (suc v) a b)
-      test t = both_and (is_one_value r a b && goes_only r a b) (nat_lt (value_of r a b) (suc v))
-          (both_and (is_one_value r a b) (goes_only r a b) t.one t.only) (lt_true (value_of r a b) (suc v) (omega (arith, t.value)))
+      test t = and_from (is_one_value r a b && goes_only r a b) (nat_lt (value_of r a b) (suc v))
+          (and_from (is_one_value r a b) (goes_only r a b) t.one t.only) (lt-ltb (value_of r a b) (suc v) (omega (arith, t.value)))
 
       more : IsTrue (is_one_value r a b && goes_only r a b) × IsTrue (nat_lt (value_of r a b) v) → IsTrue (is_value_edge r (suc v) a b)
-      more t = both_and (is_one_value r a b && goes_only r a b) (nat_lt (value_of r a b) (suc v))
-          t.0 (lt_true (value_of r a b) (suc v) (omega (arith, true_lt (value_of r a b) v t.1)))
+      more t = and_from (is_one_value r a b && goes_only r a b) (nat_lt (value_of r a b) (suc v))
+          t.0 (lt-ltb (value_of r a b) (suc v) (omega (arith, ltb-true (value_of r a b) v t.1)))
 
   pub value_back : (a b : ℕ) → HasEdge (value_edges r (suc v)) a b → HasEdge (edges_between r v r.count ++ value_edges r v) a b
   value_back a b h =
       let t = where_of (is_value_edge r (suc v)) r.count a b h in
-      let u = and_both (is_one_value r a b && goes_only r a b) (nat_lt (value_of r a b) (suc v)) t.2 in
-      let w = and_both (is_one_value r a b) (goes_only r a b) u.0 in
+      let u = and_parts (is_one_value r a b && goes_only r a b) (nat_lt (value_of r a b) (suc v)) t.2 in
+      let w = and_parts (is_one_value r a b) (goes_only r a b) u.0 in
       elim (cases_eq (value_of r a b) v) [
         | inl e ↦ edge_left (edges_between r v r.count) (value_edges r v) a b (touch_list r.count a b t.0 t.1 (record { one = w.0; only = w.1; value = e }))
         | inr ne ↦ edge_right (edges_between r v r.count) (value_edges r v) a b
-            (where_has (is_value_edge r v) r.count a b t.0 t.1 (both_and (is_one_value r a b && goes_only r a b) (nat_lt (value_of r a b) v)
-            u.0 (lt_true (value_of r a b) v (omega (arith, ne, true_lt (value_of r a b) (suc v) u.1)))))
+            (where_has (is_value_edge r v) r.count a b t.0 t.1 (and_from (is_one_value r a b && goes_only r a b) (nat_lt (value_of r a b) v)
+            u.0 (lt-ltb (value_of r a b) v (omega (arith, ne, ltb-true (value_of r a b) (suc v) u.1)))))
       ]
 
 -- a value method more
 pub value_up : (r : Relating) (v a b : ℕ) → IsTrue (is_value_edge r v a b) → IsTrue (is_value_edge r (suc v) a b)
 value_up r v a b h =
-    let t = and_both (is_one_value r a b && goes_only r a b) (nat_lt (value_of r a b) v) h in
-    both_and (is_one_value r a b && goes_only r a b) (nat_lt (value_of r a b) (suc v))
-    t.0 (lt_true (value_of r a b) (suc v) (omega (arith, true_lt (value_of r a b) v t.1)))
+    let t = and_parts (is_one_value r a b && goes_only r a b) (nat_lt (value_of r a b) v) h in
+    and_from (is_one_value r a b && goes_only r a b) (nat_lt (value_of r a b) (suc v))
+    t.0 (lt-ltb (value_of r a b) (suc v) (omega (arith, ltb-true (value_of r a b) v t.1)))

@@ -1,10 +1,11 @@
 -- Each of the two orders is one, has the pairs of its attributes, and has what a clock needs of it.
 use Rattle.std.proofs.Common.{◌≡◌, ◌≢◌, ℕ, ◌<◌, inl, inr, List, ◌∷◌, ◌++◌, refl}
 use Rattle.std.specs.Prelude.{IsTrue, IsFalse}
+use Rattle.std.proofs.lemmas.Bool.{cases_Bool}
 use Rattle.bsv_graph.specs.Orders.{In, StandsBefore, place_of}
 use Rattle.bsv_graph.specs.Walks.{HasEdge}
 use Rattle.bsv_graph.proofs.EdgeLemmas.{where_has, within_all}
-use Rattle.bsv_graph.proofs.LeastLemmas.{in_right, once_apart, bool_cases}
+use Rattle.bsv_graph.proofs.LeastLemmas.{in_right, once_apart}
 use Rattle.bsv_graph.proofs.OrderedLemmas.{least_one, keeps_one, keeps_has, respects_split, respects_before, either_before, split_before, before_in, place_before}
 use Rattle.bsv_graph.proofs.WalkLemmas.{edge_left, edge_right}
 use Rattle.bsv_schedule.specs.relating.Relating.{Relating, Agrees, feed_edges, value_edges, early_edges, hard_edges}
@@ -38,7 +39,7 @@ module _ (r : Relating) (execution urgency : List ℕ) (agrees : Agrees r) (x : 
   x_below a i = x.2.order.below a i
 
   no_later' : (before behind : List ℕ) (e f : ℕ) → execution ≡ before ++ (e ∷ behind) → In (e ∷ behind) f → IsFalse (r.feeds f e)
-  no_later' before behind e f p i = elim (bool_cases (r.feeds f e)) [
+  no_later' before behind e f p i = elim (cases_Bool (r.feeds f e)) [
     | inr h ↦ h
     | inl h ↦ absurd (respects_split x.0 before behind e f (rw p at x.2.respects) i
         (keeps_has f e x.1 (feed_hard f e (x_below f (rw p (in_right before (e ∷ behind) f i))) (x_below e (rw p (in_right before (e ∷ behind) e (inl refl)))) h)))
@@ -54,7 +55,7 @@ module _ (r : Relating) (execution urgency : List ℕ) (agrees : Agrees r) (x : 
 
   no_clash' : (before behind : List ℕ) (e f : ℕ) → execution ≡ before ++ (e ∷ behind) → In before f
       → ¬ Stops r execution urgency f e → ¬ Stops r execution urgency e f → IsTrue (r.goes f e)
-  no_clash' before behind e f p i m n = elim (bool_cases (r.goes f e)) [
+  no_clash' before behind e f p i m n = elim (cases_Bool (r.goes f e)) [
     | inl g ↦ g
     | inr g ↦ absurd (clash_stops e f (rw p (split_before before behind e f i))
         (λ k. once_apart before (e ∷ behind) f (rw p at x.2.order.once) i (inl k)) g m n)

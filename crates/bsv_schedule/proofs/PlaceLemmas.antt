@@ -3,6 +3,7 @@ use Rattle.std.proofs.Common.{◌≡◌, ◌≢◌, ℕ, ◌+◌, ◌<◌, ◌�
 use Rattle.std.proofs.lemmas.Bool.{cases_eq, cases_lt}
 use Rattle.std.proofs.lemmas.List.{take_more}
 use Rattle.std.specs.Prelude.{IsTrue, IsFalse, ◌↔◌, if◌then◌else◌, not, slice_get, Some}
+use Rattle.bsv_lemmas.proofs.Places.{at_left}
 use Rattle.bsv_graph.specs.Orders.{In, IsOnce, StandsBefore, place_of}
 use Rattle.bsv_schedule.specs.relating.Relating.{Relating}
 use Rattle.bsv_schedule.specs.stopping.Stops.{Clash, Stops, Picks}
@@ -117,11 +118,6 @@ pub picks_take : (P : ℕ → Type 0) (us xs : List ℕ) (i d : ℕ) (b : Bool) 
     → Picks P (take (i + 1) us) (xs ++ (if b then get_or us i d ∷ [] else []))
 picks_take P us xs i d b h f k = rw (take_more us i d h) (picks_if P (take i us) xs (get_or us i d) b f k)
 
-slice_left : {A : Type 0} (xs ys : List A) (k : ℕ) → k < length xs → slice_get (xs ++ ys) k ≡ slice_get xs k
-slice_left [] ys k h = absurd (omega arith)
-slice_left (x ∷ xs) ys zero h = refl
-slice_left (x ∷ xs) ys (suc k) h = slice_left xs ys k (omega (arith, h))
-
 slice_seam : {A : Type 0} (xs : List A) (y : A) → slice_get (xs ++ (y ∷ [])) (length xs) ≡ Some y
 slice_seam [] y = refl
 slice_seam (x ∷ xs) y = slice_seam xs y
@@ -131,7 +127,7 @@ pub lists_more : (P : ℕ → List ℕ → Type 0) (lists : List (List ℕ)) (n 
     → ((k : ℕ) → k < n → (xs : List ℕ) × (slice_get lists k ≡ Some xs) × P k xs) → P n ys
     → (k : ℕ) → k < n + 1 → (xs : List ℕ) × (slice_get (lists ++ (ys ∷ [])) k ≡ Some xs) × P k xs
 lists_more P lists n ys e f p k l = elim (cases_lt k n) [
-  | inl h ↦ let found = f k h in (found.0, slice_left lists (ys ∷ []) k (omega arith) ∙ found.1, found.2)
+  | inl h ↦ let found = f k h in (found.0, at_left lists (ys ∷ []) k (omega arith) ∙ found.1, found.2)
   | inr h ↦
       let q : k ≡ length lists = omega arith in
       let w : k ≡ n = omega arith in

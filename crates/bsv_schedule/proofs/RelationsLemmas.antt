@@ -1,11 +1,12 @@
 -- The tables and lists that the code makes of a design are how its elements relate.
-use Rattle.std.proofs.Common.{◌≡◌, ◌∙◌, ℕ, ◌<◌, ◌⊎◌, inl, inr, Bool, true, false, not, ◌&&◌, List, [], ◌∷◌, ◌++◌, length, map, refl, zero, suc, sym, ap, subst, arith, Some, None, ltb-true}
-use Rattle.std.proofs.lemmas.Bool.{lt-ltb}
+use Rattle.std.proofs.Common.{◌≡◌, ◌∙◌, ℕ, ◌<◌, ◌⊎◌, inl, inr, Bool, true, false, not, ◌&&◌, List, [], ◌∷◌, ◌++◌, length, map, refl, sym, ap, subst, Some, None, ltb-true}
+use Rattle.std.proofs.lemmas.Bool.{lt-ltb, eqb-true, and_parts, and_from}
 use Rattle.std.proofs.lemmas.List.{length-map}
 use Rattle.std.proofs.lemmas.Option.{slice_get_within}
 use Rattle.bsv_bits.specs.declared.memory.OutOfMemory.{OutOfMemory}
 use Rattle.std.specs.Prelude.{IsTrue, IfOk, Result, Ok, Err, if◌then◌else◌, filter, nat_lt, ◌==◌, ◌↔◌, slice_get, Option}
 use Rattle.std.specs.List.{list_all, list_any, flat_map}
+use Rattle.bsv_lemmas.proofs.Places.{item_there}
 use Rattle.bsv_design.specs.declared.design.Design.{Design}
 use Rattle.bsv_design.specs.declared.element.Element.{Element}
 use Rattle.bsv_design.specs.declared.kind.Kind.{Kind}
@@ -34,15 +35,9 @@ use Rattle.bsv_graph.specs.Walks.{HasEdge}
 use Rattle.bsv_schedule.proofs.DesignLemmas.{uses_some, uses_none, kinds_are, pairs_below}
 use Rattle.bsv_graph.proofs.EdgeLemmas.{all_within, in_below}
 use Rattle.bsv_schedule.proofs.Truths.{same_truths}
-use Rattle.bsv_schedule.proofs.UsesLemmas.{same_number, any_of, all_has, meet_meets, meets_meet, meets_same, goes_is, feeds_is}
-use Rattle.bsv_schedule.proofs.Truths.{and_both, both_and}
+use Rattle.bsv_schedule.proofs.UsesLemmas.{any_of, all_has, meet_meets, meets_meet, meets_same, goes_is, feeds_is}
 
 -- ---- tables of elements that meet
-
-get_some : {X : Type 0} (xs : List X) (k : ℕ) → k < length xs → (x : X) × (slice_get xs k ≡ Some x)
-get_some [] k l = absurd (omega arith)
-get_some (x ∷ xs) zero l = (x, refl)
-get_some (x ∷ xs) (suc k) l = get_some xs k (omega arith)
 
 -- the scheme has these kinds, and these elements use what it says
 pub record IsSchemeOf (S : Scheme) (ks : List Kind) (es : List Element) : Type 0 where
@@ -65,14 +60,14 @@ module _ (S : Scheme) (ks : List Kind) (es : List Element) (us : List Usage) (sc
 
   pub marked_meets : (a b : ℕ) → IsTrue (marked t a b) → Meets w S.kinds (S.uses a) (S.uses b)
   marked_meets a b h =
-      let p = and_both (nat_lt a (side_of t) && nat_lt b (side_of t)) (at t a b) h in
-      let q = and_both (nat_lt a (side_of t)) (nat_lt b (side_of t)) p.0 in
+      let p = and_parts (nat_lt a (side_of t) && nat_lt b (side_of t)) (at t a b) h in
+      let q = and_parts (nat_lt a (side_of t)) (nat_lt b (side_of t)) p.0 in
       let la : a < length us = subst (λ n. a < n) side (ltb-true a (side_of t) q.0) in
       let lb : b < length us = subst (λ n. b < n) side (ltb-true b (side_of t) q.1) in
-      let u = get_some us a la in
-      let v = get_some us b lb in
-      let d = get_some es a (subst (λ n. a < n) are.count la) in
-      let e = get_some es b (subst (λ n. b < n) are.count lb) in
+      let u = item_there us a la in
+      let v = item_there us b lb in
+      let d = item_there es a (subst (λ n. a < n) are.count la) in
+      let e = item_there es b (subst (λ n. b < n) are.count lb) in
       let m : IsTrue (meet w ks u.0 v.0) = subst IsTrue (at_both a b u.0 v.0 u.1 v.1) ((marks a b la lb).0 p.1) in
       subst (λ k. Meets w k (S.uses a) (S.uses b)) (sym scheme.kinds)
       (subst (λ xs. Meets w ks xs (S.uses b)) (sym (scheme.some a d.0 d.1))
@@ -86,8 +81,8 @@ module _ (S : Scheme) (ks : List Kind) (es : List Element) (us : List Usage) (sc
       let e = uses_element b h.second h.in_second in
       let la : a < length us = subst (λ n. a < n) (sym are.count) (slice_get_within es a d.0 d.1) in
       let lb : b < length us = subst (λ n. b < n) (sym are.count) (slice_get_within es b e.0 e.1) in
-      let u = get_some us a la in
-      let v = get_some us b lb in
+      let u = item_there us a la in
+      let v = item_there us b lb in
       let same_d = are.same a d.0 u.0 d.1 u.1 in
       let same_e = are.same b e.0 v.0 e.1 v.1 in
       let m : Meets w ks (map target d.0.calls) (map target e.0.calls) =
@@ -97,8 +92,8 @@ module _ (S : Scheme) (ks : List Kind) (es : List Element) (us : List Usage) (sc
       let n : IsTrue (meet w ks u.0 v.0) =
       meets_meet w ks u.0 v.0 (meets_same w ks (map target d.0.calls) (map target e.0.calls) (used u.0) (used v.0)
       (λ x. ((same_d x).1, (same_d x).0)) (λ x. ((same_e x).1, (same_e x).0)) m) in
-      both_and (nat_lt a (side_of t) && nat_lt b (side_of t)) (at t a b)
-      (both_and (nat_lt a (side_of t)) (nat_lt b (side_of t)) (lt-ltb a (side_of t) (subst (λ n. a < n) (sym side) la))
+      and_from (nat_lt a (side_of t) && nat_lt b (side_of t)) (at t a b)
+      (and_from (nat_lt a (side_of t)) (nat_lt b (side_of t)) (lt-ltb a (side_of t) (subst (λ n. a < n) (sym side) la))
       (lt-ltb b (side_of t) (subst (λ n. b < n) (sym side) lb)))
       ((marks a b la lb).1 (subst IsTrue (sym (at_both a b u.0 v.0 u.1 v.1)) n))
 
@@ -139,7 +134,7 @@ pairs_edges test (q ∷ ps) p (inr h) k =
     (there_step (test q.attribute) (edge_of q) (edges_of test ps) p.before p.after (pairs_edges test ps p h k))
 
 below_of : (n : ℕ) (p : Pair) → IsTrue (pair_below n p) → (p.before < n) × (p.after < n)
-below_of n p h = let b = and_both (nat_lt p.before n) (nat_lt p.after n) h in (ltb-true p.before n b.0, ltb-true p.after n b.1)
+below_of n p h = let b = and_parts (nat_lt p.before n) (nat_lt p.after n) h in (ltb-true p.before n b.0, ltb-true p.after n b.1)
 
 pub edges_below : (test : Attribute → Bool) (n : ℕ) (ps : List Pair) → IsTrue (list_all (pair_below n) ps) → AllBelow n (edges_of test ps)
 edges_below test n ps h = all_within n (edges_of test ps) (λ a b k.
@@ -150,9 +145,9 @@ edges_below test n ps h = all_within n (edges_of test ps) (λ a b k.
 -- what a pair of `preempts` says
 says : (a b : ℕ) (p : Pair) → IsTrue (preempts a b p) → IsTrue (is_preempting p.attribute) × (p.before ≡ a) × (p.after ≡ b)
 says a b p h =
-    let x = and_both (is_preempting p.attribute && (p.before == a)) (p.after == b) h in
-    let y = and_both (is_preempting p.attribute) (p.before == a) x.0 in
-    (y.0, same_number p.before a y.1, same_number p.after b x.1)
+    let x = and_parts (is_preempting p.attribute && (p.before == a)) (p.after == b) h in
+    let y = and_parts (is_preempting p.attribute) (p.before == a) x.0 in
+    (y.0, eqb-true p.before a y.1, eqb-true p.after b x.1)
 
 urges : (x : Attribute) → IsTrue (is_preempting x) → IsTrue (is_urging x)
 urges attribute.ExecutionOrder h = cc
@@ -170,8 +165,8 @@ pub marked_preempts : (t : Table) (n : ℕ) (ps : List Pair) → side_of t ≡ n
     → ((a b : ℕ) → a < n → b < n → IsTrue (at t a b) ↔ IsTrue (list_any (preempts a b) ps)) → (a b : ℕ) → marked t a b ≡ list_any (preempts a b) ps
 marked_preempts t n ps side below marks a b = same_truths (marked t a b) (list_any (preempts a b) ps)
     (λ h.
-    let p = and_both (nat_lt a (side_of t) && nat_lt b (side_of t)) (at t a b) h in
-    let q = and_both (nat_lt a (side_of t)) (nat_lt b (side_of t)) p.0 in
+    let p = and_parts (nat_lt a (side_of t) && nat_lt b (side_of t)) (at t a b) h in
+    let q = and_parts (nat_lt a (side_of t)) (nat_lt b (side_of t)) p.0 in
     (marks a b (subst (λ n. a < n) side (ltb-true a (side_of t) q.0)) (subst (λ n. b < n) side (ltb-true b (side_of t) q.1))).0 p.1)
     (λ h.
     let p = any_of (preempts a b) ps h in
@@ -179,8 +174,8 @@ marked_preempts t n ps side below marks a b = same_truths (marked t a b) (list_a
     let l = below_of n p.0 (all_has (pair_below n) ps p.0 below p.1) in
     let la : a < n = subst (λ x. x < n) s.1 l.0 in
     let lb : b < n = subst (λ x. x < n) s.2 l.1 in
-    both_and (nat_lt a (side_of t) && nat_lt b (side_of t)) (at t a b)
-    (both_and (nat_lt a (side_of t)) (nat_lt b (side_of t)) (lt-ltb a (side_of t) (subst (λ n. a < n) (sym side) la))
+    and_from (nat_lt a (side_of t) && nat_lt b (side_of t)) (at t a b)
+    (and_from (nat_lt a (side_of t)) (nat_lt b (side_of t)) (lt-ltb a (side_of t) (subst (λ n. a < n) (sym side) la))
     (lt-ltb b (side_of t) (subst (λ n. b < n) (sym side) lb)))
     ((marks a b la lb).1 h))
 
@@ -257,7 +252,7 @@ module _ (d : Design) (ks : List Kind) (es : List Element) (us vs : List Usage) 
 
 -- ---- edges look below the count alone
 
-filter_same : (f g : ℕ → Bool) (xs : List ℕ) → ((x : ℕ) → In xs x → f x ≡ g x) → filter f xs ≡ filter g xs
+pub filter_same : (f g : ℕ → Bool) (xs : List ℕ) → ((x : ℕ) → In xs x → f x ≡ g x) → filter f xs ≡ filter g xs
 filter_same f g [] h = refl
 filter_same f g (x ∷ xs) h = ap (λ t. if t then x ∷ filter f xs else filter f xs) (h x (inl refl))
     ∙ ap (λ ys. if g x then x ∷ ys else ys) (filter_same f g xs (λ y k. h y (inr k)))
@@ -272,7 +267,7 @@ pub where_same : (n : ℕ) (f g : ℕ → ℕ → Bool) → ((a b : ℕ) → a <
 where_same n f g h = rows_same n f g (numbers_below n) (λ a b k l. h a b (in_below n a k) l)
 
 pub at_marked : (t : Table) (a b : ℕ) → a < side_of t → b < side_of t → at t a b ≡ marked t a b
-at_marked t a b h k = ap (λ x. x && at t a b) (sym (both_and (nat_lt a (side_of t)) (nat_lt b (side_of t)) (lt-ltb a (side_of t) h) (lt-ltb b (side_of t) k)))
+at_marked t a b h k = ap (λ x. x && at t a b) (sym (and_from (nat_lt a (side_of t)) (nat_lt b (side_of t)) (lt-ltb a (side_of t) h) (lt-ltb b (side_of t) k)))
 
 pub feeds_edges : (r : Relations) (found : Result (List Edge) OutOfMemory) → IfOk found (λ es. es ≡ edges_where (side_of r.feeds) (at r.feeds))
     → IfOk found (λ es. es ≡ feed_edges (relating_of r))

@@ -1,7 +1,7 @@
 -- What the graph of the hard edges is, stage by stage.
-use Rattle.std.proofs.Common.{◌≡◌, ℕ, ◌+◌, ◌<◌, inl, inr, Bool, true, false, List, [], ◌∷◌, ◌++◌, add-one, length, get_or, refl, zero, suc, subst, arith}
+use Rattle.std.proofs.Common.{◌≡◌, ℕ, ◌+◌, ◌<◌, inl, inr, Bool, true, false, List, [], ◌∷◌, ◌++◌, add-one, refl, suc, subst, arith}
 use Rattle.std.proofs.lemmas.Bool.{cases_lt}
-use Rattle.std.specs.Prelude.{IsTrue, if◌then◌else◌, slice_get, Some}
+use Rattle.std.specs.Prelude.{IsTrue, if◌then◌else◌}
 use Rattle.bsv_graph.specs.declared.edge.Edge.{Edge}
 use Rattle.bsv_graph.specs.declared.graph.Graph.{Graph}
 use Rattle.bsv_graph.specs.Graphs.{IsGraphOf}
@@ -91,11 +91,6 @@ module _ (r : Relating) where
     | inl lt ↦ f u lt c
     | inr ge ↦ let e : u ≡ v = omega arith in n (subst (λ i. IsValueClash r i) e c)
   ]
-
-pub edge_read_some : (es : List Edge) (k : ℕ) (d : Edge) → k < length es → slice_get es k ≡ Some (get_or es k d)
-edge_read_some [] k d h = absurd (omega arith)
-edge_read_some (e ∷ es) zero d h = refl
-edge_read_some (e ∷ es) (suc k) d h = edge_read_some es k d (omega (arith, h))
 
 abbrev pub edge_if : Bool → ℕ → ℕ → List Edge
 edge_if b a k = if b then record { from = a; to = k } ∷ [] else []

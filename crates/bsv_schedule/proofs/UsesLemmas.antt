@@ -1,8 +1,7 @@
 -- Uses each once say the same as calls: which elements clash, and which feed which.
 use Rattle.std.proofs.Common.{◌≡◌, ◌≢◌, ◌∙◌, ℕ, ◌<◌, ◌⊎◌, inl, inr, Bool, true, false, not, ◌&&◌, ◌||◌, List, [], ◌∷◌, ◌++◌, length, get_or, map, refl, zero, suc, sym, ap, subst, arith, Some, None}
 use Rattle.std.proofs.Common.{get_or-set_same, get_or-set_other}
-use Rattle.std.proofs.lemmas.Bool.{cases_eq}
-use Rattle.std.proofs.lemmas.Bool.Decides.{nat_tests}
+use Rattle.std.proofs.lemmas.Bool.{cases_eq, and_parts, and_from, or_left, or_right, eq-eqb, eqb-true}
 use Rattle.std.specs.Prelude.{IsTrue, IsFalse, if◌then◌else◌, filter, ◌==◌, slice_get, Option}
 use Rattle.std.specs.List.{list_all, list_any}
 use Rattle.bsv_design.specs.declared.element.Call.{Call}
@@ -18,13 +17,7 @@ use Rattle.bsv_schedule.specs.declared.relating.usage.Use.{Use}
 use Rattle.bsv_schedule.specs.relating.Grouping.{methods_on, methods_at, AreGrouped, added}
 use Rattle.bsv_schedule.specs.relating.Related.{names_method, related, on_one_part}
 use Rattle.bsv_schedule.specs.relating.Uses.{target_of, Among, UseSame, Meets, IsNoted, used, use_named, meet, calls_meet}
-use Rattle.bsv_schedule.proofs.Truths.{and_both, both_and, same_truths}
-
-pub same_number : (m n : ℕ) → IsTrue (m == n) → m ≡ n
-same_number m n h = grind (arith, nat_tests, h)
-
-number_same : (m n : ℕ) → m ≡ n → IsTrue (m == n)
-number_same m n h = grind (arith, nat_tests, h)
+use Rattle.bsv_schedule.proofs.Truths.{same_truths}
 
 -- ---- members of lists
 
@@ -61,14 +54,6 @@ pub any_of : {X : Type 0} (f : X → Bool) (xs : List X) → IsTrue (list_any f 
 any_of f [] h = cc
 any_of f (x ∷ xs) h = any_step f x xs (any_of f xs) (f x) refl h
 
-or_left : (a b : Bool) → IsTrue a → IsTrue (a || b)
-or_left true b h = refl
-or_left false b h = cc
-
-or_right : (a b : Bool) → IsTrue b → IsTrue (a || b)
-or_right true b h = refl
-or_right false b h = h
-
 any_has : {X : Type 0} (f : X → Bool) (xs : List X) (x : X) → Among xs x → IsTrue (f x) → IsTrue (list_any f xs)
 any_has f [] x h k = absurd h
 any_has f (y ∷ xs) x (inl e) k = or_left (f y) (list_any f xs) (subst (λ z. IsTrue (f z)) e k)
@@ -76,12 +61,12 @@ any_has f (y ∷ xs) x (inr h) k = or_right (f y) (list_any f xs) (any_has f xs 
 
 pub all_has : {X : Type 0} (f : X → Bool) (xs : List X) (x : X) → IsTrue (list_all f xs) → Among xs x → IsTrue (f x)
 all_has f [] x h k = absurd k
-all_has f (y ∷ xs) x h (inl e) = subst (λ z. IsTrue (f z)) (sym e) (and_both (f y) (list_all f xs) h).0
-all_has f (y ∷ xs) x h (inr k) = all_has f xs x (and_both (f y) (list_all f xs) h).1 k
+all_has f (y ∷ xs) x h (inl e) = subst (λ z. IsTrue (f z)) (sym e) (and_parts (f y) (list_all f xs) h).0
+all_has f (y ∷ xs) x h (inr k) = all_has f xs x (and_parts (f y) (list_all f xs) h).1 k
 
 pub all_from : {X : Type 0} (f : X → Bool) (xs : List X) → ((x : X) → Among xs x → IsTrue (f x)) → IsTrue (list_all f xs)
 all_from f [] h = refl
-all_from f (y ∷ xs) h = both_and (f y) (list_all f xs) (h y (inl refl)) (all_from f xs (λ x k. h x (inr k)))
+all_from f (y ∷ xs) h = and_from (f y) (list_all f xs) (h y (inl refl)) (all_from f xs (λ x k. h x (inr k)))
 
 -- ---- methods by part
 
@@ -98,7 +83,7 @@ on_cons u us part = on_step (u.part == part) u (filter (λ v. v.part == part) us
 of_step : (u : Use) (us : List Use) (part m : ℕ) → (Among (methods_on us part) m → (v : Use) × Among us v × (v.part ≡ part) × (v.method ≡ m))
     → (b : Bool) → (u.part == part) ≡ b → Among (if b then u.method ∷ methods_on us part else methods_on us part) m
     → (v : Use) × Among (u ∷ us) v × (v.part ≡ part) × (v.method ≡ m)
-of_step u us part m g true e (inl k) = (u, inl refl, same_number u.part part e, sym k)
+of_step u us part m g true e (inl k) = (u, inl refl, eqb-true u.part part e, sym k)
 of_step u us part m g true e (inr k) = let p = g k in (p.0, inr p.1, p.2, p.3)
 of_step u us part m g false e k = let p = g k in (p.0, inr p.1, p.2, p.3)
 
@@ -117,7 +102,7 @@ on_there false x m ms h = h
 pub on_has : (us : List Use) (u : Use) → Among us u → Among (methods_on us u.part) u.method
 on_has [] u h = absurd h
 on_has (v ∷ us) u (inl h) = subst (λ w. Among (methods_on (v ∷ us) w.part) w.method) (sym h)
-    (subst (λ ms. Among ms v.method) (sym (on_cons v us v.part)) (on_here (v.part == v.part) v.method (methods_on us v.part) (number_same v.part v.part refl)))
+    (subst (λ ms. Among ms v.method) (sym (on_cons v us v.part)) (on_here (v.part == v.part) v.method (methods_on us v.part) (eq-eqb v.part v.part refl)))
 on_has (v ∷ us) u (inr h) = subst (λ ms. Among ms u.method) (sym (on_cons v us u.part))
     (on_there (v.part == u.part) v.method u.method (methods_on us u.part) (on_has us u h))
 
@@ -151,14 +136,14 @@ grouped_more gs hs us part m l g is q = ap (λ z. methods_at z q) is ∙ (elim (
   yes_if false h = cc
 
   mine : methods_on (u ∷ []) part ≡ m ∷ []
-  mine = on_cons u [] part ∙ yes_if (part == part) (number_same part part refl)
+  mine = on_cons u [] part ∙ yes_if (part == part) (eq-eqb part part refl)
 
   not_if : (b : Bool) → ¬ IsTrue b → (if b then m ∷ [] else []) ≡ []
   not_if true h = absurd (h refl)
   not_if false h = refl
 
   others : (q : ℕ) → q ≢ part → methods_on (u ∷ []) q ≡ []
-  others q ne = on_cons u [] q ∙ not_if (part == q) (λ h. ne (sym (same_number part q h)))
+  others q ne = on_cons u [] q ∙ not_if (part == q) (λ h. ne (sym (eqb-true part q h)))
 
   nothing_more : (ms : List ℕ) → ms ++ [] ≡ ms
   nothing_more [] = refl
@@ -249,7 +234,7 @@ module _ (w : Relation) (ks : List Kind) where
         second = target_of y;
         in_first = among_map target_of u.uses r.0 r.1;
         in_second = among_map target_of v.uses y p.1;
-        meet = both_and (r.0.part == y.part) (related w (slice_get ks r.0.part) r.0.method y.method) (number_same r.0.part y.part r.2)
+        meet = and_from (r.0.part == y.part) (related w (slice_get ks r.0.part) r.0.method y.method) (eq-eqb r.0.part y.part r.2)
             (subst (λ n. IsTrue (related w (slice_get ks n) r.0.method y.method)) (sym r.2)
             (subst (λ m. IsTrue (related w (slice_get ks y.part) m y.method)) (sym r.3) q.2));
       }
@@ -262,8 +247,8 @@ module _ (w : Relation) (ks : List Kind) where
       let y = q.0 in
       let k : IsTrue (on_one_part w ks (target_of x) (target_of y)) =
       subst (λ t. IsTrue (on_one_part w ks t (target_of y))) p.2 (subst (λ t. IsTrue (on_one_part w ks h.first t)) q.2 h.meet) in
-      let b = and_both (x.part == y.part) (related w (slice_get ks x.part) x.method y.method) k in
-      let e : x.part ≡ y.part = same_number x.part y.part b.0 in
+      let b = and_parts (x.part == y.part) (related w (slice_get ks x.part) x.method y.method) k in
+      let e : x.part ≡ y.part = eqb-true x.part y.part b.0 in
       any_has (λ z. list_any (λ m. related w (slice_get ks z.part) m z.method) (methods_on u.uses z.part)) v.uses y q.1
       (any_has (λ m. related w (slice_get ks y.part) m y.method) (methods_on u.uses y.part) x.method
       (subst (λ n. Among (methods_on u.uses n) x.method) e (on_has u.uses x p.1))
@@ -439,7 +424,7 @@ among_at (y ∷ xs) (suc k) x l h = inr (among_at xs k x (omega arith) h)
 
 pub among_equal : (ms : List ℕ) (k m d : ℕ) → k < length ms → IsTrue (get_or ms k d == m) → Among ms m
 among_equal [] k m d l h = absurd (omega arith)
-among_equal (x ∷ ms) zero m d l h = inl (sym (same_number x m h))
+among_equal (x ∷ ms) zero m d l h = inl (sym (eqb-true x m h))
 among_equal (x ∷ ms) (suc k) m d l h = inr (among_equal ms k m d (omega arith) h)
 
 -- a call that names a method stands on a part

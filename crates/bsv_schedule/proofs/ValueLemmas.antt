@@ -1,20 +1,12 @@
 -- The edges of value methods, from those of the methods before a position to those of one more.
-use Rattle.std.proofs.Common.{◌≡◌, ℕ, ◌<◌, inl, inr, Bool, true, false, refl, suc, subst, arith}
-use Rattle.std.proofs.lemmas.Bool.{cases_eq}
-use Rattle.std.proofs.lemmas.Bool.Decides.{nat_tests}
+use Rattle.std.proofs.Common.{◌≡◌, ℕ, inl, inr, Bool, true, false, refl, suc, subst, arith}
+use Rattle.std.proofs.lemmas.Bool.{cases_eq, and_parts, and_from, lt-ltb, ltb-true}
 use Rattle.std.specs.Prelude.{IsTrue, if◌then◌else◌, ◌&&◌, ◌||◌, not, nat_lt}
 use Rattle.bsv_schedule.specs.executing.Orders.{IsValueClash}
 use Rattle.bsv_schedule.specs.relating.Relating.{Relating, feed_edges, goes_only, is_one_value, value_of, is_value_edge, value_edges, early_edges}
 use Rattle.bsv_graph.specs.Walks.{HasEdge, IsAcyclic}
 use Rattle.bsv_graph.proofs.EdgeLemmas.{where_has, where_of}
 use Rattle.bsv_graph.proofs.WalkLemmas.{edge_parts, edge_left, edge_right, walk_map}
-use Rattle.bsv_schedule.proofs.Truths.{and_both, both_and}
-
-pub lt_true : (m n : ℕ) → m < n → IsTrue (nat_lt m n)
-lt_true m n h = grind (arith, nat_tests, h)
-
-pub true_lt : (m n : ℕ) → IsTrue (nat_lt m n) → m < n
-true_lt m n h = grind (arith, nat_tests, h)
 
 value_is : (r : Relating) (a b : ℕ) → IsTrue (is_one_value r a b) → IsTrue (r.value (value_of r a b))
 value_is r a b h = go (r.value a) refl h
@@ -31,12 +23,12 @@ value_is r a b h = go (r.value a) refl h
 module _ (r : Relating) (v : ℕ) (other : r.value v ≡ false) where
   value_down : (a b : ℕ) → IsTrue (is_value_edge r (suc v) a b) → IsTrue (is_value_edge r v a b)
   value_down a b h =
-      let t = and_both (is_one_value r a b && goes_only r a b) (nat_lt (value_of r a b) (suc v)) h in
-      let u = and_both (is_one_value r a b) (goes_only r a b) t.0 in
+      let t = and_parts (is_one_value r a b && goes_only r a b) (nat_lt (value_of r a b) (suc v)) h in
+      let u = and_parts (is_one_value r a b) (goes_only r a b) t.0 in
       elim (cases_eq (value_of r a b) v) [
         | inl e ↦ let k : r.value v ≡ true = subst (λ z. IsTrue (r.value z)) e (value_is r a b u.0) in cc
-        | inr ne ↦ both_and (is_one_value r a b && goes_only r a b) (nat_lt (value_of r a b) v)
-            t.0 (lt_true (value_of r a b) v (omega (arith, ne, true_lt (value_of r a b) (suc v) t.1)))
+        | inr ne ↦ and_from (is_one_value r a b && goes_only r a b) (nat_lt (value_of r a b) v)
+            t.0 (lt-ltb (value_of r a b) v (omega (arith, ne, ltb-true (value_of r a b) (suc v) t.1)))
       ]
 
   pub early_down : (a b : ℕ) → HasEdge (early_edges r (suc v)) a b → HasEdge (early_edges r v) a b
@@ -49,8 +41,8 @@ module _ (r : Relating) (v : ℕ) (other : r.value v ≡ false) where
 -- at first there are the feeds alone
 value_zero : (r : Relating) (a b : ℕ) → IsTrue (is_value_edge r 0 a b) → ⊥
 value_zero r a b h =
-    let t = and_both (is_one_value r a b && goes_only r a b) (nat_lt (value_of r a b) 0) h in
-    absurd (omega (arith, true_lt (value_of r a b) 0 t.1))
+    let t = and_parts (is_one_value r a b && goes_only r a b) (nat_lt (value_of r a b) 0) h in
+    absurd (omega (arith, ltb-true (value_of r a b) 0 t.1))
 
 pub early_zero : (r : Relating) (a b : ℕ) → HasEdge (early_edges r 0) a b → HasEdge (feed_edges r) a b
 early_zero r a b h = elim (edge_parts (value_edges r 0) (feed_edges r) a b h) [

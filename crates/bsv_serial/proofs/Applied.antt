@@ -3,14 +3,13 @@ use Rattle.std.proofs.Common.{◌≡◌, ◌∙◌, ℕ, ◌+◌, ◌<◌, ◌�
 use Rattle.std.specs.Prelude.{slice_get}
 use Rattle.std.proofs.lemmas.List.{take_more_set, drop-set-lt, drop_all, length-map, take_all}
 use Rattle.std.proofs.lemmas.Option.{slice_get_read}
+use Rattle.bsv_lemmas.proofs.Places.{mapped_at, drop_one}
 use Rattle.bsv_prim.specs.declared.part.Part.{Part}
 use Rattle.bsv_design.specs.declared.design.NamedPart.{NamedPart}
 use Rattle.bsv_design.specs.declared.kind.Kind.{Kind}
 use Rattle.bsv_serial.specs.declared.made.MadeCall.{MadeCall}
 use Rattle.bsv_serial.specs.Applying.{behind, CanTake, all_behind, AllCanTake}
-use Rattle.bsv_guard.proofs.Lists.{mapped_at}
 use Rattle.bsv_serial.specs.AtHand.{kinds}
-use Rattle.bsv_serial.proofs.Lists.{drop_one}
 
 record AreSameLong (ks : List Kind) (ps : List Part) (made : List (List MadeCall)) : Type 0 where
   kinds : length ks ≡ length ps

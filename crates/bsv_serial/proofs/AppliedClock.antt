@@ -3,6 +3,7 @@ use Rattle.std.proofs.Common.{◌≡◌, ◌∙◌, ℕ, zero, suc, ◌<◌, tru
 use Rattle.std.specs.Prelude.{slice_get}
 use Rattle.std.specs.List.{AllByRecursion}
 use Rattle.std.proofs.lemmas.Option.{slice_get_within}
+use Rattle.bsv_lemmas.proofs.Places.{all_from}
 use Rattle.bsv_prim.specs.Calls as prim
 use Rattle.bsv_prim.specs.Table.{Call}
 use Rattle.bsv_prim.specs.declared.part.Part.{Part}
@@ -13,12 +14,12 @@ use Rattle.bsv_design.specs.Schemes.{Scheme}
 use Rattle.bsv_design.specs.States.{FitsKinds, emptied, part_at}
 use Rattle.bsv_design.specs.Traces.{acts}
 use Rattle.bsv_guard.specs.Turns.{calls_on}
-use Rattle.bsv_guard.proofs.Turns.{sound_turns}
+use Rattle.bsv_guard.proofs.Turns.{sound_turns, all_on, fits_at, length-parts}
 use Rattle.bsv_clock.specs.Feeding.{IsFed}
 use Rattle.bsv_clock.specs.Grounds.{IsLawful}
 use Rattle.bsv_clock.specs.Settling.{Doing, deeds, end_of}
-use Rattle.bsv_clock.proofs.CallLists.{all_from, all_map, all_on}
-use Rattle.bsv_clock.proofs.Steadily.{emptied_fits, part_fits}
+use Rattle.bsv_clock.proofs.CallLists.{all_map}
+use Rattle.bsv_clock.proofs.Steadily.{emptied_fits}
 use Rattle.bsv_serial.specs.declared.made.MadeCall.{MadeCall}
 use Rattle.bsv_serial.specs.Applying.{AllCanTake, CanTake, all_behind, behind}
 use Rattle.bsv_serial.specs.Made.{as_calls}
@@ -28,12 +29,6 @@ use Rattle.bsv_serial.proofs.LookingSoFar.{orderly_applied}
 use Rattle.bsv_serial.proofs.Tagged.{as_calls_tagged, tagged}
 
 -- ---- lists, item by item
-
-pub parts_long : (ks : List Kind) (ps : List Part) → FitsKinds ks ps → length ps ≡ length ks
-parts_long [] [] h = refl
-parts_long [] (p ∷ ps) h = absurd h
-parts_long (k ∷ ks) [] h = absurd h
-parts_long (k ∷ ks) (p ∷ ps) h = ap suc (parts_long ks ps h.1)
 
 pub take_all : (ks : List Kind) (ps : List Part) (ms : List (List MadeCall)) → length ps ≡ length ks → length ms ≡ length ks
     → ((i : ℕ) (k : Kind) → slice_get ks i ≡ Some k → CanTake k (part_at ps i) (made_on ms i)) → AllCanTake ks ps ms
@@ -81,7 +76,7 @@ module _ (S : Scheme) (made : Schedule) (lawful : IsLawful S) (s : List Part) (p
 
     one_takes : CanTake kind (part_at start i) (made_on lists i)
     one_takes = record {
-      part = part_fits S.kinds start start_fits i kind is;
+      part = fits_at S.kinds start start_fits i kind is;
       calls = subst (CanBeApplied (kind_table kind) (part_at start i)) (sym all_calls)
           (orderly_applied (kind_table kind) (part_at start i) (calls_on i (deeds D made.execution)) (fed.orderly i kind is) acting);
     }
@@ -93,8 +88,8 @@ module _ (S : Scheme) (made : Schedule) (lawful : IsLawful S) (s : List Part) (p
         ∙ sym ((sound_turns S lawful.sound lawful.fitting).each_part start start_fits (deeds D made.execution) i kind is)
 
   pub clock_takes : AllCanTake S.kinds start lists
-  clock_takes = take_all S.kinds start lists (parts_long S.kinds start start_fits) count one_takes
+  clock_takes = take_all S.kinds start lists (length-parts S.kinds start start_fits) count one_takes
 
   pub clock_behind : all_behind S.kinds start lists ≡ end_of S made s D
   clock_behind =
-      behind_all S.kinds start (end_of S made s D) lists (parts_long S.kinds start start_fits) (parts_long S.kinds (end_of S made s D) fed.end_fits) count one_behind
+      behind_all S.kinds start (end_of S made s D) lists (length-parts S.kinds start start_fits) (length-parts S.kinds (end_of S made s D) fed.end_fits) count one_behind

@@ -4,6 +4,7 @@ use Rattle.std.proofs.Math.Bool.{Bool-set}
 use Rattle.std.proofs.Math.Logic.{∥∥₁_elim}
 use Rattle.std.specs.Prelude.{slice_get}
 use Rattle.std.specs.List.{list_all}
+use Rattle.bsv_lemmas.proofs.Places.{mapped_at}
 use Rattle.bsv_prim.specs.declared.part.Part.{Part}
 use Rattle.bsv_design.specs.declared.design.Design.{Design}
 use Rattle.bsv_design.specs.declared.element.Element.{Element}
@@ -28,7 +29,7 @@ use Rattle.bsv_serial.specs.Settings.{Ground, CanRun}
 use Rattle.bsv_serial.proofs.DecidedFront.{so_far}
 use Rattle.bsv_serial.proofs.Joining.{made_on}
 use Rattle.bsv_serial.proofs.LookingSoFar.{same_look_here, can_look_here}
-use Rattle.bsv_serial.proofs.ReadyHere.{given_here, mapped_get, outline_there, use_of}
+use Rattle.bsv_serial.proofs.ReadyHere.{given_here, outline_there, use_of}
 use Rattle.bsv_serial.proofs.Tagged.{tagged}
 
 -- ---- widths, out of what a design keeps
@@ -116,6 +117,6 @@ module _ (d : Design) (made : Schedule) (lawful : IsLawful (design_scheme (bluep
       element = e;
       is = is;
       body = computed;
-      needs = ap (λ (ns : List (List Need)). slice_get ns n) are_needs ∙ mapped_get (λ (x : Element). needs_from (kinds_of (blueprint d)) 0 x.calls) d.elements n e is;
+      needs = ap (λ (ns : List (List Need)). slice_get ns n) are_needs ∙ mapped_at (λ (x : Element). needs_from (kinds_of (blueprint d)) 0 x.calls) d.elements n e is;
       named = named_in d n e (kinds_of (blueprint d)) e.calls is refl refl;
     }

@@ -1,12 +1,9 @@
 -- What is known of a design, its schedule and its requests where a clock is run.
-use Rattle.std.proofs.Common.{◌≡◌, ℕ, ◌<◌, ◌≤◌, ◌^◌, true, List, [], ◌∷◌, subst, length}
-use Rattle.std.specs.Prelude.{nat_lt}
+use Rattle.std.proofs.Common.{◌≡◌, ℕ, ◌<◌, ◌≤◌, List, [], ◌∷◌, subst, length}
 use Rattle.std.specs.List.{AllByRecursion}
-use Rattle.std.proofs.Math.Bool.{Bool-set}
 use Rattle.std.proofs.Math.Nat.{ℕ_set}
 use Rattle.std.proofs.Math.Bridge.{le_prop}
 use Rattle.std.proofs.Math.Logic.{∥∥₁_elim}
-use Rattle.std.proofs.lemmas.Bool.{ltb-true}
 use Rattle.std.proofs.lemmas.List.{length-map}
 use Rattle.bsv_bits.specs.Words.{Bits}
 use Rattle.bsv_prim.specs.declared.part.Part.{Part}
@@ -25,7 +22,7 @@ use Rattle.bsv_clock.proofs.Members.{once_long}
 use Rattle.bsv_clock.proofs.Stopping.{execution_order, urgency_order}
 use Rattle.bsv_serial.proofs.Placed.{all_below}
 
-words_prop : (ps : List Port) (ws : List Bits) → IsProp (AreWordsOf ps ws)
+pub words_prop : (ps : List Port) (ws : List Bits) → IsProp (AreWordsOf ps ws)
 words_prop [] [] = hlevel
 words_prop [] (w ∷ ws) = hlevel
 words_prop (p ∷ ps) [] = hlevel
@@ -38,11 +35,6 @@ requests_fit d q asking n =
 pub fits_together : (d : Design) (q : Asking) (s : List Part) → AskingFits d.elements q → FitsKinds (kinds_of (blueprint d)) s → Fit (design_scheme (blueprint d)) q s
 unfolding design_scheme
 fits_together d q s asking parts = record { requests = requests_fit d q asking; parts = parts }
-
-pub few_elements : (d : Design) → length d.elements < 2 ^ 32
-few_elements d =
-    let few : nat_lt (length d.elements) (2 ^ 32) ≡ true = ∥∥₁_elim d.right (Bool-set _ _) (λ (right : IsDesign (blueprint d)). right.few_elements) in
-    ltb-true _ _ few
 
 module _ (d : Design) (made : Schedule) (scheduled : IsScheduleOf (design_scheme (blueprint d)) made) where
   count : length (design_scheme (blueprint d)).elements ≡ length d.elements

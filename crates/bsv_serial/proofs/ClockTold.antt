@@ -3,6 +3,7 @@ use Rattle.std.proofs.Common.{◌≡◌, ◌∙◌, inl, inr, is_some, ℕ, zero
 use Rattle.std.specs.Prelude.{filter, slice_get, slice_index, unwrap_or}
 use Rattle.std.specs.List.{AllByRecursion, flat_map}
 use Rattle.std.proofs.lemmas.List.{length-map}
+use Rattle.bsv_lemmas.proofs.Places.{item_there}
 use Rattle.bsv_bits.specs.Words.{Bits}
 use Rattle.bsv_prim.specs.declared.part.Part.{Part}
 use Rattle.bsv_design.specs.declared.design.Design.{Design}
@@ -27,7 +28,7 @@ use Rattle.bsv_clock.specs.Grounds.{BelongTogether, Fit, IsLawful, IsScheduleOf}
 use Rattle.bsv_clock.specs.Looks.{clock_look, look_after}
 use Rattle.bsv_clock.specs.Settling.{Doing, DoesWithin, IsSettled, decide, end_of, fired_in, fires, is_stopped, look_of, the_clock}
 use Rattle.bsv_clock.proofs.Clocks.{clock_fed, clock_results, clock_run, some_clock}
-use Rattle.bsv_clock.proofs.Members.{filter_same, in_kept, is_found, kept_in, not_found}
+use Rattle.bsv_clock.proofs.Members.{in_kept, is_found, kept_in, not_found}
 use Rattle.bsv_clock.proofs.Settle.{clock_settles, clock_within}
 use Rattle.bsv_clock.proofs.Steadily.{emptied_fits, steady_scheme}
 use Rattle.bsv_clock.proofs.Stopping.{execution_order, urgency_order}
@@ -37,13 +38,14 @@ use Rattle.bsv_serial.specs.Applying.{AllCanTake, all_behind}
 use Rattle.bsv_serial.specs.Deciding.{CanDecideAll, Course, SoFar, all_decided, undecided}
 use Rattle.bsv_serial.specs.Telling as telling
 use Rattle.bsv_serial.specs.Telling.{fate_at, given_by, is_blocked, is_fired, or_idle, stopped_by}
-use Rattle.bsv_serial.proofs.AppliedClock.{clock_behind, clock_takes, parts_long}
+use Rattle.bsv_serial.proofs.AppliedClock.{clock_behind, clock_takes}
 use Rattle.bsv_serial.proofs.DecidedClock.{AreDecided, clock_decided, fate_of, is_rule_at, outcome, tagged_alike}
 use Rattle.bsv_serial.proofs.DecidedFront.{all_decided as all_known, is_first_stopper, so_far, stopper_in, stopper_is}
 use Rattle.bsv_serial.proofs.Joining.{made_on}
 use Rattle.bsv_serial.proofs.ReadyHere.{outline_there}
-use Rattle.bsv_serial.proofs.Stoppers.{there_is}
 use Rattle.bsv_serial.proofs.Tagged.{tagged}
+use Rattle.bsv_schedule.proofs.RelationsLemmas.{filter_same}
+use Rattle.bsv_guard.proofs.Turns.{length-parts}
 
 -- ---- lists
 
@@ -188,7 +190,7 @@ module _ (d : Design) (made : Schedule) (lawful : IsLawful (design_scheme (bluep
 
   long : length (emptied ks s) ≡ length ks
   unfolding design_scheme
-  long = parts_long ks (emptied ks s) start_fits
+  long = length-parts ks (emptied ks s) start_fits
 
   abbrev pub clock_course : Course
   clock_course = record {
@@ -334,7 +336,7 @@ module _ (d : Design) (made : Schedule) (lawful : IsLawful (design_scheme (bluep
   blocked_known : (n : ℕ) → n < length d.elements → is_blocked (fate_at found.fates n) ≡ (is_asked q n && not (ready false S q n (clock_look S q s (fired_in made D))))
   unfolding may_fire rule_in
   blocked_known n l =
-      let e = there_is d.elements n l in
+      let e = item_there d.elements n l in
       let out = outline_there d q n e.0 e.1 in
       ap is_blocked_fn (fate_known n l)
       ∙ ap₂ (λ (m r : Bool). is_blocked (outcome m (ready false S q n L) r (stopper n) (value S q n L)))
@@ -385,7 +387,7 @@ module _ (d : Design) (made : Schedule) (lawful : IsLawful (design_scheme (bluep
   end_fits = subst (FitsKinds ks) (sym parts_behind) fed.end_fits
 
   pub all_long : length (all_behind ks (emptied ks s) found.made) ≡ length (emptied ks s)
-  all_long = parts_long ks (all_behind ks (emptied ks s) found.made) end_fits ∙ sym long
+  all_long = length-parts ks (all_behind ks (emptied ks s) found.made) end_fits ∙ sym long
 
   pub fates_count : length found.fates ≡ length d.elements
   fates_count = whole.1.fates_long

@@ -1,6 +1,7 @@
 -- The words of the nodes, one after the other.
 use Rattle.std.proofs.Common.{◌≡◌, ◌∙◌, ℕ, ◌+◌, cond, List, [], ◌∷◌, ◌++◌, take, drop, Option, Some, None, refl, sym, ap, subst}
 use Rattle.std.specs.Prelude.{slice_get}
+use Rattle.bsv_lemmas.proofs.Places.{take_one}
 use Rattle.bsv_bits.specs.Words.{Bits}
 use Rattle.bsv_prim.specs.declared.part.Part.{Part}
 use Rattle.bsv_design.specs.declared.element.Call.{Call}
@@ -19,7 +20,7 @@ use Rattle.bsv_guard.proofs.BodyFits.{words_fit}
 use Rattle.bsv_guard.proofs.Fits.{answers_fit}
 use Rattle.bsv_guard.proofs.Nodes.{chained}
 use Rattle.bsv_serial.specs.declared.made.MadeCall.{MadeCall}
-use Rattle.bsv_serial.proofs.Lists.{take_one, split_at}
+use Rattle.bsv_serial.proofs.Lists.{split_at}
 use Rattle.bsv_serial.specs.Bodies.{HasOperands, CanBeComputed}
 use Rattle.bsv_serial.specs.Sights.{look_behind}
 

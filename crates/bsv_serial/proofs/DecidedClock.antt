@@ -3,7 +3,8 @@ use Rattle.std.proofs.Common.{◌≡◌, ◌≢◌, ◌∙◌, inl, inr, is_some
 use Rattle.std.specs.Prelude.{slice_get, slice_index, slice_set, ◌==◌, if◌then◌else◌}
 use Rattle.std.specs.List.{AllByRecursion}
 use Rattle.std.proofs.lemmas.Bool.{eqb-true, eqb-false}
-use Rattle.std.proofs.lemmas.List.{length-map}
+use Rattle.std.proofs.lemmas.List.{length-map, length-set, length-replicate}
+use Rattle.bsv_lemmas.proofs.Places.{set_elsewhere, set_there, mapped_at, item_there}
 use Rattle.bsv_bits.specs.Words.{Bits}
 use Rattle.bsv_prim.specs.declared.part.Part.{Part}
 use Rattle.bsv_design.specs.declared.design.Design.{Design}
@@ -36,10 +37,10 @@ use Rattle.bsv_serial.specs.Settings.{is_ready, sites_of, value_of, words_at}
 use Rattle.bsv_serial.specs.Sights.{look_behind, or_none}
 use Rattle.bsv_serial.proofs.CanRunHere.{can_run}
 use Rattle.bsv_serial.proofs.DecidedFront.{below, does_now, idle, in_as_before, in_now, not_yet, or_else, others_as_before, so_far, stopper_in, stopper_is, stopper_snoc, stopper_so_far}
-use Rattle.bsv_serial.proofs.Joining.{length-set, length-sites, made_on, set_elsewhere, set_there, sites_on}
+use Rattle.bsv_serial.proofs.Joining.{length-sites, made_on, sites_on}
 use Rattle.bsv_serial.proofs.LookingSoFar.{same_look_here}
-use Rattle.bsv_serial.proofs.ReadyHere.{calls_here, mapped_get, outline_there, ready_here, value_here}
-use Rattle.bsv_serial.proofs.Stoppers.{all_stopped_at, all_stopped_long, at_replicate, replicate_long, there_is}
+use Rattle.bsv_serial.proofs.ReadyHere.{calls_here, outline_there, ready_here, value_here}
+use Rattle.bsv_serial.proofs.Stoppers.{all_stopped_at, all_stopped_long, at_replicate}
 use Rattle.bsv_serial.proofs.Tagged.{added_on, added_tagged, tagged, tagged_on}
 
 -- ---- what comes of an element
@@ -120,13 +121,13 @@ module _ (d : Design) (made : Schedule) (lawful : IsLawful (design_scheme (bluep
 
   pub none_decided : AreDecided [] (undecided course)
   none_decided = record {
-    calls = replicate_long (length ks) [];
+    calls = length-replicate (length ks) [];
     made_is = λ i l.
         ap (λ (o : Option (List MadeCall)). or_none o) (at_replicate (length ks) i [] l)
         ∙ sym (tagged_nothing ks i (so_far D []) nothing_yet 0 made.execution);
-    stoppers_long = replicate_long (length d.elements) None;
+    stoppers_long = length-replicate (length d.elements) None;
     stoppers_are = λ n l. at_replicate (length d.elements) n None l;
-    fates_long = replicate_long (length d.elements) fate.Idle;
+    fates_long = length-replicate (length d.elements) fate.Idle;
     fates_are = λ n l.
         at_replicate (length d.elements) n fate.Idle l
         ∙ ap (λ (b : Bool). Some (cond b (fate_of S made q s D n) fate.Idle)) (sym (not_found [] n (λ k. k)));
@@ -231,7 +232,7 @@ module _ (d : Design) (made : Schedule) (lawful : IsLawful (design_scheme (bluep
     needs_now : or_none (slice_get needs n) ≡ needs_from ks 0 e.calls
     needs_now =
         ap (λ (ns : List (List Need)). or_none (slice_get ns n)) are_needs
-        ∙ ap (λ (o : Option (List Need)). or_none o) (mapped_get (λ (y : Element). needs_from ks 0 y.calls) d.elements n e is)
+        ∙ ap (λ (o : Option (List Need)). or_none o) (mapped_at (λ (y : Element). needs_from ks 0 y.calls) d.elements n e is)
 
     abbrev arguments : List Bits
     arguments = filled e.arguments (if_asked (slice_get q.asked n) (slice_get q.args n))
@@ -413,7 +414,7 @@ module _ (d : Design) (made : Schedule) (lawful : IsLawful (design_scheme (bluep
   fold us [] x split are = (tt, subst (λ (ns : List ℕ). AreDecided ns x) (sym (append-nil us) ∙ sym split) are)
   fold us (n ∷ rest) x split are =
       let small : n < length d.elements = subst (λ (c : ℕ). n < c) same_count (below S made lawful scheduled D within us rest n split) in
-      let e = there_is d.elements n small in
+      let e = item_there d.elements n small in
       let more = fold (us ++ n ∷ []) rest (decided course x n) (split ∙ sym (append_assoc us (n ∷ []) rest)) (decided_now us rest n split x are e.0 e.1 small) in
       ((can_decide us rest n split x are e.0 e.1 small, more.0), more.1)
 

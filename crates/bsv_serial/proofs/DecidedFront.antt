@@ -3,7 +3,7 @@ use Rattle.std.proofs.Common.{◌≡◌, ◌≢◌, ◌∙◌, ℕ, ◌+◌, ◌
 use Rattle.std.specs.Prelude.{◌==◌, if◌then◌else◌, slice_get, nat_lt}
 use Rattle.std.specs.List.{list_any}
 use Rattle.std.proofs.lemmas.Bool.Decides.{nat_tests}
-use Rattle.std.proofs.lemmas.Bool.{and_parts, and_from}
+use Rattle.std.proofs.lemmas.Bool.{and_parts, and_from, eqb-true}
 use Rattle.bsv_prim.specs.declared.part.Part.{Part}
 use Rattle.bsv_design.specs.declared.schedule.Schedule.{Schedule}
 use Rattle.bsv_design.specs.Schemes.{Scheme, Asking, Called}
@@ -17,6 +17,7 @@ use Rattle.bsv_clock.specs.Settling.{Doing, DoAlikeBefore, DoesWithin, IsSettled
 use Rattle.bsv_clock.proofs.Members.{found, is_found, not_found, kept_in, in_kept}
 use Rattle.bsv_clock.proofs.Settle.{same_decide, decided_none}
 use Rattle.bsv_clock.proofs.Stopping.{execution_order, urgency_order, stops_before, stops_true, true_stops, stops_within}
+use Rattle.bsv_graph.proofs.Fronts.{in_front}
 
 -- these elements do what they do in the clock, and no other one does anything
 abbrev pub so_far : Doing → List ℕ → Doing
@@ -33,9 +34,6 @@ or_else (Some f) o = Some f
 
 -- ---- lists
 
-same_number : (m n : ℕ) → (m == n) ≡ true → m ≡ n
-same_number m n e = grind (arith, nat_tests, e)
-
 number_same : (n : ℕ) → (n == n) ≡ true
 number_same n = grind (arith, nat_tests)
 
@@ -48,7 +46,7 @@ place_next u n us o = ap (λ (b : Bool). if b then 0 else 1 + place_of us n) (ot
 
 front_step : (us rest : List ℕ) (n f u : ℕ) → u ≢ n → place_of (u ∷ us ++ n ∷ rest) f < place_of (u ∷ us ++ n ∷ rest) n
     → (place_of (us ++ n ∷ rest) f < place_of (us ++ n ∷ rest) n → In us f) → (b : Bool) → (u == f) ≡ b → In (u ∷ us) f
-front_step us rest n f u apart l ih true e = inl (sym (same_number u f e))
+front_step us rest n f u apart l ih true e = inl (sym (eqb-true u f e))
 front_step us rest n f u apart l ih false e =
     let there = place_next u n (us ++ n ∷ rest) apart in
     let here : place_of (u ∷ us ++ n ∷ rest) f ≡ 1 + place_of (us ++ n ∷ rest) f = ap (λ (b : Bool). if b then 0 else 1 + place_of (us ++ n ∷ rest) f) e in
@@ -56,14 +54,6 @@ front_step us rest n f u apart l ih false e =
   where
     less : (a b c d : ℕ) → a < b → a ≡ 1 + c → b ≡ 1 + d → c < d
     less a b c d l x y = omega (arith, l, x, y)
-
-pub front_of : (us rest : List ℕ) (n f : ℕ) → IsOnce (us ++ n ∷ rest) → place_of (us ++ n ∷ rest) f < place_of (us ++ n ∷ rest) n → In us f
-front_of [] rest n f once l = absurd (none (place_of (n ∷ rest) f) (place_of (n ∷ rest) n) l (ap (λ (b : Bool). if b then 0 else 1 + place_of rest n) (number_same n)))
-  where
-    none : (a b : ℕ) → a < b → b ≡ 0 → ⊥
-    none a b l e = omega (arith, l, e)
-front_of (u ∷ us) rest n f once l =
-    front_step us rest n f u (λ e. once.0 (subst (In (us ++ n ∷ rest)) (sym e) (in_right us (n ∷ rest) n (inl refl)))) l (front_of us rest n f once.1) (u == f) refl
 
 -- ---- stoppers
 
@@ -170,7 +160,7 @@ module _ (S : Scheme) (made : Schedule) (lawful : IsLawful S) (scheduled : IsSch
     pub alike_before : DoAlikeBefore made n (so_far D us) D
     alike_before f l =
         ap (λ (b : Bool). cond b (D f) None)
-        (is_found us f (front_of us rest n f once (subst (λ xs. place_of xs f < place_of xs n) split l)))
+        (is_found us f (in_front us rest n f once (subst (λ xs. place_of xs f < place_of xs n) split l)))
 
     pub decided_so_far : (g : Bool) (q : Asking) (s : List Part) → IsSettled g S made q s D → decide g S made q s (so_far D us) n ≡ D n
     decided_so_far g q s settled = same_decide g S made lawful scheduled q s (so_far D us) D n below (so_far_within us) within alike_before ∙ sym (settled n)
@@ -200,7 +190,7 @@ module _ (S : Scheme) (made : Schedule) (lawful : IsLawful S) (scheduled : IsSch
       where
         no_stop : (f : ℕ) → In (n ∷ rest) f → (b : Bool) → stops_in made f n ≡ b → (fires D f && b) ≡ false
         no_stop f k true e =
-            absurd (once_apart us (n ∷ rest) f once (front_of us rest n f once (subst (λ xs. place_of xs f < place_of xs n) split (stops_before S made scheduled f n e))) k)
+            absurd (once_apart us (n ∷ rest) f once (in_front us rest n f once (subst (λ xs. place_of xs f < place_of xs n) split (stops_before S made scheduled f n e))) k)
         no_stop f k false e = grind (arith)
 
         never : (f : ℕ) → In (n ∷ rest) f → (fires D f && stops_in made f n) ≡ false

@@ -1,7 +1,9 @@
 -- What an element adds to the lists of calls made on the parts, part by part.
-use Rattle.std.proofs.Common.{◌≡◌, ◌≢◌, ◌∙◌, ℕ, zero, suc, ◌<◌, Bool, true, false, cond, ◌&&◌, List, [], ◌∷◌, Option, Some, refl, sym, ap, subst, arith, length}
+use Rattle.std.proofs.Common.{◌≡◌, ◌∙◌, ℕ, ◌<◌, Bool, true, false, cond, ◌&&◌, List, [], ◌∷◌, Option, refl, sym, ap, subst, length}
 use Rattle.std.specs.Prelude.{slice_get, slice_set, ◌==◌}
 use Rattle.std.proofs.lemmas.Bool.{eqb-true, eqb-false}
+use Rattle.std.proofs.lemmas.List.{length-set}
+use Rattle.bsv_lemmas.proofs.Places.{set_there, set_elsewhere}
 use Rattle.bsv_design.specs.declared.kind.Kind.{Kind}
 use Rattle.bsv_design.specs.Schemes.{Called, taken_actions}
 use Rattle.bsv_design.specs.Traces.{Site}
@@ -14,23 +16,6 @@ use Rattle.bsv_serial.proofs.Tagged.{added_on}
 -- the calls made on a part
 abbrev pub made_on : List (List MadeCall) → ℕ → List MadeCall
 made_on made i = or_none (slice_get made i)
-
-pub length-set : {X : Type 0} (xs : List X) (j : ℕ) (x : X) → length (slice_set xs j x) ≡ length xs
-length-set [] j x = refl
-length-set (y ∷ xs) zero x = refl
-length-set (y ∷ xs) (suc j) x = ap suc (length-set xs j x)
-
-pub set_there : {X : Type 0} (xs : List X) (i : ℕ) (x : X) → i < length xs → slice_get (slice_set xs i x) i ≡ Some x
-set_there [] i x l = absurd (omega arith)
-set_there (y ∷ xs) zero x l = refl
-set_there (y ∷ xs) (suc i) x l = set_there xs i x (omega arith)
-
-pub set_elsewhere : {X : Type 0} (xs : List X) (j i : ℕ) (x : X) → j ≢ i → slice_get (slice_set xs j x) i ≡ slice_get xs i
-set_elsewhere [] j i x o = refl
-set_elsewhere (y ∷ xs) zero zero x o = absurd (o refl)
-set_elsewhere (y ∷ xs) zero (suc i) x o = refl
-set_elsewhere (y ∷ xs) (suc j) zero x o = refl
-set_elsewhere (y ∷ xs) (suc j) (suc i) x o = set_elsewhere xs j i x (λ e. o (ap suc e))
 
 module _ (ks : List Kind) (place i : ℕ) where
   call_on : (made : List (List MadeCall)) → i < length made → (c : Called) → (b : Bool) → (c.target.part == i) ≡ b

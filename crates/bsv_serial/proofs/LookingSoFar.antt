@@ -4,6 +4,7 @@ use Rattle.std.specs.Prelude.{slice_get, ◌==◌}
 use Rattle.std.specs.List.{AllByRecursion}
 use Rattle.std.proofs.lemmas.Bool.{eqb-true}
 use Rattle.std.proofs.lemmas.Option.{slice_get_within}
+use Rattle.bsv_lemmas.proofs.Places.{all_from}
 use Rattle.bsv_prim.specs.Calls as prim
 use Rattle.bsv_prim.specs.Calls.{IsOrderly}
 use Rattle.bsv_prim.specs.Table.{Table, Call}
@@ -20,21 +21,22 @@ use Rattle.bsv_graph.specs.Orders.{In}
 use Rattle.bsv_guard.specs.ElementLaws.{IsUse}
 use Rattle.bsv_guard.specs.Fitting.{IsFitCall, IsMethodOf}
 use Rattle.bsv_guard.specs.Turns.{calls_on}
-use Rattle.bsv_guard.proofs.Turns.{sound_turns}
+use Rattle.bsv_guard.proofs.Turns.{sound_turns, all_on, fits_at}
 use Rattle.bsv_clock.specs.Clocks.{is_in}
 use Rattle.bsv_clock.specs.Feeding.{IsFed}
 use Rattle.bsv_clock.specs.Grounds.{IsLawful, IsScheduleOf}
 use Rattle.bsv_clock.specs.Looks.{look_after, seen_by}
 use Rattle.bsv_clock.specs.Settling.{Doing, DoesWithin, deed, deeds, look_of}
-use Rattle.bsv_clock.proofs.CallLists.{all_append, all_from, all_map, all_on, seen_on}
+use Rattle.bsv_clock.proofs.CallLists.{all_append, all_map, seen_on}
 use Rattle.bsv_clock.proofs.Settle.{same_seen}
-use Rattle.bsv_clock.proofs.Steadily.{emptied_fits, part_fits}
+use Rattle.bsv_clock.proofs.Steadily.{emptied_fits}
 use Rattle.bsv_serial.specs.declared.made.MadeCall.{MadeCall}
 use Rattle.bsv_serial.specs.Made.{as_calls}
 use Rattle.bsv_serial.specs.Sights.{AreMethods, CanBeApplied, CanLook, CanLookAt, MayLook, behind_seen, look_behind, part_behind}
 use Rattle.bsv_serial.proofs.Joining.{made_on}
 use Rattle.bsv_serial.proofs.DecidedFront.{so_far, so_far_within, alike_before, below}
-use Rattle.bsv_serial.proofs.Tagged.{as_calls_tagged, tag, tagged, tagged_on}
+use Rattle.bsv_serial.proofs.Tagged.{as_calls_tagged, tagged, tagged_on}
+use Rattle.bsv_serial.specs.Making.{made_at}
 
 -- ---- lists
 
@@ -84,7 +86,7 @@ module _ (ks : List Kind) (i : ℕ) (kind : Kind) (is : slice_get ks i ≡ Some 
   on_methods place [] h = tt
   on_methods place (c ∷ cs) h = cases (c.target.part == i) refl (on_methods place cs h.1)
     where
-      cases : (b : Bool) → (c.target.part == i) ≡ b → AreMethods kind (tagged_on ks i place cs) → AreMethods kind (cond b (tag ks place c ∷ tagged_on ks i place cs) (tagged_on ks i place cs))
+      cases : (b : Bool) → (c.target.part == i) ≡ b → AreMethods kind (tagged_on ks i place cs) → AreMethods kind (cond b (made_at ks place c ∷ tagged_on ks i place cs) (tagged_on ks i place cs))
       cases true e r = (a_method c h.0 (eqb-true c.target.part i e), r)
       cases false e r = r
 
@@ -151,7 +153,7 @@ module _ (S : Scheme) (made : Schedule) (lawful : IsLawful S) (scheduled : IsSch
     can_look : t.method < (kind_table kind).methods → CanLook kind t.method (part_at start t.part) (made_on lists t.part)
     can_look method = record {
       method = method;
-      part = part_fits S.kinds start start_fits t.part kind is;
+      part = fits_at S.kinds start start_fits t.part kind is;
       methods = subst (AreMethods kind) (sym (are t.part part_there)) (tagged_methods S.kinds t.part kind is (so_far D us) 0 made.execution fit_calls);
       calls = subst (CanBeApplied (kind_table kind) (part_at start t.part)) (sym seen_calls)
           (orderly_applied (kind_table kind) (part_at start t.part) (calls_on t.part (seen_by S.kinds t all)) (fed.seen_orderly t kind is) acting_on);

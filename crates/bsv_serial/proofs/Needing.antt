@@ -1,27 +1,18 @@
 -- Where the guards hold that are needed, each call is open.
-use Rattle.std.proofs.Common.{◌≡◌, ◌∙◌, ℕ, zero, suc, ◌+◌, Bool, true, false, cond, List, [], ◌∷◌, ◌++◌, length, Option, Some, None, refl, sym, ap, subst, arith, append_assoc}
+use Rattle.std.proofs.Common.{◌≡◌, ◌∙◌, ℕ, zero, suc, ◌+◌, Bool, true, false, cond, List, [], ◌∷◌, ◌++◌, length, Some, None, refl, sym, ap, subst, arith, append_assoc}
 use Rattle.std.specs.Prelude.{slice_get}
 use Rattle.std.proofs.Math.ListN.{length-append}
 use Rattle.std.proofs.lemmas.Bool.{and_parts}
-use Rattle.bsv_prim.specs.declared.part.Part.{Part}
+use Rattle.bsv_lemmas.proofs.Places.{at_middle}
 use Rattle.bsv_design.specs.declared.element.Call.{Call}
 use Rattle.bsv_design.specs.declared.kind.Kind.{Kind}
 use Rattle.bsv_design.specs.declared.schedule.Need.{Need}
 use Rattle.bsv_design.specs.Bodies.{target}
 use Rattle.bsv_design.specs.Guards.{is_guarded, needs_from, holds_at}
-use Rattle.bsv_design.specs.Kinds.{kind_laws}
-use Rattle.bsv_design.specs.Schemes.{Look, guard_of, is_open}
+use Rattle.bsv_design.specs.Schemes.{Look, is_open}
 use Rattle.bsv_design.specs.Traces.{kind_at}
 use Rattle.bsv_serial.specs.Bodies.{guards_hold, AreOpen}
-
--- a method that has no guard is open
-pub unguarded : (k : Option Kind) (m : ℕ) (p : Part) → is_guarded k m ≡ false → guard_of k m p ≡ true
-unguarded None m p h = refl
-unguarded (Some k) m p h = (kind_laws k).guards.never m p h
-
-there : (before behind : List Call) (c : Call) → slice_get (before ++ c ∷ behind) (length before) ≡ Some c
-there [] behind c = refl
-there (x ∷ before) behind c = there before behind c
+use Rattle.bsv_design.proofs.Elements.{unguarded}
 
 module _ (ks : List Kind) (look : Look) where
   -- the first call is open, and the others need their guards
@@ -41,7 +32,7 @@ module _ (ks : List Kind) (look : Look) where
   unfolding needs_from
   open_from before [] n l h = λ k c e. absurd (let x : ⊥ = cc in x)
   open_from before (d ∷ cs) n l h =
-      let one = one_open (before ++ d ∷ cs) d n (needs_from ks (n + 1) cs) (is_guarded (kind_at ks (target d)) d.method) refl (subst (λ k. slice_get (before ++ d ∷ cs) k ≡ Some d) (sym l) (there before cs d)) h in
+      let one = one_open (before ++ d ∷ cs) d n (needs_from ks (n + 1) cs) (is_guarded (kind_at ks (target d)) d.method) refl (subst (λ k. slice_get (before ++ d ∷ cs) k ≡ Some d) (sym l) (at_middle before cs d)) h in
       let long : n + 1 ≡ length (before ++ d ∷ []) = let m : length (before ++ d ∷ []) ≡ length before + 1 = length-append before (d ∷ []) in omega arith in
       let rest = open_from (before ++ d ∷ []) cs (n + 1) long (ap (λ all. guards_hold ks look all (needs_from ks (n + 1) cs)) (append_assoc before (d ∷ []) cs) ∙ one.rest) in
       of one.first rest

@@ -12,11 +12,11 @@ use Rattle.bsv_design.specs.declared.element.Port.{Port}
 use Rattle.bsv_design.specs.declared.kind.Kind.{Kind}
 use Rattle.bsv_design.specs.declared.node.Node.{Node}
 use Rattle.bsv_design.specs.declared.node.Node.TheVariants as node
-use Rattle.bsv_design.specs.Bodies.{Target, at}
+use Rattle.bsv_design.specs.Bodies.{at}
 use Rattle.bsv_design.specs.Computing.{between, sliced, joined, extended, sign_extended}
 use Rattle.bsv_design.specs.Kinds.{kind_table}
-use Rattle.bsv_design.specs.Schemes.{Look, filled, answers, is_open, result_of}
-use Rattle.bsv_design.specs.Traces.{acts, kind_at}
+use Rattle.bsv_design.specs.Schemes.{filled}
+use Rattle.bsv_design.specs.Traces.{acts}
 use Rattle.bsv_design.specs.Widths.{port_fits, method_fits, gives_word, result_width, node_width, gives_bit, if_width, two_width, slice_width, join_width, extend_width}
 use Rattle.bsv_design.proofs.Asked.{some_width, most_width}
 use Rattle.bsv_guard.specs.Fitting.{IsFitCall}
@@ -78,12 +78,6 @@ called_within ks us (c ∷ cs) (suc number) v e = let l = called_within ks us cs
 
 pub result_within : (ks : List Kind) (ports : List Port) (cs : List Call) (ws : List Bits) (number : ℕ) → HasOperands ks ports cs ws (node.Result number) → number < length cs
 result_within ks ports cs ws number h = called_within ks h.widths cs number h.width h.is
-
--- what an open method gives is what its call gives
-pub open_answer : (ks : List Kind) (look : Look) (k : ℕ) (t : Target) (args : List Bits) → is_open ks look t ≡ true
-    → answers ks look k t args ≡ result_of (kind_at ks t) t.method (look t) args
-unfolding answers
-open_answer ks look k t args h = grind (arith, h)
 
 -- ---- operators
 

@@ -3,10 +3,10 @@ use Rattle.std.proofs.Common.{◌≡◌, ◌≢◌, ◌∙◌, inl, inr, ℕ, ze
 use Rattle.std.specs.Prelude.{slice_get, slice_index, slice_set, replicate, if◌then◌else◌, ◌==◌}
 use Rattle.std.specs.List.{AllByRecursion}
 use Rattle.std.proofs.lemmas.Bool.{eqb-true, eqb-false}
+use Rattle.std.proofs.lemmas.List.{length-set, length-replicate}
+use Rattle.bsv_lemmas.proofs.Places.{set_there, set_elsewhere}
 use Rattle.bsv_graph.specs.Orders.{In, IsOnce, IsOrderOf, place_of}
 use Rattle.bsv_serial.specs.Placing.{all_placed}
-use Rattle.bsv_serial.proofs.Joining.{length-set, set_there, set_elsewhere}
-use Rattle.bsv_serial.proofs.Stoppers.{replicate_long}
 
 pub all_below : (count : ℕ) (ns : List ℕ) → ((n : ℕ) → In ns n → n < count) → AllByRecursion (λ n. n < count) ns
 all_below count [] h = tt
@@ -56,8 +56,8 @@ index_of (y ∷ xs) (suc n) x e = index_of xs n x e
 pub order_placed : (count : ℕ) (order : List ℕ) → IsOrderOf count order → (n : ℕ) → n < count
     → (n < length (all_placed (replicate count 0) 0 order)) × (slice_index (all_placed (replicate count 0) 0 order) n ≡ place_of order n)
 order_placed count order is n l =
-    let long = placed_long (replicate count 0) 0 order ∙ replicate_long count 0 in
-    let small = subst (λ (c : ℕ). n < c) (sym (replicate_long count 0)) l in (
+    let long = placed_long (replicate count 0) 0 order ∙ length-replicate count 0 in
+    let small = subst (λ (c : ℕ). n < c) (sym (length-replicate count 0)) l in (
       subst (λ (c : ℕ). n < c) (sym long) l,
       index_of (all_placed (replicate count 0) 0 order) n (0 + place_of order n) (placed_there (replicate count 0) 0 order n is.once (is.each n l) small) ∙ none (place_of order n),
     )

@@ -1,7 +1,9 @@
 -- An element of a design that is computed: whether it is ready, its calls and its value are those of its scheme.
-use Rattle.std.proofs.Common.{◌≡◌, ◌∙◌, ℕ, zero, suc, ◌+◌, Bool, true, false, cond, not, ◌&&◌, ◌||◌, List, [], ◌∷◌, map, Option, Some, None, refl, sym, ap, ap₂}
+use Rattle.std.proofs.Common.{◌≡◌, ◌∙◌, ℕ, ◌+◌, Bool, true, false, cond, not, ◌&&◌, ◌||◌, List, [], ◌∷◌, map, Option, Some, None, refl, sym, ap, ap₂}
 use Rattle.std.specs.Prelude.{slice_get}
 use Rattle.std.specs.List.{AllByRecursion}
+use Rattle.bsv_lemmas.proofs.Places.{mapped_at}
+use Rattle.bsv_lemmas.proofs.Truths.{both_turned}
 use Rattle.bsv_bits.specs.Words.{Bits}
 use Rattle.bsv_design.specs.declared.design.Design.{Design}
 use Rattle.bsv_design.specs.declared.element.Call.{Call}
@@ -20,11 +22,6 @@ use Rattle.bsv_serial.specs.Bodies.{guards_hold, holds, words_under}
 use Rattle.bsv_serial.specs.Settings.{sites_of, value_of}
 
 -- ---- lists
-
-pub mapped_get : {X Y : Type 0} (f : X → Y) (xs : List X) (n : ℕ) (x : X) → slice_get xs n ≡ Some x → slice_get (map f xs) n ≡ Some (f x)
-mapped_get f [] n x e = absurd (let z : ⊥ = cc in z)
-mapped_get f (y ∷ xs) zero x e = let same : y ≡ x = cc in ap (λ z. Some (f z)) same
-mapped_get f (y ∷ xs) (suc n) x e = mapped_get f xs n x e
 
 -- ---- guards
 
@@ -51,12 +48,6 @@ same_guards ks look cs ws (n ∷ ns) h =
     (ap (λ (o : Option ℕ). holds_at ks look (slice_get cs n.call) || not (is_needed ws o)) h.0 ∙ or_not_true (holds_at ks look (slice_get cs n.call)))
     (same_guards ks look cs ws ns h.1)
 
-swapped : (a b : Bool) → (a && b) ≡ (b && a)
-swapped true true = refl
-swapped true false = refl
-swapped false true = refl
-swapped false false = refl
-
 -- ---- one element
 
 module _ (d : Design) (q : Asking) (n : ℕ) (e : Element) (is : slice_get d.elements n ≡ Some e) where
@@ -71,7 +62,7 @@ module _ (d : Design) (q : Asking) (n : ℕ) (e : Element) (is : slice_get d.ele
 
   pub outline_there : slice_get S.elements n ≡ Some (outline e)
   unfolding design_scheme
-  outline_there = mapped_get outline d.elements n e is
+  outline_there = mapped_at outline d.elements n e is
 
   pub given_here : given S q n ≡ arguments
   unfolding given
@@ -81,7 +72,7 @@ module _ (d : Design) (q : Asking) (n : ℕ) (e : Element) (is : slice_get d.ele
   unfolding design_scheme
   use_of k c at_k = record {
     index = k;
-    is = ap (λ (o : Option Element). slice_get (schemes.calls_of o) k) is ∙ mapped_get target e.calls k c at_k;
+    is = ap (λ (o : Option Element). slice_get (schemes.calls_of o) k) is ∙ mapped_at target e.calls k c at_k;
   }
 
   -- its run under a look, as it is computed
@@ -102,9 +93,9 @@ module _ (d : Design) (q : Asking) (n : ℕ) (e : Element) (is : slice_get d.ele
   pub ready_here : (needs : List (List Need)) → needs ≡ needs_of ks d.elements → (look : Look) → holds ks look e (needs_from ks 0 e.calls) arguments ≡ ready false S q n look
   unfolding holds body_ready
   ready_here needs are look =
-      swapped (guards_hold ks look e.calls (needs_from ks 0 e.calls)) (all_hold false (map (demand_at (words_under ks look e arguments)) e.conditions))
+      both_turned (guards_hold ks look e.calls (needs_from ks 0 e.calls)) (all_hold false (map (demand_at (words_under ks look e arguments)) e.conditions))
       ∙ ap (λ (b : Bool). all_hold false (map (demand_at (words_under ks look e arguments)) e.conditions) && b)
       (sym (same_guards ks look e.calls (words_under ks look e arguments) (needs_from ks 0 e.calls) (never_under ks 0 e.calls)))
       ∙ ap (body_ready false ks e (needs_from ks 0 e.calls) look) (sym given_here)
       ∙ sym ((lifted (blueprint d) needs are).whole n e (needs_from ks 0 e.calls) look q is
-      (ap (λ (ns : List (List Need)). slice_get ns n) are ∙ mapped_get (λ (x : Element). needs_from ks 0 x.calls) d.elements n e is))
+      (ap (λ (ns : List (List Need)). slice_get ns n) are ∙ mapped_at (λ (x : Element). needs_from ks 0 x.calls) d.elements n e is))

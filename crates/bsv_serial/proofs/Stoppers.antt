@@ -3,26 +3,18 @@ use Rattle.std.proofs.Common.{◌≡◌, ◌∙◌, ℕ, zero, suc, ◌<◌, Boo
 use Rattle.std.specs.Prelude.{slice_get, ◌==◌, replicate}
 use Rattle.std.proofs.lemmas.Bool.{eqb-true, eqb-false}
 use Rattle.std.proofs.lemmas.Option.{slice_get_within}
+use Rattle.std.proofs.lemmas.List.{length-set}
+use Rattle.bsv_lemmas.proofs.Places.{set_there, set_elsewhere}
 use Rattle.bsv_clock.specs.Clocks.{is_in}
 use Rattle.bsv_serial.specs.Deciding.{all_stopped, or_nobody, stopped_at}
 use Rattle.bsv_serial.proofs.DecidedFront.{or_else}
-use Rattle.bsv_serial.proofs.Joining.{length-set, set_there, set_elsewhere}
 
 -- ---- lists
-
-pub there_is : {X : Type 0} (xs : List X) (n : ℕ) → n < length xs → (x : X) × (slice_get xs n ≡ Some x)
-there_is [] n l = absurd (omega arith)
-there_is (x ∷ xs) zero l = (x, refl)
-there_is (x ∷ xs) (suc n) l = there_is xs n (omega arith)
 
 pub at_replicate : {X : Type 0} (k n : ℕ) (x : X) → n < k → slice_get (replicate k x) n ≡ Some x
 at_replicate zero n x l = absurd (omega arith)
 at_replicate (suc k) zero x l = refl
 at_replicate (suc k) (suc n) x l = at_replicate k n x (omega arith)
-
-pub replicate_long : {X : Type 0} (k : ℕ) (x : X) → length (replicate k x) ≡ k
-replicate_long zero x = refl
-replicate_long (suc k) x = ap suc (replicate_long k x)
 
 -- ---- stoppers
 

@@ -15,16 +15,14 @@ use Rattle.bsv_clock.specs.Settling.{Doing, deed, deeds}
 use Rattle.bsv_clock.proofs.CallLists.{calls_on-append}
 use Rattle.bsv_serial.specs.declared.made.MadeCall.{MadeCall}
 use Rattle.bsv_serial.specs.Made.{is_behind, added, as_call, as_calls}
+use Rattle.bsv_serial.specs.Making.{made_at}
 
 -- ---- tags
-
-abbrev pub tag : List Kind → ℕ → Called → MadeCall
-tag ks place c = record { place = place; rank = rank ks c; method = c.target.method; args = c.arguments }
 
 -- those of the calls that are on the part, tagged with this place
 abbrev pub tagged_on : List Kind → ℕ → ℕ → List Called → List MadeCall
 tagged_on ks i place [] = []
-tagged_on ks i place (c ∷ cs) = cond (c.target.part == i) (tag ks place c ∷ tagged_on ks i place cs) (tagged_on ks i place cs)
+tagged_on ks i place (c ∷ cs) = cond (c.target.part == i) (made_at ks place c ∷ tagged_on ks i place cs) (tagged_on ks i place cs)
 
 -- those of these elements, which stand from this place on
 abbrev pub tagged : List Kind → ℕ → Doing → ℕ → List ℕ → List MadeCall
@@ -34,7 +32,7 @@ tagged ks i D place (n ∷ ns) = tagged_on ks i place (deed (D n)) ++ tagged ks 
 -- those of the calls that are on the part, added one after the other
 abbrev pub added_on : List Kind → ℕ → ℕ → List Called → List MadeCall → List MadeCall
 added_on ks i place [] ms = ms
-added_on ks i place (c ∷ cs) ms = added_on ks i place cs (cond (c.target.part == i) (added (tag ks place c) ms) ms)
+added_on ks i place (c ∷ cs) ms = added_on ks i place cs (cond (c.target.part == i) (added (made_at ks place c) ms) ms)
 
 -- ---- as calls
 
@@ -47,7 +45,7 @@ as_calls_on ks i place [] = refl
 as_calls_on ks i place (c ∷ cs) = cases (c.target.part == i) (as_calls_on ks i place cs)
   where
     cases : (b : Bool) → as_calls (tagged_on ks i place cs) ≡ calls_on i cs
-        → as_calls (cond b (tag ks place c ∷ tagged_on ks i place cs) (tagged_on ks i place cs)) ≡ cond b (call_of c ∷ calls_on i cs) (calls_on i cs)
+        → as_calls (cond b (made_at ks place c ∷ tagged_on ks i place cs) (tagged_on ks i place cs)) ≡ cond b (call_of c ∷ calls_on i cs) (calls_on i cs)
     cases true e = ap (λ (ds : List Call). call_of c ∷ ds) e
     cases false e = e
 
@@ -114,11 +112,11 @@ above_behind c (d ∷ ms) h = (one d h.0, above_behind c ms h.1)
     one : (d : MadeCall) → c.place < d.place → is_behind d c ≡ true
     one d l = grind (arith, nat_tests)
 
-placed_on : (ks : List Kind) (P : MadeCall → Type 0) (i place : ℕ) → ((c : Called) → P (tag ks place c)) → (cs : List Called) → AllByRecursion P (tagged_on ks i place cs)
+placed_on : (ks : List Kind) (P : MadeCall → Type 0) (i place : ℕ) → ((c : Called) → P (made_at ks place c)) → (cs : List Called) → AllByRecursion P (tagged_on ks i place cs)
 placed_on ks P i place h [] = tt
 placed_on ks P i place h (c ∷ cs) = cases (c.target.part == i) (placed_on ks P i place h cs)
   where
-    cases : (b : Bool) → AllByRecursion P (tagged_on ks i place cs) → AllByRecursion P (cond b (tag ks place c ∷ tagged_on ks i place cs) (tagged_on ks i place cs))
+    cases : (b : Bool) → AllByRecursion P (tagged_on ks i place cs) → AllByRecursion P (cond b (made_at ks place c ∷ tagged_on ks i place cs) (tagged_on ks i place cs))
     cases true e = (h c, e)
     cases false e = e
 
@@ -140,8 +138,8 @@ on_front ks i place xs h [] ys = refl
 on_front ks i place xs h (c ∷ cs) ys = cases (c.target.part == i) (on_front ks i place xs h cs)
   where
     cases : (b : Bool) → ((zs : List MadeCall) → added_on ks i place cs (xs ++ zs) ≡ xs ++ added_on ks i place cs zs)
-        → added_on ks i place cs (cond b (added (tag ks place c) (xs ++ ys)) (xs ++ ys)) ≡ xs ++ added_on ks i place cs (cond b (added (tag ks place c) ys) ys)
-    cases true on = ap (added_on ks i place cs) (added_front (tag ks place c) xs ys (below_not_behind (tag ks place c) xs h)) ∙ on (added (tag ks place c) ys)
+        → added_on ks i place cs (cond b (added (made_at ks place c) (xs ++ ys)) (xs ++ ys)) ≡ xs ++ added_on ks i place cs (cond b (added (made_at ks place c) ys) ys)
+    cases true on = ap (added_on ks i place cs) (added_front (made_at ks place c) xs ys (below_not_behind (made_at ks place c) xs h)) ∙ on (added (made_at ks place c) ys)
     cases false on = on ys
 
 on_back : (ks : List Kind) (i place : ℕ) (ys : List MadeCall) → AllAbove place ys → (cs : List Called) (xs : List MadeCall) → added_on ks i place cs (xs ++ ys) ≡ added_on ks i place cs xs ++ ys
@@ -149,8 +147,8 @@ on_back ks i place ys h [] xs = refl
 on_back ks i place ys h (c ∷ cs) xs = cases (c.target.part == i) (on_back ks i place ys h cs)
   where
     cases : (b : Bool) → ((zs : List MadeCall) → added_on ks i place cs (zs ++ ys) ≡ added_on ks i place cs zs ++ ys)
-        → added_on ks i place cs (cond b (added (tag ks place c) (xs ++ ys)) (xs ++ ys)) ≡ added_on ks i place cs (cond b (added (tag ks place c) xs) xs) ++ ys
-    cases true on = ap (added_on ks i place cs) (added_within (tag ks place c) xs ys (above_behind (tag ks place c) ys h)) ∙ on (added (tag ks place c) xs)
+        → added_on ks i place cs (cond b (added (made_at ks place c) (xs ++ ys)) (xs ++ ys)) ≡ added_on ks i place cs (cond b (added (made_at ks place c) xs) xs) ++ ys
+    cases true on = ap (added_on ks i place cs) (added_within (made_at ks place c) xs ys (above_behind (made_at ks place c) ys h)) ∙ on (added (made_at ks place c) xs)
     cases false on = on xs
 
 -- ---- by rank
@@ -272,14 +270,14 @@ module _ (ks : List Kind) where
     on cs = tagged_on ks i place cs
 
     -- behind all those of a higher rank
-    on_higher : (c : Called) (xs : List Called) → AllByRecursion (λ d. rank ks c < rank ks d) xs → AllBehind (tag ks place c) (on xs)
+    on_higher : (c : Called) (xs : List Called) → AllByRecursion (λ d. rank ks c < rank ks d) xs → AllBehind (made_at ks place c) (on xs)
     on_higher c [] h = tt
     on_higher c (d ∷ xs) h = cases (d.target.part == i) (on_higher c xs h.1)
       where
-        here : is_behind (tag ks place d) (tag ks place c) ≡ true
+        here : is_behind (made_at ks place d) (made_at ks place c) ≡ true
         here = grind (arith, nat_tests, h.0)
 
-        cases : (b : Bool) → AllBehind (tag ks place c) (on xs) → AllBehind (tag ks place c) (cond b (tag ks place d ∷ on xs) (on xs))
+        cases : (b : Bool) → AllBehind (made_at ks place c) (on xs) → AllBehind (made_at ks place c) (cond b (made_at ks place d ∷ on xs) (on xs))
         cases true e = (here, e)
         cases false e = e
 
@@ -288,44 +286,44 @@ module _ (ks : List Kind) where
     higher c d (x ∷ xs) l h = (omega (arith, l, h.0), higher c d xs l h.1)
 
     -- put behind its equals, a call of the part is added to those on it
-    put_on : (c : Called) → (c.target.part == i) ≡ true → (xs : List Called) → Rises xs → on (put_behind c xs) ≡ added (tag ks place c) (on xs)
+    put_on : (c : Called) → (c.target.part == i) ≡ true → (xs : List Called) → Rises xs → on (put_behind c xs) ≡ added (made_at ks place c) (on xs)
     unfolding added
-    put_on c p [] r = ap (λ (b : Bool). cond b (tag ks place c ∷ []) []) p
+    put_on c p [] r = ap (λ (b : Bool). cond b (made_at ks place c ∷ []) []) p
     put_on c p (d ∷ xs) r = cases (test_lt c d) refl (put_on c p xs r.1)
       where
         lt : test_lt c d ≡ true → rank ks c < rank ks d
         lt e = grind (arith, nat_tests, e)
 
-        level : test_lt c d ≡ false → is_behind (tag ks place d) (tag ks place c) ≡ false
+        level : test_lt c d ≡ false → is_behind (made_at ks place d) (made_at ks place c) ≡ false
         level e = grind (arith, nat_tests, e)
 
-        first : test_lt c d ≡ true → AllBehind (tag ks place c) (on (d ∷ xs))
+        first : test_lt c d ≡ true → AllBehind (made_at ks place c) (on (d ∷ xs))
         first e = on_higher c (d ∷ xs) (lt e, higher c d xs (lt e) r.0)
 
-        kept : test_lt c d ≡ false → (b : Bool) → on (put_behind c xs) ≡ added (tag ks place c) (on xs)
-            → cond b (tag ks place d ∷ on (put_behind c xs)) (on (put_behind c xs)) ≡ added (tag ks place c) (cond b (tag ks place d ∷ on xs) (on xs))
+        kept : test_lt c d ≡ false → (b : Bool) → on (put_behind c xs) ≡ added (made_at ks place c) (on xs)
+            → cond b (made_at ks place d ∷ on (put_behind c xs)) (on (put_behind c xs)) ≡ added (made_at ks place c) (cond b (made_at ks place d ∷ on xs) (on xs))
         kept e true ih =
-            ap (λ (ys : List MadeCall). tag ks place d ∷ ys) ih
-            ∙ sym (ap (λ (b : Bool). if b then tag ks place c ∷ tag ks place d ∷ on xs else tag ks place d ∷ added (tag ks place c) (on xs)) (level e))
+            ap (λ (ys : List MadeCall). made_at ks place d ∷ ys) ih
+            ∙ sym (ap (λ (b : Bool). if b then made_at ks place c ∷ made_at ks place d ∷ on xs else made_at ks place d ∷ added (made_at ks place c) (on xs)) (level e))
         kept e false ih = ih
 
-        cases : (b : Bool) → test_lt c d ≡ b → on (put_behind c xs) ≡ added (tag ks place c) (on xs)
-            → on (if b then c ∷ d ∷ xs else d ∷ put_behind c xs) ≡ added (tag ks place c) (on (d ∷ xs))
-        cases true e ih = ap (λ (b : Bool). cond b (tag ks place c ∷ on (d ∷ xs)) (on (d ∷ xs))) p ∙ sym (added_here (tag ks place c) (on (d ∷ xs)) (first e))
+        cases : (b : Bool) → test_lt c d ≡ b → on (put_behind c xs) ≡ added (made_at ks place c) (on xs)
+            → on (if b then c ∷ d ∷ xs else d ∷ put_behind c xs) ≡ added (made_at ks place c) (on (d ∷ xs))
+        cases true e ih = ap (λ (b : Bool). cond b (made_at ks place c ∷ on (d ∷ xs)) (on (d ∷ xs))) p ∙ sym (added_here (made_at ks place c) (on (d ∷ xs)) (first e))
         cases false e ih = kept e (d.target.part == i) ih
 
     put_off : (c : Called) → (c.target.part == i) ≡ false → (xs : List Called) → on (put_behind c xs) ≡ on xs
-    put_off c p [] = ap (λ (b : Bool). cond b (tag ks place c ∷ []) []) p
+    put_off c p [] = ap (λ (b : Bool). cond b (made_at ks place c ∷ []) []) p
     put_off c p (d ∷ xs) = cases (test_lt c d) (put_off c p xs)
       where
         cases : (b : Bool) → on (put_behind c xs) ≡ on xs → on (if b then c ∷ d ∷ xs else d ∷ put_behind c xs) ≡ on (d ∷ xs)
-        cases true ih = ap (λ (b : Bool). cond b (tag ks place c ∷ on (d ∷ xs)) (on (d ∷ xs))) p
-        cases false ih = ap (λ (ys : List MadeCall). cond (d.target.part == i) (tag ks place d ∷ ys) ys) ih
+        cases true ih = ap (λ (b : Bool). cond b (made_at ks place c ∷ on (d ∷ xs)) (on (d ∷ xs))) p
+        cases false ih = ap (λ (ys : List MadeCall). cond (d.target.part == i) (made_at ks place d ∷ ys) ys) ih
 
-    added_one : (before : List Called) (c : Called) → on (by_rank ks (before ++ c ∷ [])) ≡ cond (c.target.part == i) (added (tag ks place c) (on (by_rank ks before))) (on (by_rank ks before))
+    added_one : (before : List Called) (c : Called) → on (by_rank ks (before ++ c ∷ [])) ≡ cond (c.target.part == i) (added (made_at ks place c) (on (by_rank ks before))) (on (by_rank ks before))
     added_one before c = ap (λ (ys : List Called). on ys) (last_by_rank before c) ∙ cases (c.target.part == i) refl
       where
-        cases : (b : Bool) → (c.target.part == i) ≡ b → on (put_behind c (by_rank ks before)) ≡ cond b (added (tag ks place c) (on (by_rank ks before))) (on (by_rank ks before))
+        cases : (b : Bool) → (c.target.part == i) ≡ b → on (put_behind c (by_rank ks before)) ≡ cond b (added (made_at ks place c) (on (by_rank ks before))) (on (by_rank ks before))
         cases true e = put_on c e (by_rank ks before) (by_rank_rises before)
         cases false e = put_off c e (by_rank ks before)
 

@@ -1,20 +1,18 @@
 -- An element that is run on its own: where no calls are made yet, it looks at the parts as they are, and what it makes of them
 -- is its run.
-use Rattle.std.proofs.Common.{◌≡◌, ◌∙◌, ℕ, zero, suc, ◌<◌, Bool, true, false, List, [], ◌∷◌, Option, Some, None, refl, sym, ap, ap₂, subst, arith, length, replicate}
-use Rattle.std.proofs.Math.Nat.{ℕ_set}
-use Rattle.std.proofs.Math.Bridge.{le_prop}
+use Rattle.std.proofs.Common.{◌≡◌, ◌∙◌, ℕ, zero, suc, ◌<◌, Bool, true, false, List, [], Option, Some, None, refl, sym, ap, ap₂, subst, length, replicate}
 use Rattle.std.proofs.Math.Logic.{∥∥₁_elim}
 use Rattle.std.specs.Prelude.{slice_get}
 use Rattle.std.specs.List.{AllByRecursion}
 use Rattle.std.proofs.lemmas.List.{length-map, length-replicate}
 use Rattle.std.proofs.lemmas.Option.{slice_get_within}
+use Rattle.bsv_lemmas.proofs.Places.{all_from, mapped_at, item_there}
 use Rattle.bsv_bits.specs.Words.{Bits}
 use Rattle.bsv_prim.specs.Calls as prim
 use Rattle.bsv_prim.specs.declared.part.Part.{Part}
 use Rattle.bsv_design.specs.declared.design.Design.{Design}
 use Rattle.bsv_design.specs.declared.design.NamedPart.{NamedPart}
 use Rattle.bsv_design.specs.declared.element.Element.{Element}
-use Rattle.bsv_design.specs.declared.element.Port.{Port}
 use Rattle.bsv_design.specs.declared.kind.Kind.{Kind}
 use Rattle.bsv_design.specs.declared.schedule.Need.{Need}
 use Rattle.bsv_design.specs.Bodies.{Target, target}
@@ -32,12 +30,12 @@ use Rattle.bsv_guard.specs.Turns.{IsTurn, TurnLaws, calls_on}
 use Rattle.bsv_guard.proofs.DesignFits.{request_fits}
 use Rattle.bsv_guard.proofs.Keeps.{sound_keeps}
 use Rattle.bsv_guard.proofs.Ranks.{all_by_rank}
-use Rattle.bsv_guard.proofs.Turns.{sound_turns}
+use Rattle.bsv_guard.proofs.Turns.{sound_turns, all_on, fits_at, length-parts}
 use Rattle.bsv_guard.proofs.Whole.{named_in}
 use Rattle.bsv_clock.specs.Grounds.{IsLawful}
 use Rattle.bsv_clock.proofs.Belonging.{lawful_design}
-use Rattle.bsv_clock.proofs.CallLists.{all_from, all_map, all_on}
-use Rattle.bsv_clock.proofs.Steadily.{looks_decide, part_fits}
+use Rattle.bsv_clock.proofs.CallLists.{all_map}
+use Rattle.bsv_clock.proofs.Steadily.{looks_decide}
 use Rattle.bsv_serial.specs.declared.made.MadeCall.{MadeCall}
 use Rattle.bsv_serial.specs.Applying.{AllCanTake, CanTake, all_behind, behind}
 use Rattle.bsv_serial.specs.AtHand.{kinds}
@@ -47,19 +45,15 @@ use Rattle.bsv_serial.specs.Making.{with_sites}
 use Rattle.bsv_serial.specs.Settings.{Ground, CanRun, is_ready, sites_of, value_of, words_at}
 use Rattle.bsv_serial.specs.Sights.{CanBeApplied, CanLook, CanLookAt, MayLook, behind_seen, look_behind, or_none, part_behind}
 use Rattle.bsv_serial.specs.Turning.{CanTurn}
-use Rattle.bsv_serial.proofs.AppliedClock.{behind_all, parts_long, take_all}
+use Rattle.bsv_serial.proofs.AppliedClock.{behind_all, take_all}
 use Rattle.bsv_serial.proofs.CanRunHere.{has_widths}
 use Rattle.bsv_serial.proofs.Joining.{length-sites, made_on, sites_on}
 use Rattle.bsv_serial.proofs.LookingSoFar.{orderly_applied}
-use Rattle.bsv_serial.proofs.ReadyHere.{calls_here, given_here, mapped_get, outline_there, ready_here, use_of, value_here}
+use Rattle.bsv_serial.proofs.ReadyHere.{calls_here, given_here, outline_there, ready_here, use_of, value_here}
 use Rattle.bsv_serial.proofs.Tagged.{added_all, added_on, as_calls_on}
+use Rattle.bsv_serial.proofs.ClockGround.{words_prop}
 
 -- ---- lists
-
-pub item_there : {X : Type 0} (xs : List X) (n : ℕ) → n < length xs → (x : X) × (slice_get xs n ≡ Some x)
-item_there [] n l = absurd (omega arith)
-item_there (x ∷ xs) zero l = (x, refl)
-item_there (x ∷ xs) (suc n) l = item_there xs n (omega arith)
 
 none_there : (m i : ℕ) → made_on (replicate m []) i ≡ []
 none_there zero i = refl
@@ -67,12 +61,6 @@ none_there (suc m) zero = refl
 none_there (suc m) (suc i) = none_there m i
 
 -- ---- requests
-
-words_prop : (ps : List Port) (ws : List Bits) → IsProp (AreWordsOf ps ws)
-words_prop [] [] = hlevel
-words_prop [] (w ∷ ws) = hlevel
-words_prop (p ∷ ps) [] = hlevel
-words_prop (p ∷ ps) (w ∷ ws) = hlevel (ℕ_set, le_prop, words_prop ps ws)
 
 -- ---- one element
 
@@ -99,7 +87,7 @@ module _ (d : Design) (guards : List (List Need)) (n : ℕ) (s : List Part) (q :
   parts = can.parts
 
   long : length s ≡ length ks
-  long = parts_long ks s can.parts
+  long = length-parts ks s can.parts
 
   count : length lists ≡ length ks
   count = ap (λ (ms : List (List MadeCall)). length ms) none ∙ length-replicate (length d.parts) [] ∙ sym (length-map d.parts (λ (p : NamedPart). p.kind))
@@ -141,7 +129,7 @@ module _ (d : Design) (guards : List (List Need)) (n : ℕ) (s : List Part) (q :
         there = subst (λ (m : ℕ). t.part < m) (sym long) (slice_get_within ks t.part k.0 k.1);
         may = subst (λ (o : Option Kind). MayLook o t.method (part_at s t.part) (made_on lists t.part)) (sym k.1)
             (subst (CanLook k.0 t.method (part_at s t.part)) (sym (none_on t.part))
-            (record { method = k.2; part = part_fits ks s can.parts t.part k.0 k.1; methods = tt; calls = tt }));
+            (record { method = k.2; part = fits_at ks s can.parts t.part k.0 k.1; methods = tt; calls = tt }));
       }
 
   -- ---- it can be computed
@@ -166,7 +154,7 @@ module _ (d : Design) (guards : List (List Need)) (n : ℕ) (s : List Part) (q :
   }
 
   needs_now : slice_get guards n ≡ Some (needs_from ks 0 e.calls)
-  needs_now = ap (λ (ns : List (List Need)). slice_get ns n) can.needs ∙ mapped_get (λ (x : Element). needs_from ks 0 x.calls) d.elements n e is
+  needs_now = ap (λ (ns : List (List Need)). slice_get ns n) can.needs ∙ mapped_at (λ (x : Element). needs_from ks 0 x.calls) d.elements n e is
 
   pub can_run : CanRun ground lists n
   can_run = record {
@@ -253,7 +241,7 @@ module _ (d : Design) (guards : List (List Need)) (n : ℕ) (s : List Part) (q :
       one_takes : (i : ℕ) (kind : Kind) → slice_get ks i ≡ Some kind → CanTake kind (part_at s i) (made_on next i)
       unfolding design_scheme
       one_takes i kind at_i = record {
-        part = part_fits ks s can.parts i kind at_i;
+        part = fits_at ks s can.parts i kind at_i;
         calls = subst (CanBeApplied (kind_table kind) (part_at s i)) (sym (next_on i (slice_get_within ks i kind at_i)))
             (orderly_applied (kind_table kind) (part_at s i) (calls_on i (made S q n s)) (turns.in_turn false q n s (is_turn is_open) i kind at_i) (acting i kind at_i));
       }
@@ -262,7 +250,7 @@ module _ (d : Design) (guards : List (List Need)) (n : ℕ) (s : List Part) (q :
       takes = take_all ks s next long next_long one_takes
 
       pub behind_is : all_behind ks s next ≡ run_whole S q n s
-      behind_is = behind_all ks s (run_whole S q n s) next long (parts_long ks (run_whole S q n s) (fits_behind is_open)) next_long one_behind
+      behind_is = behind_all ks s (run_whole S q n s) next long (length-parts ks (run_whole S q n s) (fits_behind is_open)) next_long one_behind
 
 -- ---- as the code has it: the element is found, and these are the parts
 

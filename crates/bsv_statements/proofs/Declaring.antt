@@ -9,7 +9,7 @@ use Rattle.bsv_context.specs.declared.context.Variable.{Variable}
 use Rattle.bsv_statements.specs.Bodies.{Scopes, with_variable}
 use Rattle.bsv_context.specs.Seen.{variable, slot_of, named_variable, in_layer}
 
-count_seen : (ss : List (Entries Variable)) → in_scope (map in_layer ss) ≡ in_scope ss
+pub count_seen : (ss : List (Entries Variable)) → in_scope (map in_layer ss) ≡ in_scope ss
 count_seen [] = refl
 count_seen (es ∷ outer) = ap (λ n. n + in_scope (map in_layer outer)) (length-map es named_variable) ∙ ap (λ n. length es + n) (count_seen outer)
 

@@ -1,5 +1,6 @@
 -- Arms of an `if` or a `case`, and loops, are in order.
 use Rattle.std.proofs.Common.{ℕ, ◌≡◌, ◌∙◌, true, ◌&&◌, List, [], ◌∷◌, ◌++◌, map, Option, Some, None, Ok, refl, sym, ap, subst}
+use Rattle.std.proofs.lemmas.Bool.{and_from}
 use Rattle.bsv_ast.specs.Names.{is_lower}
 use Rattle.bsv_ast.specs.declared.text.Span.{Span}
 use Rattle.bsv_ast.specs.declared.expressions.Expr.{Expr as Written}
@@ -20,7 +21,6 @@ use Rattle.bsv_typing.specs.Forms.{payload}
 use Rattle.bsv_statements.specs.Bodies.{Or, ◌>=>◌, at, Scopes, Task, Run, with_variable, check, of_kind, assignable, inside, Opening, opening, openings, Arm, in_arm, branch, arm_case, arms, last_arm, if_case, in_head, for_case, Labelled, all_labels, labels_of, labelled, all_labelled, case_case, step_of, turn_of, start_of}
 use Rattle.bsv_typing.specs.Laws.{FitsWorld}
 use Rattle.bsv_statements.specs.Laws.{ScopesFit, frame_of}
-use Rattle.bsv_typing.proofs.Bound.{both_true}
 use Rattle.bsv_typing.proofs.Typings.{value_typed}
 use Rattle.bsv_statements.proofs.RightScopes.{frame_opened, opened_fit, Defined, defined_right}
 use Rattle.bsv_statements.proofs.RightCalls.{ok_is, went, there_is, passed, has_true, assigns_true, check_right, kind_right, assignable_right}
@@ -80,7 +80,7 @@ module _ (t : Task) (w : World) (fits : FitsWorld t.env w) where
       let bs = went (arms s os xs b.0.0) _ q b.2 in
       let h = arm_ran s o x ss b.0 asks.0 good.0 fit b.1 in
       let more = arms_ran s os xs ss bs.0 asks.1 good.1 fit (subst (λ z. arms s os xs z ≡ Ok bs.0) h.0 bs.1) in
-      subst (ArmsRan ss) (ok_is (bs.0.0, b.0.1 ∷ bs.0.1) q bs.2) (more.0, both_true (rules.inner (branch_run t w b.0.1) (frame_of ss)) (rules.all_inner (map (branch_run t w) bs.0.1) (frame_of ss)) h.1 more.1)
+      subst (ArmsRan ss) (ok_is (bs.0.0, b.0.1 ∷ bs.0.1) q bs.2) (more.0, and_from (rules.inner (branch_run t w b.0.1) (frame_of ss)) (rules.all_inner (map (branch_run t w) bs.0.1) (frame_of ss)) h.1 more.1)
   arms_ran s [] xs ss q asks good fit e = subst (ArmsRan ss) (ok_is (ss, []) q e) (refl, refl)
   arms_ran s (o ∷ os) [] ss q asks good fit e = subst (ArmsRan ss) (ok_is (ss, []) q e) (refl, refl)
 
@@ -123,8 +123,8 @@ module _ (t : Task) (w : World) (fits : FitsWorld t.env w) where
       let test_is = subst (λ f. has_type w f test.0 bool ≡ true) is (has_true w (frame_of inner) test.0 bool (kind_right t w fits inner d.fit s h.condition bool test.0 test.1)) in
       let step_is = subst (λ f. rules.assigns w t.base f v.0.0 step.0 ≡ true) is
       (assigns_true w t.base (frame_of inner) v.0.0 step.0 v.0.1 takes.own takes.here takes.right (kind_right t w fits inner d.fit s h.step v.0.1 step.0 step.1)) in
-      let right = both_true (is_lower h.variable.name && has_type w frame first integer && has_type w grown test.0 bool) (rules.assigns w t.base grown v.0.0 step.0)
-      (both_true (is_lower h.variable.name && has_type w frame first integer) (has_type w grown test.0 bool) (both_true (is_lower h.variable.name) (has_type w frame first integer) lower first_is) test_is) step_is in
+      let right = and_from (is_lower h.variable.name && has_type w frame first integer && has_type w grown test.0 bool) (rules.assigns w t.base grown v.0.0 step.0)
+      (and_from (is_lower h.variable.name && has_type w frame first integer) (has_type w grown test.0 bool) (and_from (is_lower h.variable.name) (has_type w frame first integer) lower first_is) test_is) step_is in
       let turned = ap (λ n. (test.0, n.0, n.1)) (ok_is (v.0.0, step.0) next.0 step.2) ∙ ok_is (test.0, next.0.0, next.0.1) turn.0 next.2 in
       subst (Heads ss) (ap (loop_of h first inner) turned ∙ ok_is (loop_of h first inner turn.0) l turn.2)
       (record { enters = some_true _ grown right ∙ ap Some (sym is); fit = d.fit; outer = d.outer })
@@ -155,7 +155,7 @@ module _ (t : Task) (w : World) (fits : FitsWorld t.env w) where
       let m = went (of_kind t ss s x k) _ ms e in
       let more = went (all_labels t ss s k xs) _ ms m.2 in
       let h = has_true w (frame_of ss) m.0 k (kind_right t w fits ss fit s x k m.0 m.1) in
-      subst (λ z. rules.all_labels w (frame_of ss) k z ≡ true) (ok_is (m.0 ∷ more.0) ms more.2) (both_true (has_type w (frame_of ss) m.0 k) (rules.all_labels w (frame_of ss) k more.0) h (labels_right ss s k xs more.0 fit more.1))
+      subst (λ z. rules.all_labels w (frame_of ss) k z ≡ true) (ok_is (m.0 ∷ more.0) ms more.2) (and_from (has_type w (frame_of ss) m.0 k) (rules.all_labels w (frame_of ss) k more.0) h (labels_right ss s k xs more.0 fit more.1))
 
   abbrev EachLabels : Scopes → Kind → List (List Expr) → Type 0
   EachLabels ss k [] = Unit {0}
@@ -186,7 +186,7 @@ module _ (t : Task) (w : World) (fits : FitsWorld t.env w) where
       let more = cases_ran rest xs k ss rs.0 labels.1 good.1 fit (subst (λ z. all_labelled rest xs z ≡ Ok rs.0) h.same rs.1) in
       let frame = frame_of ss in
       let others = map (arm_run t w) rs.0.1 in
-      let right = both_true (rules.all_labels w frame k ms && rules.inner (typed_run t w r.0.1) frame) (rules.arms_right w frame k others) (both_true (rules.all_labels w frame k ms) (rules.inner (typed_run t w r.0.1) frame) labels.0 h.right) more.1 in
+      let right = and_from (rules.all_labels w frame k ms && rules.inner (typed_run t w r.0.1) frame) (rules.arms_right w frame k others) (and_from (rules.all_labels w frame k ms) (rules.inner (typed_run t w r.0.1) frame) labels.0 h.right) more.1 in
       subst (CasesRan ss k) (ok_is (rs.0.0, labelled ms r.0.1 ∷ rs.0.1) q rs.2) (more.0, ap (λ a. rules.arms_right w frame k (a ∷ others)) (arm_is t w ms r.0.1) ∙ right)
   cases_ran [] xs k ss q labels good fit e = subst (CasesRan ss k) (ok_is (ss, []) q e) (refl, refl)
   cases_ran (ms ∷ rest) [] k ss q labels good fit e = subst (CasesRan ss k) (ok_is (ss, []) q e) (refl, refl)

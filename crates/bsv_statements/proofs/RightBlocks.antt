@@ -1,5 +1,7 @@
 -- Statements with statements in them are in order.
 use Rattle.std.proofs.Common.{◌≡◌, ◌∙◌, ℕ, Bool, true, false, cond, ◌&&◌, List, [], ◌∷◌, ◌++◌, map, Option, Some, None, Ok, option_map, refl, sym, ap, subst}
+use Rattle.std.proofs.lemmas.Bool.{and_parts, and_from}
+use Rattle.std.proofs.lemmas.Option.{same_Some as some_is}
 use Rattle.bsv_scopes.specs.Scopes.{opened, closed}
 use Rattle.bsv_types.specs.declared.expressions.Expr.{Expr}
 use Rattle.bsv_types.specs.declared.statements.Stmt.{Stmt, Block, If, For, Case, fold-roll-Stmt}
@@ -15,11 +17,9 @@ use Rattle.bsv_types.specs.Shapes.{Shapes, is_value, is_bits, has_range, width_b
 use Rattle.bsv_types.specs.Operators.{◌>>=◌}
 use Rattle.bsv_types.specs.Expressions.{one, World, Frame, typing}
 use Rattle.bsv_types.specs.Statements as rules
-use Rattle.bsv_types.proofs.Same.{both}
 use Rattle.bsv_typing.specs.Forms.{payload}
 use Rattle.bsv_statements.specs.Bodies.{Scopes, Task, Run, all_runs, inside, in_arm, branch, last_arm, labelled, block_case}
 use Rattle.bsv_statements.specs.Laws.{ScopesFit, frame_of, typed_task}
-use Rattle.bsv_typing.proofs.Bound.{some_is, both_true}
 use Rattle.bsv_typing.proofs.RightGiven.{bits_value}
 use Rattle.bsv_statements.proofs.RightScopes.{frame_opened, opened_fit, defined_right}
 use Rattle.bsv_statements.proofs.RightCalls.{ok_is, went}
@@ -34,7 +34,7 @@ payload_is _ k e = absurd cc
 
 -- the value in a Maybe has a type of values
 pub payload_value : (s : Shapes) (k : Kind) → is_value s (maybe k) ≡ true → is_value s k ≡ true
-payload_value s k e = bits_value s k (both (is_bits s _ k) (has_range (width_by s.enums s.structs (maybe k))) e).0
+payload_value s k e = bits_value s k (and_parts (is_bits s _ k) (has_range (width_by s.enums s.structs (maybe k))) e).0
 
 pub some_true : (b : Bool) (frame : Frame) → b ≡ true → cond b (Some frame) None ≡ Some frame
 some_true true frame e = refl
@@ -64,7 +64,7 @@ module _ (t : Task) (w : World) where
 
   pub if_typed : (frame : Frame) (bs : List Branch) (o : Option Stmt) → rules.all_inner (map branch_run bs) frame ≡ true → last_right o frame ≡ true → typed_run t w (If bs o) frame ≡ Some frame
   if_typed frame bs o all last =
-      if_is frame bs o ∙ if_right_true (rules.all_inner (map branch_run bs) frame && last_right o frame) frame (both_true (rules.all_inner (map branch_run bs) frame) (last_right o frame) all last)
+      if_is frame bs o ∙ if_right_true (rules.all_inner (map branch_run bs) frame && last_right o frame) frame (and_from (rules.all_inner (map branch_run bs) frame) (last_right o frame) all last)
 
   pub for_typed : (frame inner next : Frame) (head : Head) (y : Stmt) → rules.in_loop w t.base head frame ≡ Some inner → typed_run t w y inner ≡ Some next → typed_run t w (For head y) frame ≡ Some frame
   for_typed frame inner next head y enters h =
@@ -80,7 +80,7 @@ module _ (t : Task) (w : World) where
   pub case_typed : (frame : Frame) (x : Expr) (k : Kind) (cs : List CaseArm) (o : Option Stmt) → typing w x frame ≡ Some k → rules.arms_right w frame k (map arm_run cs) ≡ true → last_right o frame ≡ true → typed_run t w (Case x cs o) frame ≡ Some frame
   case_typed frame x k cs o h all last =
       case_is frame x cs o ∙ ap (λ q. rules.if_right (rules.case_right w frame q (map arm_run cs) (option_map (typed_run t w) o)) frame) h ∙
-      if_right_true (rules.arms_right w frame k (map arm_run cs) && last_right o frame) frame (both_true (rules.arms_right w frame k (map arm_run cs)) (last_right o frame) all last)
+      if_right_true (rules.arms_right w frame k (map arm_run cs) && last_right o frame) frame (and_from (rules.arms_right w frame k (map arm_run cs)) (last_right o frame) all last)
 
   pub branch_typed : (frame inner next : Frame) (c : Condition) (y : Stmt) → rules.in_arm w c frame ≡ Some inner → typed_run t w y inner ≡ Some next → branch_run (branch c y) frame ≡ Some next
   branch_typed frame inner next c y enters h =

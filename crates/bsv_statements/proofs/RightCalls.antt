@@ -3,6 +3,9 @@
 use Rattle.std.proofs.Common.{◌≡◌, ◌∙◌, ℕ, zero, suc, Bool, true, false, ◌&&◌, List, [], ◌∷◌, map, Option, Some, None, Ok, Err, refl, sym, ap, subst}
 use Rattle.std.specs.Prelude.{nat_le, slice_get, codes}
 use Rattle.std.specs.List.{list_all}
+use Rattle.std.proofs.lemmas.Bool.{and_parts, and_from}
+use Rattle.std.proofs.lemmas.Option.{same_Some as some_is}
+use Rattle.bsv_lemmas.proofs.Places.{passes_at}
 use Rattle.bsv_ast.specs.declared.text.Span.{Span}
 use Rattle.bsv_ast.specs.declared.expressions.Expr.{Expr as Written}
 use Rattle.bsv_ast.specs.declared.statements.Place.{Place as WrittenPlace}
@@ -20,7 +23,7 @@ use Rattle.bsv_types.specs.Methods.{Signature, Effect, action, action_value, eff
 use Rattle.bsv_types.specs.Expressions.{Slot, one, many, World, Frame, typing, place_typing, method_at, one_at, is_typed, has_type, have_types}
 use Rattle.bsv_types.specs.Statements.{calls, assigns}
 use Rattle.bsv_types.specs.Programs.{interface_right, method_header_right, effect_right, shapes_right, begins_empty}
-use Rattle.bsv_types.proofs.Same.{both, same_self}
+use Rattle.bsv_types.proofs.Same.{same_self}
 use Rattle.bsv_context.specs.Env.{Made, variable_in, is_typed_value}
 use Rattle.bsv_typing.specs.Forms.{arguments}
 use Rattle.bsv_context.specs.Methods.{method_named}
@@ -28,7 +31,7 @@ use Rattle.bsv_typing.specs.Places.{Instance, place_of}
 use Rattle.bsv_statements.specs.Bodies.{Or, ◌>=>◌, at, sure, Scopes, with_scopes, Task, check, of_kind, one_instance, one_of_many, instance_at, operands_of, Called, called, call_at, is_written, assignable}
 use Rattle.bsv_typing.specs.Laws.{FitsWorld, Typed}
 use Rattle.bsv_statements.specs.Laws.{ScopesFit, frame_of}
-use Rattle.bsv_typing.proofs.Bound.{some_is, tested_step, both_true, HasKind}
+use Rattle.bsv_typing.proofs.Bound.{tested_step, HasKind}
 use Rattle.bsv_typing.proofs.Typings.{Each}
 use Rattle.bsv_typing.proofs.RightOperands.{strictly, strict_value, EachGood}
 use Rattle.bsv_typing.proofs.RightGiven.{bits_value, arguments_right, same_kinds_self}
@@ -55,18 +58,13 @@ pub passed : {A B : Type 0} (s : Span) (b : Bool) (x : A) (f : A → Or B) (y : 
 passed s true x f y e = (refl, e)
 passed s false x f y e = absurd cc
 
-at_is : {A : Type 0} (s : Span) (o : Option A) (x : A) → at s o ≡ Ok x → o ≡ Some x
+pub at_is : {A : Type 0} (s : Span) (o : Option A) (x : A) → at s o ≡ Ok x → o ≡ Some x
 at_is s None x e = absurd cc
 at_is s (Some y) x e = ap Some (ok_is y x e)
 
 -- ---- the types that methods give
 
-each_is : {A : Type 0} (p : A → Bool) (xs : List A) (k : ℕ) (x : A) → list_all p xs ≡ true → slice_get xs k ≡ Some x → p x ≡ true
-each_is p [] k x all is = absurd cc
-each_is p (y ∷ ys) zero x all is = subst (λ z. p z ≡ true) (some_is y x is) (both (p y) (list_all p ys) all).0
-each_is p (y ∷ ys) (suc k) x all is = each_is p ys k x (both (p y) (list_all p ys) all).1 is
-
-header_at : (hs : List MethodHeader) (n : ℕ) (q : Signature) → slice_get (map header_signature hs) n ≡ Some q → (h : MethodHeader) × (slice_get hs n ≡ Some h) × (header_signature h ≡ q)
+pub header_at : (hs : List MethodHeader) (n : ℕ) (q : Signature) → slice_get (map header_signature hs) n ≡ Some q → (h : MethodHeader) × (slice_get hs n ≡ Some h) × (header_signature h ≡ q)
 header_at [] n q e = absurd cc
 header_at (h ∷ hs) zero q e = (h, refl, some_is (header_signature h) q e)
 header_at (h ∷ hs) (suc n) q e = header_at hs n q e
@@ -99,13 +97,13 @@ bound_value s (interface i) n q k right is gives = by (slice_get s.interfaces i)
   by None at here = absurd cc
   by (Some face) at here =
       let h = header_at face.methods n q here in
-      let faces = (both _ (list_all (interface_right s) s.interfaces) (both _ (begins_empty s.interfaces) right).0).1 in
-      let face_right = each_is (interface_right s) s.interfaces i face faces at in
-      let header = each_is (method_header_right s) face.methods n h.0 (both _ (list_all (method_header_right s) face.methods) face_right).1 h.1 in
-      let effect_is = (both _ (effect_right s (effect h.0.result)) header).1 in
+      let faces = (and_parts _ (list_all (interface_right s) s.interfaces) (and_parts _ (begins_empty s.interfaces) right).0).1 in
+      let face_right = passes_at (interface_right s) s.interfaces i face faces at in
+      let header = passes_at (method_header_right s) face.methods n h.0 (and_parts _ (list_all (method_header_right s) face.methods) face_right).1 h.1 in
+      let effect_is = (and_parts _ (effect_right s (effect h.0.result)) header).1 in
       bits_value s k (subst (λ e. effect_right s e ≡ true) (ap (λ (r : Signature). r.effect) h.2 ∙ gives) effect_is)
-bound_value s (part p t) n q k right is gives = absurd (none_given q k (each_is gives_none (part_methods p t) n q (part_gives p t) is) gives)
-bound_value s (bare p) n q k right is gives = absurd (none_given q k (each_is gives_none (bare_methods p) n q (bare_gives p) is) gives)
+bound_value s (part p t) n q k right is gives = absurd (none_given q k (passes_at gives_none (part_methods p t) n q (part_gives p t) is) gives)
+bound_value s (bare p) n q k right is gives = absurd (none_given q k (passes_at gives_none (bare_methods p) n q (bare_gives p) is) gives)
 bound_value s _ n q k right is gives = absurd cc
 
 -- a write is an action
@@ -119,7 +117,7 @@ pub has_true : (w : World) (frame : Frame) (x : Expr) (k : Kind) → typing w x 
 has_true w frame x k h = ap (λ o. is_kind o k) h ∙ same_self k
 
 pub assigns_true : (w : World) (base : ℕ) (frame : Frame) (level : ℕ) (x : Expr) (k : Kind) → nat_le base level ≡ true → one_at frame level ≡ Some k → is_value w.shapes k ≡ true → typing w x frame ≡ Some k → assigns w base frame level x ≡ true
-assigns_true w base frame level x k own here right h = rw here (both_true (nat_le base level) (is_value w.shapes k && has_type w frame x k) own (both_true (is_value w.shapes k) (has_type w frame x k) right (has_true w frame x k h)))
+assigns_true w base frame level x k own here right h = rw here (and_from (nat_le base level) (is_value w.shapes k && has_type w frame x k) own (and_from (is_value w.shapes k) (has_type w frame x k) right (has_true w frame x k h)))
 
 module _ (t : Task) (w : World) (fits : FitsWorld t.env w) (ss : Scopes) (fit : ScopesFit w.shapes ss) where
   -- ---- expressions
@@ -196,7 +194,7 @@ module _ (t : Task) (w : World) (fits : FitsWorld t.env w) (ss : Scopes) (fit : 
       ap (λ o. method_at w.shapes o c.1) h.stands ∙ subst (λ n. slice_get (methods w.shapes c.0.kind) n ≡ Some h.method.1) h.number there in
       let types : have_types w (frame_of ss) c.3 h.method.1.params ≡ true = ap (λ o. is_typed o (λ js. same_kinds js h.method.1.params)) h.typed ∙ same_kinds_self h.method.1.params in
       let last : p h.method.1.effect ≡ true = subst (λ e. p e ≡ true) (sym h.effect_is) passes in
-      rw found (both_true (have_types w (frame_of ss) c.3 h.method.1.params) (p h.method.1.effect) types last)
+      rw found (and_from (have_types w (frame_of ss) c.3 h.method.1.params) (p h.method.1.effect) types last)
 
   -- ---- variables that take values
 
@@ -210,7 +208,7 @@ module _ (t : Task) (w : World) (fits : FitsWorld t.env w) (ss : Scopes) (fit : 
     slot_takes : (u : ℕ × Slot) (x : Slot) → u.1 ≡ x → variable_in ss name ≡ Some u → Takes v
     slot_takes u (one k) is named =
         let h = tested_step (nat_le t.base u.0 && is_typed_value t.env.limits k) (Some (u.0, k)) v (rw is at (rw named at e)) in
-        let b = both (nat_le t.base u.0) (is_typed_value t.env.limits k) h.0 in
+        let b = and_parts (nat_le t.base u.0) (is_typed_value t.env.limits k) h.0 in
         let here = one_is w (frame_of ss) u.0 k (variable_is name u named ∙ ap Some is) in
         subst Takes (some_is (u.0, k) v h.1) (record { here = here; own = b.0; right = strict_value w k (subst (λ g. is_typed_value g k ≡ true) (ground_is t.env w fits) b.1) })
     slot_takes u (many k) is named = let none = rw is at (rw named at e) in absurd cc

@@ -2,20 +2,15 @@
 use Rattle.std.proofs.Common.{◌≡◌, ◌∙◌, true, List, [], ◌∷◌, map, Some, None, Ok, refl, sym, ap, subst}
 use Rattle.bsv_ast.specs.declared.statements.Stmt.{Stmt as Written, roll-Stmt, ind-Stmt, map-Stmt, fold-roll-Stmt}
 use Rattle.bsv_ast.specs.declared.statements.Stmt.TheOpen.{Stmt-F, Branch-F, CaseArm-F}
-use Rattle.bsv_ast.specs.declared.statements.Branch.{Branch as WrittenBranch, roll-Branch, fold-Branch, map-Branch, fold-roll-Branch}
-use Rattle.bsv_ast.specs.declared.statements.CaseArm.{CaseArm as WrittenCaseArm, roll-CaseArm, fold-CaseArm, map-CaseArm, fold-roll-CaseArm}
+use Rattle.bsv_ast.specs.declared.statements.Branch.{Branch as WrittenBranch, roll-Branch, map-Branch, fold-roll-Branch}
+use Rattle.bsv_ast.specs.declared.statements.CaseArm.{CaseArm as WrittenCaseArm, roll-CaseArm, map-CaseArm, fold-roll-CaseArm}
 use Rattle.bsv_types.specs.declared.statements.Stmt.{Stmt}
 use Rattle.bsv_types.specs.Statements as rules
 use Rattle.bsv_types.specs.Statements.{goes_on, returned, Ends, agree, all_agree, or_goes_on, sequence}
 use Rattle.bsv_statements.specs.Bodies.{Scopes, Task, Run, Arm, Labelled, all_runs, stmt_step, arm_step, labelled_step, stmt_run, arm_of, labelled_of}
 use Rattle.bsv_statements.specs.Returns.{ends_step, stmt_ends, is_returned, returns}
 use Rattle.bsv_statements.proofs.RightEndings.{Ending, EachEnding, runs_end, block_ending, write_ending, act_ending, bind_ending, declare_ending, assign_ending, return_ending, no_return, none_ending, EachArm, if_ending, for_ending, EachLabelled, case_ending}
-
-abbrev branch_ends : WrittenBranch → Ends
-branch_ends = fold-Branch Ends Ends Ends ends_step (λ b. b.arm) (λ a. a.arm)
-
-abbrev case_ends : WrittenCaseArm → Ends
-case_ends = fold-CaseArm Ends Ends Ends ends_step (λ b. b.arm) (λ a. a.arm)
+use Rattle.bsv_statements.specs.ReturnsSeen.{arm_ends, case_ends}
 
 -- every part goes on
 abbrev ons : {A : Type 0} → List A → List Ends
@@ -38,7 +33,7 @@ module _ (t : Task) where
   Child = (x : Written) × Ending (stmt_run t x) (stmt_ends x)
 
   abbrev ArmChild : Type 0
-  ArmChild = (x : WrittenBranch) × Ending (arm_of t x).run (branch_ends x)
+  ArmChild = (x : WrittenBranch) × Ending (arm_of t x).run (arm_ends x)
 
   abbrev LabelledChild : Type 0
   LabelledChild = (x : WrittenCaseArm) × Ending (labelled_of t x).run (case_ends x)
@@ -47,7 +42,7 @@ module _ (t : Task) where
   each [] = tt
   each (x ∷ xs) = (x.1, each xs)
 
-  each_arm : (xs : List ArmChild) → EachArm t (map (arm_of t) (map (λ (x : ArmChild). x.0) xs)) (map branch_ends (map (λ (x : ArmChild). x.0) xs))
+  each_arm : (xs : List ArmChild) → EachArm t (map (arm_of t) (map (λ (x : ArmChild). x.0) xs)) (map arm_ends (map (λ (x : ArmChild). x.0) xs))
   each_arm [] = tt
   each_arm (x ∷ xs) = (x.1, each_arm xs)
 
@@ -57,7 +52,7 @@ module _ (t : Task) where
 
   layer : (y : Stmt-F Child ArmChild LabelledChild) →
       Ending (stmt_step t (map-Stmt Written WrittenBranch WrittenCaseArm Run Arm Labelled (stmt_run t) (arm_of t) (labelled_of t) (map-Stmt Child ArmChild LabelledChild Written WrittenBranch WrittenCaseArm (λ x. x.0) (λ x. x.0) (λ x. x.0) y)))
-      (ends_step (map-Stmt Written WrittenBranch WrittenCaseArm Ends Ends Ends stmt_ends branch_ends case_ends (map-Stmt Child ArmChild LabelledChild Written WrittenBranch WrittenCaseArm (λ x. x.0) (λ x. x.0) (λ x. x.0) y)))
+      (ends_step (map-Stmt Written WrittenBranch WrittenCaseArm Ends Ends Ends stmt_ends arm_ends case_ends (map-Stmt Child ArmChild LabelledChild Written WrittenBranch WrittenCaseArm (λ x. x.0) (λ x. x.0) (λ x. x.0) y)))
   layer (Stmt-F.Write s p e) = write_ending t s p e
   layer (Stmt-F.Call s call) = act_ending t s call
   layer (Stmt-F.Bind s d name call) = bind_ending t s d name.name call
@@ -73,13 +68,13 @@ module _ (t : Task) where
   layer (Stmt-F.Case s e xs (Some x)) = case_ending t s e _ _ (Some (stmt_run t x.0)) (Some (stmt_ends x.0)) (each_labelled xs) x.1
 
   stmt_ending : (z : Stmt-F Written WrittenBranch WrittenCaseArm) →
-      Ending (stmt_step t (map-Stmt Written WrittenBranch WrittenCaseArm Run Arm Labelled (stmt_run t) (arm_of t) (labelled_of t) z)) (ends_step (map-Stmt Written WrittenBranch WrittenCaseArm Ends Ends Ends stmt_ends branch_ends case_ends z)) →
+      Ending (stmt_step t (map-Stmt Written WrittenBranch WrittenCaseArm Run Arm Labelled (stmt_run t) (arm_of t) (labelled_of t) z)) (ends_step (map-Stmt Written WrittenBranch WrittenCaseArm Ends Ends Ends stmt_ends arm_ends case_ends z)) →
       Ending (stmt_run t (roll-Stmt z)) (stmt_ends (roll-Stmt z))
   stmt_ending z h =
       subst (λ e. Ending (stmt_run t (roll-Stmt z)) e) (sym (fold-roll-Stmt Ends Ends Ends ends_step (λ b. b.arm) (λ a. a.arm) z))
-      (subst (λ r. Ending r (ends_step (map-Stmt Written WrittenBranch WrittenCaseArm Ends Ends Ends stmt_ends branch_ends case_ends z))) (sym (fold-roll-Stmt Run Arm Labelled (stmt_step t) arm_step labelled_step z)) h)
+      (subst (λ r. Ending r (ends_step (map-Stmt Written WrittenBranch WrittenCaseArm Ends Ends Ends stmt_ends arm_ends case_ends z))) (sym (fold-roll-Stmt Run Arm Labelled (stmt_step t) arm_step labelled_step z)) h)
 
-  arm_ending : (z : Branch-F Written WrittenBranch WrittenCaseArm) → Ending (stmt_run t z.arm) (stmt_ends z.arm) → Ending (arm_of t (roll-Branch z)).run (branch_ends (roll-Branch z))
+  arm_ending : (z : Branch-F Written WrittenBranch WrittenCaseArm) → Ending (stmt_run t z.arm) (stmt_ends z.arm) → Ending (arm_of t (roll-Branch z)).run (arm_ends (roll-Branch z))
   arm_ending z h =
       subst (λ e. Ending (arm_of t (roll-Branch z)).run e) (sym (fold-roll-Branch Ends Ends Ends ends_step (λ b. b.arm) (λ a. a.arm) z))
       (subst (λ (r : Arm). Ending r.run (stmt_ends z.arm)) (sym (fold-roll-Branch Run Arm Labelled (stmt_step t) arm_step labelled_step z)) h)
@@ -90,10 +85,10 @@ module _ (t : Task) where
       (subst (λ (r : Labelled). Ending r.run (stmt_ends z.arm)) (sym (fold-roll-CaseArm Run Arm Labelled (stmt_step t) arm_step labelled_step z)) h)
 
   ends_same : (x : Written) → Ending (stmt_run t x) (stmt_ends x)
-  ends_same = ind-Stmt (λ x. Ending (stmt_run t x) (stmt_ends x)) (λ x. Ending (arm_of t x).run (branch_ends x)) (λ x. Ending (labelled_of t x).run (case_ends x))
+  ends_same = ind-Stmt (λ x. Ending (stmt_run t x) (stmt_ends x)) (λ x. Ending (arm_of t x).run (arm_ends x)) (λ x. Ending (labelled_of t x).run (case_ends x))
       (λ x y is. subst (λ z. Ending (stmt_run t (roll-Stmt z)) (stmt_ends (roll-Stmt z))) is
       (stmt_ending (map-Stmt Child ArmChild LabelledChild Written WrittenBranch WrittenCaseArm (λ x. x.0) (λ x. x.0) (λ x. x.0) y) (layer y)))
-      (λ x y is. subst (λ z. Ending (arm_of t (roll-Branch z)).run (branch_ends (roll-Branch z))) is
+      (λ x y is. subst (λ z. Ending (arm_of t (roll-Branch z)).run (arm_ends (roll-Branch z))) is
       (arm_ending (map-Branch Child ArmChild LabelledChild Written WrittenBranch WrittenCaseArm (λ x. x.0) (λ x. x.0) (λ x. x.0) y) y.arm.1))
       (λ x y is. subst (λ z. Ending (labelled_of t (roll-CaseArm z)).run (case_ends (roll-CaseArm z))) is
       (labelled_ending (map-CaseArm Child ArmChild LabelledChild Written WrittenBranch WrittenCaseArm (λ x. x.0) (λ x. x.0) (λ x. x.0) y) y.arm.1))

@@ -4,6 +4,7 @@ use Rattle.std.specs.Prelude.{slice_get}
 use Rattle.std.specs.Option.{option_or}
 use Rattle.std.specs.Str.{bytes_eq}
 use Rattle.std.proofs.lemmas.List.{length-append, length-map, map-append}
+use Rattle.std.proofs.lemmas.Option.{same_Some}
 use Rattle.bsv_scopes.specs.Scopes.{Entries, found, find_in, is_defined, opened, closed, in_scope}
 use Rattle.bsv_types.specs.Shapes.{Shapes}
 use Rattle.bsv_types.specs.Expressions.{Slot, World, Frame}
@@ -11,7 +12,6 @@ use Rattle.bsv_context.specs.Env.{Env, variable_in}
 use Rattle.bsv_statements.specs.Bodies.{Scopes, with_variable, with_scopes}
 use Rattle.bsv_typing.specs.Laws.{slot_right, SlotsRight, FitsWorld, Fits}
 use Rattle.bsv_statements.specs.Laws.{slots_of, frame_of, PlacedFrom, Placed, ScopesFit}
-use Rattle.bsv_typing.proofs.Bound.{some_is}
 
 -- ---- items of lists side by side
 
@@ -26,14 +26,14 @@ get_right (x ∷ xs) ys i zero s is e = absurd (omega arith)
 get_right (x ∷ xs) ys i (suc j) s is e = get_right xs ys i j s (omega arith) e
 
 slots_more : (shapes : Shapes) (frame : Frame) (s : Slot) → SlotsRight shapes frame → slot_right shapes s ≡ true → SlotsRight shapes (frame ++ s ∷ [])
-slots_more shapes [] s right new zero t e = subst (λ u. slot_right shapes u ≡ true) (some_is s t e) new
+slots_more shapes [] s right new zero t e = subst (λ u. slot_right shapes u ≡ true) (same_Some s t e) new
 slots_more shapes [] s right new (suc level) t e = absurd cc
 slots_more shapes (x ∷ xs) s right new zero t e = right 0 t e
 slots_more shapes (x ∷ xs) s right new (suc level) t e = slots_more shapes xs s (λ l u is. right (suc l) u is) new level t e
 
 -- ---- variables by their names
 
-frame_length : (ss : Scopes) → length (frame_of ss) ≡ in_scope ss
+pub frame_length : (ss : Scopes) → length (frame_of ss) ≡ in_scope ss
 frame_length [] = refl
 frame_length (es ∷ outer) = omega (arith, length-append (frame_of outer) (slots_of es), length-map es (λ e. e.1.1), frame_length outer)
 
@@ -43,7 +43,7 @@ found_at n name (x ∷ es) v placed e = by (bytes_eq name x.0) (found_at (n + 1)
   by : (b : Bool) → (found name es ≡ Some v → (i : ℕ) × (v.0 ≡ n + 1 + i) × (slice_get (slots_of es) i ≡ Some v.1)) →
       cond b (Some x.1) (found name es) ≡ Some v → (i : ℕ) × (v.0 ≡ n + i) × (slice_get (slots_of (x ∷ es)) i ≡ Some v.1)
   by true later at =
-      let is = some_is x.1 v at in
+      let is = same_Some x.1 v at in
       let first : n ≡ n + 0 = omega arith in
       (0, sym (ap (λ (q : ℕ × Slot). q.0) is) ∙ placed.0 ∙ first, ap (λ (q : ℕ × Slot). Some q.1) is)
   by false later at =
@@ -100,7 +100,7 @@ defined_right s name slot (es ∷ outer) next fit right e = by (is_defined name 
 
   by : (b : Bool) → cond (not b) (Some ((cond b es (es ++ (name, (level, slot)) ∷ [])) ∷ outer)) None ≡ Some next → Defined s slot (es ∷ outer) next
   by true at = absurd cc
-  by false at = subst (Defined s slot (es ∷ outer)) (some_is whole next at) (record {
+  by false at = subst (Defined s slot (es ∷ outer)) (same_Some whole next at) (record {
     fit = record {
       placed = (placed_more (in_scope outer) es name level slot fit.placed.0 refl, fit.placed.1);
       slots = subst (SlotsRight s) (sym grown) (slots_more s (frame_of (es ∷ outer)) slot fit.slots right);

@@ -1,6 +1,8 @@
 -- Statements without statements in them are in order.
-use Rattle.std.proofs.Common.{◌≡◌, ◌∙◌, ℕ, Bool, true, false, ◌&&◌, ◌||◌, List, [], ◌∷◌, ◌++◌, Some, Ok, refl, sym, ap, subst}
+use Rattle.std.proofs.Common.{◌≡◌, ◌∙◌, ℕ, Bool, true, false, ◌&&◌, List, [], ◌∷◌, ◌++◌, Some, Ok, refl, sym, ap, subst}
 use Rattle.std.specs.Prelude.{codes}
+use Rattle.std.proofs.lemmas.Bool.{and_parts, and_from, or_left}
+use Rattle.std.proofs.lemmas.Option.{same_Some}
 use Rattle.bsv_ast.specs.declared.text.Span.{Span}
 use Rattle.bsv_ast.specs.declared.expressions.Expr.{Expr as Written}
 use Rattle.bsv_ast.specs.declared.statements.Place.{Place as WrittenPlace}
@@ -18,12 +20,11 @@ use Rattle.bsv_types.specs.Shapes.{Shapes, is_value, is_instance}
 use Rattle.bsv_types.specs.Methods.{Effect, value, action, action_value}
 use Rattle.bsv_types.specs.Expressions.{one, World, Frame, typing, has_type}
 use Rattle.bsv_types.specs.Statements as rules
-use Rattle.bsv_types.proofs.Same.{both, same_self}
+use Rattle.bsv_types.proofs.Same.{same_self}
 use Rattle.bsv_typing.specs.Places.{place_of}
 use Rattle.bsv_statements.specs.Bodies.{Or, Scopes, Task, Run, with_variable, check, of_kind, instance_at, called, call_at, acted, is_action, is_written, given_by, is_wanted, declared_kind, assignable, write_case, act_case, bind_case, declare_case, assign_case, return_case}
 use Rattle.bsv_typing.specs.Laws.{slot_right, FitsWorld}
 use Rattle.bsv_statements.specs.Laws.{ScopesFit, frame_of, typed_task}
-use Rattle.bsv_typing.proofs.Bound.{some_is, both_true}
 use Rattle.bsv_typing.proofs.Typings.{kind_back, value_typed}
 use Rattle.bsv_typing.proofs.RightPlaces.{method_is}
 use Rattle.bsv_statements.proofs.RightScopes.{Defined, defined_right}
@@ -33,16 +34,12 @@ pub if_right_true : (b : Bool) (frame : Frame) → b ≡ true → rules.if_right
 if_right_true true frame e = refl
 if_right_true false frame e = absurd cc
 
-or_left : (a b : Bool) → a ≡ true → (a || b) ≡ true
-or_left true b e = refl
-or_left false b e = absurd cc
-
 -- a variable with a type of values
 pub value_slot_right : (s : Shapes) (k : Kind) → is_value s k ≡ true → slot_right s (one k) ≡ true
 value_slot_right s k e = or_left (is_value s k) (is_instance s k) e
 
 given_is : (e : Effect) (k : Kind) → given_by e ≡ Some k → e ≡ action_value k
-given_is (action_value j) k is = ap action_value (some_is j k is)
+given_is (action_value j) k is = ap action_value (same_Some j k is)
 given_is action k is = absurd cc
 given_is (value j) k is = absurd cc
 
@@ -81,21 +78,21 @@ module _ (t : Task) (w : World) where
   act_typed frame place m xs acts right =
       ap (λ x. typed_run x frame) (sym (rolls-Act place m xs)) ∙
       ap (λ f. f frame) (fold-roll-Stmt rules.Run rules.Run rules.Arm (rules.stmt_step w (typed_task t)) (rules.branch_step w) rules.case_step (Stmt-F.Act place m xs)) ∙
-      if_right_true (t.acts && rules.calls w frame place m xs rules.is_action) frame (both_true t.acts (rules.calls w frame place m xs rules.is_action) acts right)
+      if_right_true (t.acts && rules.calls w frame place m xs rules.is_action) frame (and_from t.acts (rules.calls w frame place m xs rules.is_action) acts right)
 
   bind_typed : (frame : Frame) (k : Kind) (place : Place) (m : ℕ) (xs : List Expr) → t.acts ≡ true → rules.calls w frame place m xs (λ e. rules.gives_bound e k) ≡ true → typed_run (Bind (type_of k) place m xs) frame ≡ Some (frame ++ one k ∷ [])
   bind_typed frame k place m xs acts right =
       ap (λ x. typed_run x frame) (sym (rolls-Bind (type_of k) place m xs)) ∙
       ap (λ f. f frame) (fold-roll-Stmt rules.Run rules.Run rules.Arm (rules.stmt_step w (typed_task t)) (rules.branch_step w) rules.case_step (Stmt-F.Bind (type_of k) place m xs)) ∙
       ap (λ j. rules.if_right (t.acts && rules.calls w frame place m xs (λ e. rules.gives_bound e j)) (frame ++ one j ∷ [])) (kind_back k) ∙
-      if_right_true (t.acts && rules.calls w frame place m xs (λ e. rules.gives_bound e k)) (frame ++ one k ∷ []) (both_true t.acts (rules.calls w frame place m xs (λ e. rules.gives_bound e k)) acts right)
+      if_right_true (t.acts && rules.calls w frame place m xs (λ e. rules.gives_bound e k)) (frame ++ one k ∷ []) (and_from t.acts (rules.calls w frame place m xs (λ e. rules.gives_bound e k)) acts right)
 
   declare_typed : (frame : Frame) (k : Kind) (x : Expr) → typing w x frame ≡ Some k → typed_run (Declare (type_of k) x) frame ≡ Some (frame ++ one k ∷ [])
   declare_typed frame k x h =
       ap (λ y. typed_run y frame) (sym (rolls-Declare (type_of k) x)) ∙
       ap (λ f. f frame) (fold-roll-Stmt rules.Run rules.Run rules.Arm (rules.stmt_step w (typed_task t)) (rules.branch_step w) rules.case_step (Stmt-F.Declare (type_of k) x)) ∙
       ap (λ j. rules.if_right (is_value w.shapes j && has_type w frame x j) (frame ++ one j ∷ [])) (kind_back k) ∙
-      if_right_true (is_value w.shapes k && has_type w frame x k) (frame ++ one k ∷ []) (both_true (is_value w.shapes k) (has_type w frame x k) (value_typed w frame x k h) (has_true w frame x k h))
+      if_right_true (is_value w.shapes k && has_type w frame x k) (frame ++ one k ∷ []) (and_from (is_value w.shapes k) (has_type w frame x k) (value_typed w frame x k h) (has_true w frame x k h))
 
   assign_typed : (frame : Frame) (level : ℕ) (x : Expr) → rules.assigns w t.base frame level x ≡ true → typed_run (Assign level x) frame ≡ Some frame
   assign_typed frame level x right =
@@ -126,7 +123,7 @@ module _ (t : Task) (w : World) where
         let a = passed s (t.acts && is_written i.0.kind) i.0 _ r i.2 in
         let c = went (called t ss s i.0 (codes "_write") (e ∷ [])) _ r a.1 in
         let h = called_right t w fits ss fit s i.0 (codes "_write") (e ∷ []) c.0 (instance_right t w fits ss fit s p i.0 i.1) c.1 in
-        let b = both t.acts (is_written i.0.kind) a.0 in
+        let b = and_parts t.acts (is_written i.0.kind) a.0 in
         let written = subst (λ j. is_written j.kind ≡ true) h.1 b.1 in
         let acts = sym h.0.effect_is ∙ write_acts w c.0.0.kind h.0.method written h.0.named in
         ended ss ss (acted c.0) r fit refl
@@ -136,7 +133,7 @@ module _ (t : Task) (w : World) where
     act_good s call ss r fit is =
         let c = went (call_at t ss s call) _ r is in
         let a = passed s (t.acts && is_action c.0.2) c.0 _ r c.2 in
-        let b = both t.acts (is_action c.0.2) a.0 in
+        let b = and_parts t.acts (is_action c.0.2) a.0 in
         let h = call_right t w fits ss fit s call c.0 c.1 in
         ended ss ss (acted c.0) r fit refl
         (act_typed (frame_of ss) (place_of c.0.0) c.0.1 c.0.3 b.0 (calls_true t w fits ss fit call.method.name c.0 rules.is_action h (same_action c.0.2 b.1))) a.1
@@ -154,7 +151,7 @@ module _ (t : Task) (w : World) where
         let value = bound_value w.shapes c.0.0.kind h.method.0 h.method.1 k fits.right (method_is w c.0.0.kind call.method.name h.method h.named) (h.effect_is ∙ effect_is) in
         let bound = subst (λ e. rules.gives_bound e k ≡ true) (sym effect_is) (same_self k) in
         defines ss next.0 k (Bind (type_of k) (place_of c.0.0) c.0.1 c.0.3) r (defined_right w.shapes name (one k) ss next.0 fit (value_slot_right w.shapes k value) next.1)
-        (bind_typed (frame_of ss) k (place_of c.0.0) c.0.1 c.0.3 (both t.acts (is_wanted want.0 k) a.0).0 (calls_true t w fits ss fit call.method.name c.0 (λ e. rules.gives_bound e k) h bound)) next.2
+        (bind_typed (frame_of ss) k (place_of c.0.0) c.0.1 c.0.3 (and_parts t.acts (is_wanted want.0 k) a.0).0 (calls_true t w fits ss fit call.method.name c.0 (λ e. rules.gives_bound e k) h bound)) next.2
 
     pub declare_good : (s : Span) (d : Declaration) → GoodRun (declare_case t s d)
     declare_good s d ss r fit is =

@@ -1,19 +1,15 @@
 -- What is accepted and can be laid out keeps the laws of clocks and of lines.
 use Rattle.std.proofs.Common.{◌≡◌, ◌∙◌, ℕ, ◌^◌, ◌+◌, ◌<◌, List, [], ◌∷◌, map, length, refl, sym, subst, arith}
-use Rattle.std.specs.Prelude.{slice_get}
 use Rattle.std.proofs.lemmas.List.{length-map}
 use Rattle.std.proofs.Math.Bridge.{le_prop}
 use Rattle.std.proofs.Math.Logic.{∥∥₁_elim}
-use Rattle.std.proofs.Math.Nat.{ℕ_set}
 use Rattle.std.proofs.lemmas.Bool.{ltb-true}
-use Rattle.bsv_bits.specs.Words.{Bits}
 use Rattle.bsv_design.specs.declared.design.Design.{Design}
-use Rattle.bsv_design.specs.declared.element.Port.{Port}
 use Rattle.bsv_design.specs.declared.schedule.Schedule.{Schedule}
 use Rattle.bsv_design.specs.Designs.{IsDesign}
-use Rattle.bsv_design.specs.Schemes.{Scheme, Asking, Outline, AreAlike, design_scheme, outline, ports_of, given, tree_scheme}
+use Rattle.bsv_design.specs.Schemes.{Scheme, Asking, Outline, AreAlike, design_scheme, outline, tree_scheme}
 use Rattle.bsv_design.specs.Seen.{blueprint}
-use Rattle.bsv_design.specs.States.{AreWordsOf, AskingFits, nothing_asked, opening}
+use Rattle.bsv_design.specs.States.{nothing_asked, opening}
 use Rattle.bsv_design.specs.Trees.{Hierarchy}
 use Rattle.bsv_design.proofs.Asked.{nothing_fits}
 use Rattle.bsv_schedule.specs.executing.Orders.{Executes}
@@ -22,7 +18,6 @@ use Rattle.bsv_schedule.specs.stopping.Stops.{AreStops}
 use Rattle.bsv_schedule.specs.urging.Orders.{Urges}
 use Rattle.bsv_guard.specs.Fitting.{RequestFits}
 use Rattle.bsv_guard.proofs.Alike.{alike, alike_back}
-use Rattle.bsv_guard.proofs.DesignFits.{request_fits}
 use Rattle.bsv_trace.specs.Lines.{AreMethods, AsksFor}
 use Rattle.bsv_trace.proofs.Readable.{line_fits, readable}
 use Rattle.bsv_clock.specs.Grounds.{IsLawful, IsScheduleOf, KeepsRules}
@@ -33,12 +28,8 @@ use Rattle.bsv_flow.specs.Schedulings.{IsScheduled, subject}
 use Rattle.bsv_top.specs.Traces.{AreAsked, AreAskedToBad}
 use Rattle.bsv_top.proofs.Happening.{room}
 use Rattle.bsv_top.proofs.Named.{outlines_are}
-
-words_prop : (ps : List Port) (ws : List Bits) → IsProp (AreWordsOf ps ws)
-words_prop [] [] = hlevel
-words_prop [] (w ∷ ws) = hlevel
-words_prop (p ∷ ps) [] = hlevel
-words_prop (p ∷ ps) (w ∷ ws) = hlevel (ℕ_set, le_prop, words_prop ps ws)
+use Rattle.bsv_serial.proofs.ClockGround.{requests_fit}
+use Rattle.bsv_schedule.proofs.RelationsLemmas.{agrees_design}
 
 few_elements : (d : Design) → length d.elements < room
 few_elements d =
@@ -47,12 +38,6 @@ few_elements d =
     let few = ltb-true (length d.elements) (2 ^ 32) right.few_elements in
     let fewer : length d.elements < room = omega (arith, few) in
     fewer)
-
--- requests that fit a design
-requests_fit : (d : Design) (q : Asking) → AskingFits d.elements q → (n : ℕ) → RequestFits (design_scheme (blueprint d)) q n
-requests_fit d q fit n =
-    let S = design_scheme (blueprint d) in
-    ∥∥₁_elim d.right (words_prop (ports_of (slice_get S.elements n)) (given S q n)) (λ (right : IsDesign (blueprint d)). request_fits (blueprint d) right q fit n)
 
 module _ (tree : Hierarchy) (made : Schedule) (d : Design) (al : AreAlike (tree_scheme tree) (design_scheme (blueprint d))) (scheduled : IsScheduled (subject tree) made) where
   abbrev S : Scheme
@@ -73,7 +58,7 @@ module _ (tree : Hierarchy) (made : Schedule) (d : Design) (al : AreAlike (tree_
   scheduled_there =
       let r = belonging.relating_alike S T al in
       record {
-        agrees = belonging.agrees d;
+        agrees = agrees_design d;
         named = belonging.named d;
         executes = subst (λ (x : Relating). Executes x made.execution) r scheduled.ordered.executes;
         urges = subst (λ (x : Relating). Urges x made.urgency) r scheduled.ordered.urges;

@@ -1,12 +1,12 @@
 -- Why a trace is not run to its end, as a stop.
 use Rattle.std.proofs.Common.{◌≡◌, ◌∙◌, ℕ, List, Result, Err, refl, sym, ap}
+use Rattle.bsv_lemmas.proofs.Choices.{same_err}
 use Rattle.bsv_flow.specs.declared.refusal.Refusal.{Refusal}
 use Rattle.bsv_top.specs.declared.halt.Halt.{Halt}
 use Rattle.bsv_top.specs.declared.halt.Halt.TheVariants as halt
 use Rattle.bsv_top.specs.declared.stop.Stop.{Stop}
 use Rattle.bsv_top.specs.declared.stop.Stop.TheVariants as stop
 use Rattle.bsv_top.specs.Stops.{stop_for}
-use Rattle.bsv_top.proofs.Stopped.{same_fault}
 
 -- a bad line stops with its number
 of_bad : (h : Halt) (trace : List ℕ) (n number : ℕ) → stop_for h trace n ≡ stop.BadLine number → (h ≡ halt.BadLine) × (n ≡ number)
@@ -36,7 +36,7 @@ never_refused halt.OutOfMemory trace n r same = let no_value : ⊥ = cc in no_va
 
 module _ {A : Type 0} (s : Stop) (h : Halt) (trace : List ℕ) (n : ℕ) (is : s ≡ stop_for h trace n) where
   stopped_as : (t : Stop) → ◌≡◌ {A = Result A Stop} (Err s) (Err t) → stop_for h trace n ≡ t
-  stopped_as t same = sym is ∙ same_fault s t same
+  stopped_as t same = sym is ∙ same_err s t same
 
   pub halted_bad : (number : ℕ) → ◌≡◌ {A = Result A Stop} (Err s) (Err (stop.BadLine number)) → (h ≡ halt.BadLine) × (n ≡ number)
   halted_bad number same = of_bad h trace n number (stopped_as (stop.BadLine number) same)

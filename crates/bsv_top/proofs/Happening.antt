@@ -1,5 +1,5 @@
 -- In each clock something happens: whatever the state and the requests, it can be told what a clock leaves.
-use Rattle.std.proofs.Common.{◌≡◌, ◌∙◌, ◌⊎◌, inl, inr, ℕ, zero, suc, ◌^◌, ◌<◌, ◌≤◌, Bool, true, false, not, ◌&&◌, cond, List, [], ◌∷◌, map, filter, length, Option, Some, None, refl, sym, ap, ap₂, subst, arith, length-append}
+use Rattle.std.proofs.Common.{◌≡◌, ◌∙◌, ◌⊎◌, inl, inr, ℕ, suc, ◌^◌, ◌<◌, ◌≤◌, Bool, true, false, not, ◌&&◌, cond, List, [], ◌∷◌, map, filter, length, Option, Some, None, refl, sym, ap, ap₂, subst, arith, length-append}
 use Rattle.std.specs.Prelude.{Vec}
 use Rattle.std.specs.List.{AllByRecursion}
 use Rattle.std.specs.declared.alloc.Global.{Global}
@@ -26,6 +26,7 @@ use Rattle.bsv_clock.proofs.Members.{found, is_found, kept_in, once_long}
 use Rattle.bsv_clock.proofs.Steadily.{steady_scheme}
 use Rattle.bsv_top.specs.Running.{state_behind}
 use Rattle.bsv_clock.proofs.Stopping.{execution_order, stops_true, stops_within, true_stops, urgency_order}
+use Rattle.bsv_graph.proofs.Below.{count_below}
 
 -- ---- the first that passes
 
@@ -80,10 +81,6 @@ results_long : (S : Scheme) (q : Asking) (ps : List Part) (ns : List ℕ) → le
 results_long S q ps [] = omega arith
 results_long S q ps (n ∷ ns) =
     omega (arith, length-append (gives n (value S q n (plain ps))) (results_in_turn S q (run_whole S q n ps) ns), gives_one n (value S q n (plain ps)), results_long S q (run_whole S q n ps) ns)
-
-numbers_long : (n : ℕ) → length (numbers_below n) ≡ n
-numbers_long zero = refl
-numbers_long (suc n) = omega (arith, length-append (numbers_below n) (n ∷ []), numbers_long n)
 
 pairs_long : (ps : List (ℕ × ℕ)) → length (map (λ p. p.0) ps) ≡ length ps
 pairs_long [] = refl
@@ -176,7 +173,7 @@ module _ (aggressive : Bool) (S : Scheme) (made : Schedule) (q : Asking) (s : Li
 
   blocked_few : length (blocked_in aggressive S q s members) < room
   blocked_few =
-      omega (arith, filter_long (λ n. is_asked q n && not (ready aggressive S q n (clock_look S q s members))) (numbers_below (length S.elements)), numbers_long (length S.elements), few)
+      omega (arith, filter_long (λ n. is_asked q n && not (ready aggressive S q n (clock_look S q s members))) (numbers_below (length S.elements)), count_below (length S.elements), few)
 
   results_few : length (results_in_turn S q (emptied S.kinds s) members) < room
   results_few = omega (arith, results_long S q (emptied S.kinds s) members, members_few)

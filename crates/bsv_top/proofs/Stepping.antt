@@ -33,10 +33,6 @@ pub at_fault : {A E : Type 0} (r : Result A E) (e : E) (P : Type 0) → r ≡ Er
 at_fault (Ok x) e P is h = absurd (let no_value : ⊥ = cc in no_value)
 at_fault (Err f) e P is h = h
 
-pub no_items : (xs : List ℕ) → length xs ≡ 0 → xs ≡ []
-no_items [] none = refl
-no_items (x ∷ xs) none = absurd (let no_value : ⊥ = omega (arith, none) in no_value)
-
 -- what was begun of a line is within its line
 held_within : (held left : List ℕ) (n : ℕ) → HasNoFeed held → length held ≤ bytes_in (n + 1) (lines_of (held ++ left))
 held_within [] left n h = omega arith

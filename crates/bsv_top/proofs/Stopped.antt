@@ -16,9 +16,6 @@ use Rattle.bsv_top.specs.Outcomes as o
 use Rattle.bsv_top.specs.Outcomes.{IsUnread}
 use Rattle.bsv_top.specs.Stops.{IsStopOf, stop_of}
 
-pub same_fault : {A E : Type 0} (e f : E) → ◌≡◌ {A = Result A E} (Err e) (Err f) → e ≡ f
-same_fault e f h = cc
-
 module _ {A : Type 0} (words : List (List ℕ)) (file top : List ℕ) (asks : Asks words file top) (f : CompileFault) (s : Stop) (is : s ≡ stop_of f) where
   pub fault_stops : (contents : List ℕ → List ℕ) (out : Writing) → ((r : Refusal) → ◌≡◌ {A = Result A CompileFault} (Err f) (Err (fault.Refused r)) → Rejects file contents top r)
       → ((name : List ℕ) → ◌≡◌ {A = Result A CompileFault} (Err f) (Err (fault.ReadFault name)) → Reaches file contents name) → IsStopOf words contents out out s

@@ -2,6 +2,7 @@
 use Rattle.std.proofs.Common.{◌≡◌, ◌∙◌, ℕ, ◌+◌, ◌<◌, Bool, false, List, [], ◌∷◌, map, length, get_or, slice_get, slice_set, Some, refl, sym, ap, arith}
 use Rattle.std.proofs.lemmas.List.{length-map}
 use Rattle.std.proofs.lemmas.Option.{slice_get_within}
+use Rattle.bsv_lemmas.proofs.Places.{mapped_at}
 use Rattle.bsv_bits.specs.Words.{Bits, zero_word}
 use Rattle.bsv_design.specs.declared.element.Port.{Port}
 use Rattle.bsv_design.specs.Schemes.{Asking, Outline}
@@ -9,7 +10,7 @@ use Rattle.bsv_design.specs.States.{zeros}
 use Rattle.bsv_trace.specs.Lines.{nothing_of}
 use Rattle.bsv_trace.specs.Reading.{HasPlaces}
 use Rattle.bsv_trace.proofs.Filling.{filled, fill_more, filled_at, length-filled}
-use Rattle.bsv_trace.proofs.Places.{map_at, item_at, length_args, words_at}
+use Rattle.bsv_trace.proofs.Places.{item_at, length_args, words_at}
 
 -- ---- the words of a call
 
@@ -17,7 +18,7 @@ pub word_cleared : (ps : List Port) (old words new : List Bits) (n : ℕ) (p : P
     → words ≡ filled n (zeros ps) old → w ≡ zero_word p.width → new ≡ slice_set words n w → new ≡ filled (n + 1) (zeros ps) old
 word_cleared ps old words new n p w same below is before zero set =
     set ∙ ap (λ ws. slice_set ws n w) before ∙ ap (slice_set (filled n (zeros ps) old) n) zero
-    ∙ fill_more n (zeros ps) old (zero_word p.width) (same ∙ sym (length-map ps (λ p. zero_word p.width))) (map_at (λ p. zero_word p.width) ps n p (item_at ps n p below is))
+    ∙ fill_more n (zeros ps) old (zero_word p.width) (same ∙ sym (length-map ps (λ p. zero_word p.width))) (mapped_at (λ p. zero_word p.width) ps n p (item_at ps n p below is))
 
 -- ---- the methods
 
@@ -47,14 +48,14 @@ module _ (methods : List Outline) (q : Asking) (has : HasPlaces methods q) where
       → new ≡ slice_set asked n false → new ≡ filled (n + 1) (map no methods) q.asked
   asked_cleared asked new n o is before set =
       set ∙ ap (λ l. slice_set l n false) before
-      ∙ fill_more n (map no methods) q.asked false same_asked (map_at no methods n o is)
+      ∙ fill_more n (map no methods) q.asked false same_asked (mapped_at no methods n o is)
 
   pub args_cleared : (args : List (List Bits)) (n : ℕ) (o : Outline) (ports : List Port) (ws : List Bits) → slice_get methods n ≡ Some o
       → args ≡ filled n (map zero_words methods) q.args → ports ≡ o.ports → ws ≡ zeros ports → slice_set args n ws ≡ filled (n + 1) (map zero_words methods) q.args
   args_cleared args n o ports ws is before same zero =
       ap (λ l. slice_set l n ws) before
       ∙ ap (slice_set (filled n (map zero_words methods) q.args) n) (zero ∙ ap zeros same)
-      ∙ fill_more n (map zero_words methods) q.args (zero_words o) same_args (map_at zero_words methods n o is)
+      ∙ fill_more n (map zero_words methods) q.args (zero_words o) same_args (mapped_at zero_words methods n o is)
 
 -- ---- requests in which nothing is asked have their places
 

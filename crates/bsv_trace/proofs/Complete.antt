@@ -1,6 +1,6 @@
 -- What is a line is read.
 use Rattle.std.proofs.Common.{◌≡◌, ◌≢◌, ◌∙◌, ℕ, zero, suc, ◌+◌, ◌<◌, ◌≤◌, ◌^◌, ◌==◌, Bool, true, false, ◌&&◌, nat_le, nat_lt, IsTrue, List, [], ◌∷◌, ◌++◌, length, take, drop, slice_get, slice_set, Some, None, if◌then◌else◌, unwrap_or, refl, sym, ap, subst, append_assoc, append-nil, add-one, arith, length-set, length-append, zero-add, codes}
-use Rattle.std.proofs.lemmas.List.{take_all}
+use Rattle.std.proofs.lemmas.List.{take_all, nil_from_length}
 use Rattle.std.proofs.Math.Seq.{take-append_seam, drop-append_seam}
 use Rattle.std.proofs.lemmas.Option.{slice_get_within}
 use Rattle.std.proofs.lemmas.Bool.Decides.{nat_tests}
@@ -8,6 +8,8 @@ use Rattle.std.proofs.lemmas.Slice.Eq.{bytes_eq-Decides}
 use Rattle.std.specs.Char.{is_ascii_digit}
 use Rattle.std.specs.List.{list_all, prefix_len, join_with_byte}
 use Rattle.std.specs.Str.{bytes_eq}
+use Rattle.bsv_lemmas.proofs.Places.{item_there}
+use Rattle.bsv_lemmas.proofs.Truths.{both_right, both_left}
 use Rattle.bsv_bits.specs.Words.{Bits}
 use Rattle.bsv_design.specs.declared.element.Port.{Port}
 use Rattle.bsv_design.specs.Schemes.{Asking, Outline, ports_of}
@@ -21,7 +23,7 @@ use Rattle.bsv_trace.specs.Reading as spec
 use Rattle.bsv_trace.specs.Reading.{HasPlaces, radix, is_digit, fitting, word_of, with_rest, digits, argument}
 use Rattle.bsv_trace.proofs.Places.{words_at, length_args}
 use Rattle.bsv_trace.proofs.Pieces.{front_len, behind_mark, call_text, led, join_first, take_placed}
-use Rattle.bsv_trace.proofs.Sound.{is_asked, some_at, AreFresh, call_places}
+use Rattle.bsv_trace.proofs.Sound.{is_asked, AreFresh, call_places}
 
 -- ---- numbers
 
@@ -111,14 +113,6 @@ argument_complete p w text more mark ends fits is = number_complete p w text mor
 
 -- ---- arguments
 
-both_left : (a b : Bool) → (a && b) ≡ true → a ≡ true
-both_left true b h = refl
-both_left false b h = h
-
-both_right : (a b : Bool) → (a && b) ≡ true → b ≡ true
-both_right true b h = h
-both_right false b h = absurd cc
-
 -- what follows an argument ends its number
 led_ends : (pieces : List (List ℕ)) (rest : List ℕ) → (mark : ℕ) × (more : List ℕ) × EndsNumber mark × (led 44 pieces ++ 41 ∷ rest ≡ mark ∷ more)
 led_ends [] rest = (41, rest, bracket, refl)
@@ -154,13 +148,9 @@ more_complete (p ∷ ps) place (t ∷ pieces) (w ∷ ws) old rest fit long each 
     ∙ ap (λ l. Some (l ++ ws, rest)) (ap (λ n. take n (slice_set old place w)) (add-one place) ∙ take_placed old place w below)
     ∙ ap (λ l. Some (l, rest)) (append_assoc (take place old) (w ∷ []) ws)
 
-no_words : (old : List Bits) → length old ≡ 0 → old ≡ []
-no_words [] long = refl
-no_words (w ∷ old) long = absurd (omega arith)
-
 arguments_complete : (ps : List Port) (pieces : List (List ℕ)) (ws old : List Bits) (rest : List ℕ) → IsTrue (list_all port_fits ps) → length old ≡ length ps → AreArguments ps pieces ws
     → spec.arguments ps (join_with_byte 44 pieces ++ 41 ∷ rest) old ≡ Some (ws, rest)
-arguments_complete [] [] [] old rest fit long each = closed_complete rest old ∙ ap (λ l. Some (l, rest)) (no_words old long)
+arguments_complete [] [] [] old rest fit long each = closed_complete rest old ∙ ap (λ l. Some (l, rest)) (nil_from_length old long)
 arguments_complete [] [] (w ∷ ws) old rest fit long each = absurd each
 arguments_complete [] (t ∷ pieces) ws old rest fit long each = absurd each
 arguments_complete (p ∷ ps) [] ws old rest fit long each = absurd each
@@ -206,7 +196,7 @@ module _ (outlines : List Outline) (right : AreMethods outlines) where
   unfolding spec.call_of
   call_of_complete q c e pieces rest has at each free =
       let text = join_with_byte 44 pieces ++ 41 ∷ rest in
-      let there = some_at q.args c.method (omega (arith, length_args methods q has, slice_get_within methods c.method e at)) in
+      let there = item_there q.args c.method (omega (arith, length_args methods q has, slice_get_within methods c.method e at)) in
       let long = words_at methods q has c.method e there.0 at there.1 in
       ap (λ t. if t then None else spec.asking_with c.method q (spec.arguments (ports_of (slice_get methods c.method)) text (unwrap_or (slice_get q.args c.method) []))) free
       ∙ ap (λ o. spec.asking_with c.method q (spec.arguments (ports_of o) text (unwrap_or (slice_get q.args c.method) []))) at

@@ -3,6 +3,7 @@ use Rattle.std.proofs.Common.{◌≡◌, ◌↔◌, ℕ, ◌^◌, ◌<◌, ◌�
 use Rattle.std.proofs.Math.Pow.{pow_mono}
 use Rattle.std.proofs.lemmas.Bool.Decides.{nat_tests}
 use Rattle.std.specs.Prelude.{IsSome, IfSome}
+use Rattle.bsv_lemmas.proofs.Choices.{nothing_given}
 use Rattle.bsv_bits.specs.Words.{Bits, IsWord}
 use Rattle.bsv_trace.specs.declared.number.Base.{Base}
 use Rattle.bsv_bits.specs.DigitValues.{value_of}
@@ -38,10 +39,6 @@ by_test width value false e (Some w) some is = let t : in_range width value ≡ 
 pub fits : (width value : ℕ) (r : Option Bits) → (IsSome r ↔ IsWord (word width value)) → IfSome r (λ w. w ≡ word width value) → r ≡ fitting width value
 fits width value r some is = by_test width value (in_range width value) refl r some is
 
-none_if : {A : Type 0} (b : Bool) (x : A) (r : Option A) → r ≡ (if b then Some x else None) → r ≡ None → b ≡ false
-none_if true x r is none = absurd cc
-none_if false x r is none = refl
-
 too_large : (width value : ℕ) (b : Bool) → in_range width value ≡ b → nat_lt value (2 ^ 128) ≡ false → ◌≡◌ {A = Option Bits} None (if b then Some (word width value) else None)
 too_large width value false e large = refl
 too_large width value true e large =
@@ -59,4 +56,4 @@ no_word b width n (d ∷ digits) r some e is none =
     let P : ℕ → Type 0 = λ m. ◌≡◌ {A = Option Bits} None (fitting width (value_of m (d ∷ digits))) in
     subst P e
     (too_large width (value_of n (d ∷ digits)) (in_range width (value_of n (d ∷ digits))) refl
-    (none_if (nat_lt (value_of n (d ∷ digits)) (2 ^ 128)) (value_of n (d ∷ digits)) r is none))
+    (nothing_given (nat_lt (value_of n (d ∷ digits)) (2 ^ 128)) (value_of n (d ∷ digits)) r is none))

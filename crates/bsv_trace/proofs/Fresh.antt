@@ -1,8 +1,8 @@
 -- Calls of different methods: none is asked before it.
 use Rattle.std.proofs.Common.{◌≡◌, ◌≢◌, ◌∙◌, ℕ, zero, suc, Bool, true, false, List, [], ◌∷◌, slice_get, slice_set, Some, unwrap_or, refl, sym, ap}
+use Rattle.bsv_lemmas.proofs.Places.{mapped_at}
 use Rattle.bsv_design.specs.Schemes.{Asking, Outline}
 use Rattle.bsv_trace.specs.Lines.{MethodCall, AreCalls, CallsNot, AreApart, asked_with, nothing_of}
-use Rattle.bsv_trace.proofs.Places.{map_at}
 use Rattle.bsv_trace.proofs.Sound.{is_asked, AreFresh}
 
 abbrev flag : List Bool → ℕ → Bool
@@ -55,7 +55,7 @@ apart_fresh q [] apart free = tt
 apart_fresh q (c ∷ cs) apart free = (free.0, apart_fresh (asked_with c q) cs apart.1 (still_free q c cs apart.0 free.1))
 
 free_at : (methods : List Outline) (n : ℕ) (e : Outline) → slice_get methods n ≡ Some e → is_asked (nothing_of methods) n ≡ false
-free_at methods n e at = ap (λ o. unwrap_or o true) (map_at (λ (x : Outline). false) methods n e at)
+free_at methods n e at = ap (λ o. unwrap_or o true) (mapped_at (λ (x : Outline). false) methods n e at)
 
 all_free : (methods : List Outline) (texts : List (List ℕ)) (cs : List MethodCall) → AreCalls methods texts cs → AreFree (nothing_of methods) cs
 all_free methods [] [] each = tt

@@ -4,18 +4,12 @@ use Rattle.std.proofs.lemmas.List.{length-map}
 use Rattle.std.proofs.lemmas.Simd.{map-map}
 use Rattle.bsv_bits.specs.Words.{Bits}
 use Rattle.bsv_design.specs.declared.element.Element.{Element}
-use Rattle.bsv_design.specs.declared.element.Port.{Port}
 use Rattle.bsv_design.specs.Roles.{is_rule}
 use Rattle.bsv_design.specs.Schemes.{Asking, Outline, outline}
-use Rattle.bsv_design.specs.States.{methods_in, nothing_asked, zeros, AreWordsOf, FitMethods, AskingFits}
+use Rattle.bsv_design.specs.States.{methods_in, nothing_asked, zeros, FitMethods, AskingFits}
 use Rattle.bsv_trace.specs.Lines.{methods_among, nothing_of}
 use Rattle.bsv_trace.specs.Reading.{HasPlaces}
-
-length_words : (ps : List Port) (ws : List Bits) → AreWordsOf ps ws → length ws ≡ length ps
-length_words [] [] fit = refl
-length_words [] (w ∷ ws) fit = absurd fit
-length_words (p ∷ ps) [] fit = absurd fit
-length_words (p ∷ ps) (w ∷ ws) fit = ap suc (length_words ps ws fit.1)
+use Rattle.bsv_design.proofs.Elements.{length-words}
 
 pub fit_places : (ms : List Element) (asked : List Bool) (args : List (List Bits)) → FitMethods ms asked args → HasPlaces (map outline ms) (record { asked = asked; args = args })
 fit_places [] [] [] fit = record { asked = refl; args = refl }
@@ -27,7 +21,7 @@ fit_places (e ∷ es) (a ∷ asked) (ws ∷ args) fit =
     let others = fit_places es asked args fit.1 in
     record {
       asked = ap suc others.asked;
-      args = ap (λ n. n ∷ map (λ ws. length ws) args) (length_words e.arguments ws fit.0) ∙ ap (λ ns. length e.arguments ∷ ns) others.args;
+      args = ap (λ n. n ∷ map (λ ws. length ws) args) (length-words e.arguments ws fit.0) ∙ ap (λ ns. length e.arguments ∷ ns) others.args;
     }
 
 -- ---- outlines

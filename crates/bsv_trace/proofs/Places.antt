@@ -2,17 +2,13 @@
 use Rattle.std.proofs.Common.{◌≡◌, ◌∙◌, ℕ, zero, suc, ◌<◌, Bool, true, false, List, [], ◌∷◌, map, length, get_or, slice_get, slice_set, Option, Some, None, unwrap_or, refl, sym, ap, arith, length-set}
 use Rattle.std.proofs.lemmas.List.{get_or_default, length-map}
 use Rattle.std.proofs.lemmas.Option.{slice_get_read, unwrap_or-slice_get}
+use Rattle.bsv_lemmas.proofs.Places.{mapped_at}
 use Rattle.bsv_bits.specs.Words.{Bits}
 use Rattle.bsv_design.specs.declared.element.Element.{Element}
 use Rattle.bsv_design.specs.Schemes.{Asking, Outline, outline}
 use Rattle.bsv_trace.specs.Lines.{asked_with}
 use Rattle.bsv_trace.specs.Reading.{HasPlaces, arguments, call_of}
 use Rattle.bsv_trace.specs.Reading as spec
-
-pub map_at : {A B : Type 0} (f : A → B) (xs : List A) (n : ℕ) (x : A) → slice_get xs n ≡ Some x → slice_get (map f xs) n ≡ Some (f x)
-map_at f [] n x e = absurd cc
-map_at f (y ∷ ys) zero x e = let it : y ≡ x = cc in ap (λ z. Some (f z)) it
-map_at f (y ∷ ys) (suc n) x e = map_at f ys n x e
 
 -- one list is another in the place of one of its length
 pub map-set_same : {A B : Type 0} (f : A → B) (xs : List A) (n : ℕ) (x y : A) → slice_get xs n ≡ Some x → f y ≡ f x → map f (slice_set xs n y) ≡ map f xs
@@ -27,8 +23,8 @@ module _ (methods : List Outline) (q : Asking) (has : HasPlaces methods q) where
 
   pub words_at : (n : ℕ) (e : Outline) (ws : List Bits) → slice_get methods n ≡ Some e → slice_get q.args n ≡ Some ws → length ws ≡ length e.ports
   words_at n e ws at_method at_words =
-      let left = map_at (λ ws. length ws) q.args n ws at_words in
-      let right = map_at (λ o. length o.ports) methods n e at_method in
+      let left = mapped_at (λ ws. length ws) q.args n ws at_words in
+      let right = mapped_at (λ o. length o.ports) methods n e at_method in
       let same = ap (λ ns. slice_get ns n) has.args in
       let whole : ◌≡◌ {A = Option ℕ} (Some (length ws)) (Some (length e.ports)) = sym left ∙ same ∙ right in
       cc
@@ -54,7 +50,7 @@ item_at xs n x below is = slice_get_read xs (length xs) n x refl below is
 
 module _ (methods : List Element) (n : ℕ) (below : n < length methods) where
   pub outline_at : (e : Element) → e ≡ get_or methods n e → slice_get (map outline methods) n ≡ Some (outline e)
-  outline_at e is = map_at outline methods n e (item_at methods n e below is)
+  outline_at e is = mapped_at outline methods n e (item_at methods n e below is)
 
   pub flag_at : (q : Asking) (b : Bool) → HasPlaces (map outline methods) q → get_or q.asked n false ≡ b → unwrap_or (slice_get q.asked n) true ≡ b
   flag_at q b has is =

@@ -1,22 +1,16 @@
 -- The words of a queue, one by one.
-use Rattle.std.proofs.Common.{◌≡◌, ◌∙◌, ℕ, zero, suc, ◌+◌, ◌≤◌, ◌==◌, false, if◌then◌else◌, List, [], ◌∷◌, ◌++◌, map, length, drop, slice_get, Some, refl, sym, ap, append-nil, arith, codes}
+use Rattle.std.proofs.Common.{◌≡◌, ◌∙◌, ℕ, zero, suc, ◌+◌, ◌≤◌, ◌==◌, false, if◌then◌else◌, List, [], ◌∷◌, ◌++◌, map, length, drop, slice_get, Some, refl, ap, append-nil, arith, codes}
 use Rattle.std.specs.List.{join_with_byte}
 use Rattle.std.proofs.lemmas.Bool.Decides.{nat_tests}
+use Rattle.bsv_lemmas.proofs.Places.{drop_one}
 use Rattle.bsv_bits.specs.Words.{Bits}
 use Rattle.bsv_bits.specs.Constants.{constant_text}
 use Rattle.bsv_trace.specs.Texts.{word_text, words_from}
 
-from_here : (words : List Bits) (k : ℕ) (word : Bits) → slice_get words k ≡ Some word → drop k words ≡ word ∷ drop (k + 1) words
-from_here [] k word at = absurd cc
-from_here (w ∷ words) zero word at = cc
-from_here (w ∷ words) (suc k) word at =
-    let one : suc k + 1 ≡ suc (k + 1) = omega arith in
-    from_here words k word at ∙ ap (λ n. word ∷ drop n (w ∷ words)) (sym one)
-
 -- the words from a place on begin with the one that stands there
 pub words_here : (words : List Bits) (number : ℕ) (word : Bits) → slice_get words number ≡ Some word
     → words_from number (drop number words) ≡ word_text number word ++ words_from (number + 1) (drop (number + 1) words)
-words_here words number word at = ap (words_from number) (from_here words number word at)
+words_here words number word at = ap (words_from number) (drop_one words number word at)
 
 pub no_words : (words : List Bits) (number : ℕ) → length words ≤ number → words_from number (drop number words) ≡ []
 no_words [] zero up = refl

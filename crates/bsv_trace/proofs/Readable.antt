@@ -5,6 +5,7 @@ use Rattle.std.proofs.Math.Logic.{∥∥₁_elim}
 use Rattle.std.proofs.Math.Bool.{Bool-set}
 use Rattle.std.proofs.Math.Nat.{ℕ_set}
 use Rattle.std.proofs.lemmas.Bool.Decides.{nat_tests}
+use Rattle.bsv_lemmas.proofs.Truths.{both_right, both_left}
 use Rattle.bsv_ast.specs.Names.{is_word, is_lower}
 use Rattle.bsv_ast.proofs.Names.{lower_words}
 use Rattle.bsv_bits.specs.Words.{Bits}
@@ -42,14 +43,6 @@ method_at (e ∷ es) n o h = by (is_rule e.role) refl n h (λ m. method_at es m 
     by false r (suc n) h others = let m = others n h in record { element = m.element; at = m.at; is = m.is; acts = m.acts }
 
 -- ---- a Lower name has no bracket
-
-both_left : (a b : Bool) → (a && b) ≡ true → a ≡ true
-both_left true b h = refl
-both_left false b h = h
-
-both_right : (a b : Bool) → (a && b) ≡ true → b ≡ true
-both_right true b h = h
-both_right false b h = absurd cc
 
 -- a byte that passes a test is none that does not
 differs : (p : ℕ → Bool) (b : ℕ) → p b ≡ true → p 40 ≡ false → in_name b ≡ true

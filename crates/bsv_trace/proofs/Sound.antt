@@ -6,6 +6,7 @@ use Rattle.std.proofs.lemmas.Bool.Decides.{nat_tests}
 use Rattle.std.specs.List.{list_all, prefix_len, join_with_byte}
 use Rattle.std.specs.Str.{bytes_eq}
 use Rattle.std.proofs.lemmas.Slice.Eq.{bytes_eq-Decides}
+use Rattle.bsv_lemmas.proofs.Places.{item_there}
 use Rattle.bsv_bits.specs.Words.{Bits}
 use Rattle.bsv_design.specs.declared.element.Port.{Port}
 use Rattle.bsv_design.specs.Schemes.{Asking, Outline, ports_of}
@@ -217,12 +218,6 @@ record CallRead (methods : List Outline) (bytes rest : List ℕ) (q new : Asking
   is : bytes ≡ text ++ rest
   new_is : new ≡ asked_with call q
 
--- what stands at a place is there
-pub some_at : {A : Type 0} (xs : List A) (n : ℕ) → n < length xs → (x : A) × (slice_get xs n ≡ Some x)
-some_at [] n below = absurd (omega arith)
-some_at (x ∷ xs) zero below = (x, refl)
-some_at (x ∷ xs) (suc n) below = let less : n < length xs = omega arith in some_at xs n less
-
 by_flag : (methods : List Outline) (n : ℕ) (bytes rest : List ℕ) (q new : Asking) (e : Outline) (old : List Bits) (t : Bool) → is_asked q n ≡ t → slice_get methods n ≡ Some e → length old ≡ length e.ports
     → (if t then None else spec.asking_with n q (spec.arguments e.ports bytes old)) ≡ Some (new, rest) → CallRead methods (e.name ++ 40 ∷ bytes) rest q new
 by_flag methods n bytes rest q new e old true flag at long read = absurd cc
@@ -246,7 +241,7 @@ call_of_sound : (methods : List Outline) (n : ℕ) (bytes rest : List ℕ) (q ne
     → spec.call_of methods n bytes q ≡ Some (new, rest) → CallRead methods (e.name ++ 40 ∷ bytes) rest q new
 unfolding spec.call_of
 call_of_sound methods n bytes rest q new e has at read =
-    let there = some_at q.args n (omega (arith, length_args methods q has, slice_get_within methods n e at)) in
+    let there = item_there q.args n (omega (arith, length_args methods q has, slice_get_within methods n e at)) in
     let long = words_at methods q has n e there.0 at there.1 in
     by_flag methods n bytes rest q new e there.0 (is_asked q n) refl at long
     (ap (λ o. if is_asked q n then None else spec.asking_with n q (spec.arguments (ports_of o) bytes there.0)) (sym at)
@@ -304,7 +299,7 @@ length_words (p ∷ ps) (t ∷ texts) (w ∷ ws) each = ap suc (length_words ps 
 -- places stay behind a call
 pub call_places : (methods : List Outline) (q : Asking) (text : List ℕ) (c : MethodCall) → HasPlaces methods q → IsCall methods text c → HasPlaces methods (asked_with c q)
 call_places methods q text c has is =
-    let there = some_at q.args c.method (omega (arith, length_args methods q has, slice_get_within methods c.method is.outline is.at)) in
+    let there = item_there q.args c.method (omega (arith, length_args methods q has, slice_get_within methods c.method is.outline is.at)) in
     with_call methods q has c.method there.0 c.words there.1
     (length_words is.outline.ports is.pieces c.words is.arguments ∙ sym (words_at methods q has c.method is.outline there.0 is.at there.1))
 

@@ -3,8 +3,10 @@
 use Rattle.std.proofs.Common.{◌≡◌, ◌∙◌, ℕ, zero, suc, ◌+◌, ◌-◌, ◌^◌, ◌<◌, ◌≤◌, Bool, true, false, ◌&&◌, List, [], ◌∷◌, min, length, slice_get, option_map, Option, Some, None, refl, ap, sym, subst, IsTrue, arith}
 use Rattle.std.specs.Prelude.{nat_le, nat_lt}
 use Rattle.std.specs.List.{list_all}
-use Rattle.std.proofs.lemmas.Bool.{eqb-true, ltb-true, ltb-false, leb-true}
+use Rattle.std.proofs.lemmas.Bool.{eqb-true, ltb-true, ltb-false, leb-true, and_parts}
 use Rattle.std.proofs.Math.Pow.{pow_mono}
+use Rattle.std.proofs.lemmas.Option.{same_Some}
+use Rattle.bsv_lemmas.proofs.Places.{passes_at}
 use Rattle.bsv_types.specs.declared.definitions.Enum.{Enum}
 use Rattle.bsv_types.specs.declared.definitions.Struct.{Struct}
 use Rattle.bsv_types.specs.declared.definitions.Interface.{Interface}
@@ -14,16 +16,12 @@ use Rattle.bsv_types.specs.Kinds.{Kind, bit, down, uint, int, bool, enum, struct
 use Rattle.bsv_types.specs.Widths.{IsLeast, HasWidth, HaveWidth, WidthWithin, bits, unsigned, signed, truth, labels, fields, tagged, nothing, beside, field_kinds}
 use Rattle.bsv_types.specs.Shapes.{Shapes, plus, width_by, widths_by, is_width, is_bits, is_enum_width}
 use Rattle.bsv_types.specs.Programs.{each_at, enum_right, struct_right, shapes_right, begins_empty, is_right}
-use Rattle.bsv_types.proofs.Same.{both}
 
 least_once : (u v n : ℕ) → IsLeast u n → IsLeast v n → u ≡ v
 least_once u v n a b =
     let one : u ≤ v = a.least v b.holds in
     let two : v ≤ u = b.least u a.holds in
     omega arith
-
-some_is : {A : Type 0} (x y : A) → Some x ≡ Some y → x ≡ y
-some_is x y e = cc
 
 mutual
   pub one_width : {es : List Enum} {ss : List Struct} {k : Kind} {u v : ℕ} → HasWidth es ss k u → HasWidth es ss k v → u ≡ v
@@ -32,10 +30,10 @@ mutual
   one_width signed signed = refl
   one_width truth truth = refl
   one_width {es} {ss} {k} {u} {v} (labels e is least) (labels f at other) =
-      let same : e ≡ f = some_is e f (sym is ∙ at) in
+      let same : e ≡ f = same_Some e f (sym is ∙ at) in
       least_once u v (length f.labels - 1) (subst (λ g. IsLeast u (length g.labels - 1)) same least) other
   one_width {es} {ss} {k} {u} {v} (fields s is all) (fields t at others) =
-      let same : s ≡ t = some_is s t (sym is ∙ at) in
+      let same : s ≡ t = same_Some s t (sym is ∙ at) in
       one_sum (subst (λ r. HaveWidth es ss (field_kinds r.fields) u) same all) others
   one_width (tagged m x is) (tagged n y at) = is ∙ ap (λ w. 1 + w) (one_width x y) ∙ sym at
 
@@ -49,9 +47,9 @@ mutual
 -- the width of an enum that is in order is the least for its last label
 least_of : (width count : ℕ) → is_enum_width width count ≡ true → IsLeast width (count - 1)
 least_of width count e =
-    let a = both (nat_le 2 count && nat_le 1 width && nat_lt (count - 1) (2 ^ width)) (nat_le (2 ^ (width - 1)) (count - 1)) e in
-    let b = both (nat_le 2 count && nat_le 1 width) (nat_lt (count - 1) (2 ^ width)) a.0 in
-    let c = both (nat_le 2 count) (nat_le 1 width) b.0 in
+    let a = and_parts (nat_le 2 count && nat_le 1 width && nat_lt (count - 1) (2 ^ width)) (nat_le (2 ^ (width - 1)) (count - 1)) e in
+    let b = and_parts (nat_le 2 count && nat_le 1 width) (nat_lt (count - 1) (2 ^ width)) a.0 in
+    let c = and_parts (nat_le 2 count) (nat_le 1 width) b.0 in
     let low : 2 ^ (width - 1) ≤ count - 1 = leb-true (2 ^ (width - 1)) (count - 1) a.1 in
     record { holds = ltb-true (count - 1) (2 ^ width) b.1; least = λ fewer h. least_by fewer low h }
   where
@@ -65,19 +63,14 @@ least_of width count e =
             let power : 2 ^ fewer ≤ 2 ^ (width - 1) = pow_mono (omega arith) in
             omega arith
 
-each_is : {A : Type 0} (p : A → Bool) (xs : List A) (k : ℕ) (x : A) → list_all p xs ≡ true → slice_get xs k ≡ Some x → p x ≡ true
-each_is p [] k x all is = absurd cc
-each_is p (y ∷ ys) zero x all is = subst (λ z. p z ≡ true) (some_is y x is) (both (p y) (list_all p ys) all).0
-each_is p (y ∷ ys) (suc k) x all is = each_is p ys k x (both (p y) (list_all p ys) all).1 is
-
 each_at_is : {A : Type 0} (p : ℕ → A → Bool) (first : ℕ) (xs : List A) (k : ℕ) (x : A) → each_at p first xs ≡ true → slice_get xs k ≡ Some x → p (first + k) x ≡ true
 each_at_is p first [] k x all is = absurd cc
 each_at_is p first (y ∷ ys) zero x all is =
     let none : first + 0 ≡ first = omega arith in
-    subst (λ n. p n x ≡ true) (sym none) (subst (λ z. p first z ≡ true) (some_is y x is) (both (p first y) (each_at p (first + 1) ys) all).0)
+    subst (λ n. p n x ≡ true) (sym none) (subst (λ z. p first z ≡ true) (same_Some y x is) (and_parts (p first y) (each_at p (first + 1) ys) all).0)
 each_at_is p first (y ∷ ys) (suc k) x all is =
     let next : first + 1 + k ≡ first + suc k = omega arith in
-    subst (λ n. p n x ≡ true) next (each_at_is p (first + 1) ys k x (both (p first y) (each_at p (first + 1) ys) all).1 is)
+    subst (λ n. p n x ≡ true) next (each_at_is p (first + 1) ys k x (and_parts (p first y) (each_at p (first + 1) ys) all).1 is)
 
 width_is : (o : Option ℕ) (w : ℕ) → is_width o w ≡ true → o ≡ Some w
 width_is None w e = absurd cc
@@ -86,18 +79,18 @@ width_is (Some v) w e = ap Some (eqb-true v w e)
 -- a sum of at most 128 bits is counted as it is
 plus_some : (m n : Option ℕ) (w : ℕ) → w ≤ 128 → plus m n ≡ Some w → (u : ℕ) × (v : ℕ) × (m ≡ Some u) × (n ≡ Some v) × (w ≡ u + v)
 plus_some (Some u) (Some v) w few e =
-    let is : min (u + v) 4294967295 ≡ w = some_is (min (u + v) 4294967295) w e in
+    let is : min (u + v) 4294967295 ≡ w = same_Some (min (u + v) 4294967295) w e in
     (u, v, refl, refl, omega arith)
 plus_some _ _ w few e = absurd cc
 
 map_some : {A : Type 0} (f : A → ℕ) (o : Option A) (w : ℕ) → option_map f o ≡ Some w → (x : A) × (o ≡ Some x) × (f x ≡ w)
 map_some f None w e = absurd cc
-map_some f (Some x) w e = (x, refl, some_is (f x) w e)
+map_some f (Some x) w e = (x, refl, same_Some (f x) w e)
 
 pub enum_width : (es : List Enum) (ss : List Struct) (k : ℕ) (e : Enum) → list_all enum_right es ≡ true → slice_get es k ≡ Some e → HasWidth es ss (enum k) e.width
 enum_width es ss k e all is =
-    let right = each_is enum_right es k e all is in
-    labels e is (least_of e.width (length e.labels) (both _ (is_enum_width e.width (length e.labels)) right).1)
+    let right = passes_at enum_right es k e all is in
+    labels e is (least_of e.width (length e.labels) (and_parts _ (is_enum_width e.width (length e.labels)) right).1)
 
 -- the structs below a place have the widths that they carry
 abbrev Below : List Enum → List Struct → ℕ → Type 0
@@ -107,10 +100,10 @@ abbrev shapes : List Enum → List Struct → List Interface → Shapes
 shapes es ss faces = record { enums = es; structs = ss; interfaces = faces }
 
 kind_width : (es : List Enum) (ss : List Struct) (faces : List Interface) (limit : ℕ) → list_all enum_right es ≡ true → Below es ss limit → (k : Kind) (w : ℕ) → w ≤ 128 → is_bits (shapes es ss faces) limit k ≡ true → width_by es ss k ≡ Some w → HasWidth es ss k w
-kind_width es ss faces limit all below (bit n) w few right is = subst (HasWidth es ss (bit n)) (some_is n w is) bits
-kind_width es ss faces limit all below (uint n) w few right is = subst (HasWidth es ss (uint n)) (some_is n w is) unsigned
-kind_width es ss faces limit all below (int n) w few right is = subst (HasWidth es ss (int n)) (some_is n w is) signed
-kind_width es ss faces limit all below bool w few right is = subst (HasWidth es ss bool) (some_is 1 w is) truth
+kind_width es ss faces limit all below (bit n) w few right is = subst (HasWidth es ss (bit n)) (same_Some n w is) bits
+kind_width es ss faces limit all below (uint n) w few right is = subst (HasWidth es ss (uint n)) (same_Some n w is) unsigned
+kind_width es ss faces limit all below (int n) w few right is = subst (HasWidth es ss (int n)) (same_Some n w is) signed
+kind_width es ss faces limit all below bool w few right is = subst (HasWidth es ss bool) (same_Some 1 w is) truth
 kind_width es ss faces limit all below (enum k) w few right is =
     let e = map_some (λ e. e.width) (slice_get es k) w is in
     subst (HasWidth es ss (enum k)) e.2 (enum_width es ss k e.0 all e.1)
@@ -120,17 +113,17 @@ kind_width es ss faces limit all below (struct k) w few right is =
 kind_width es ss faces limit all below (maybe k) w few right is =
     let p = plus_some (Some 1) (width_by es ss k) w few is in
     let less : p.1 ≤ 128 = omega (arith, p.4) in
-    let inner = kind_width es ss faces limit all below k p.1 less (both (is_bits (shapes es ss faces) limit k) _ right).0 p.3 in
-    tagged p.1 inner (p.4 ∙ ap (λ u. u + p.1) (sym (some_is 1 p.0 p.2)))
+    let inner = kind_width es ss faces limit all below k p.1 less (and_parts (is_bits (shapes es ss faces) limit k) _ right).0 p.3 in
+    tagged p.1 inner (p.4 ∙ ap (λ u. u + p.1) (sym (same_Some 1 p.0 p.2)))
 kind_width es ss faces limit all below _ w few right is = absurd cc
 
 kinds_width : (es : List Enum) (ss : List Struct) (faces : List Interface) (limit : ℕ) → list_all enum_right es ≡ true → Below es ss limit → (ks : List Kind) (w : ℕ) → w ≤ 128 → list_all (is_bits (shapes es ss faces) limit) ks ≡ true → widths_by es ss ks ≡ Some w → HaveWidth es ss ks w
-kinds_width es ss faces limit all below [] w few right is = subst (HaveWidth es ss []) (some_is 0 w is) nothing
+kinds_width es ss faces limit all below [] w few right is = subst (HaveWidth es ss []) (same_Some 0 w is) nothing
 kinds_width es ss faces limit all below (k ∷ ks) w few right is =
     let p = plus_some (width_by es ss k) (widths_by es ss ks) w few is in
     let first : p.0 ≤ 128 = omega (arith, p.4) in
     let rest : p.1 ≤ 128 = omega (arith, p.4) in
-    let h = both (is_bits (shapes es ss faces) limit k) _ right in
+    let h = and_parts (is_bits (shapes es ss faces) limit k) _ right in
     beside p.0 p.1 (kind_width es ss faces limit all below k p.0 first h.0 p.2) (kinds_width es ss faces limit all below ks p.1 rest h.1 p.3) p.4
 
 struct_width_by : (fuel : ℕ) (es : List Enum) (ss : List Struct) (faces : List Interface) → list_all enum_right es ≡ true → each_at (struct_right (shapes es ss faces)) 0 ss ≡ true → Below es ss fuel
@@ -138,11 +131,11 @@ struct_width_by zero es ss faces all right k t less is = absurd (omega arith)
 struct_width_by (suc fuel) es ss faces all right k t less is =
     let from_none : 0 + k ≡ k = omega arith in
     let whole = subst (λ n. struct_right (shapes es ss faces) n t ≡ true) from_none (each_at_is (struct_right (shapes es ss faces)) 0 ss k t right is) in
-    let a = both _ (is_width (widths_by es ss (field_kinds t.fields)) t.width) whole in
-    let b = both _ (nat_le 1 t.width && nat_le t.width 128) a.0 in
-    let c = both _ (list_all (is_bits (shapes es ss faces) k) (field_kinds t.fields)) b.0 in
+    let a = and_parts _ (is_width (widths_by es ss (field_kinds t.fields)) t.width) whole in
+    let b = and_parts _ (nat_le 1 t.width && nat_le t.width 128) a.0 in
+    let c = and_parts _ (list_all (is_bits (shapes es ss faces) k) (field_kinds t.fields)) b.0 in
     let below : Below es ss k = λ j u h at. struct_width_by fuel es ss faces all right j u (omega arith) at in
-    fields t is (kinds_width es ss faces k all below (field_kinds t.fields) t.width (leb-true t.width 128 (both (nat_le 1 t.width) (nat_le t.width 128) b.1).1) c.1 (width_is _ t.width a.1))
+    fields t is (kinds_width es ss faces k all below (field_kinds t.fields) t.width (leb-true t.width 128 (and_parts (nat_le 1 t.width) (nat_le t.width 128) b.1).1) c.1 (width_is _ t.width a.1))
 
 pub struct_width : (es : List Enum) (ss : List Struct) (faces : List Interface) (k : ℕ) (t : Struct) → list_all enum_right es ≡ true → each_at (struct_right (shapes es ss faces)) 0 ss ≡ true → slice_get ss k ≡ Some t → HasWidth es ss (struct k) t.width
 struct_width es ss faces k t all right is = struct_width_by (suc k) es ss faces all right k t (omega arith) is
@@ -170,19 +163,19 @@ told es ss c (bare p) w few x = elim x [ ]
 
 pub program_carries : (es : List Enum) (ss : List Struct) (faces : List Interface) (fs : List Function) (ms : List Module) → IsTrue (is_right es ss faces fs ms) → Carries es ss
 program_carries es ss faces fs ms right =
-    let a = both _ (list_all _ ms) right in
-    let b = both _ (each_at _ 0 fs) a.0 in
-    let c = both _ (shapes_right (shapes es ss faces)) b.0 in
-    let d = both _ (begins_empty faces) c.1 in
-    let e = both _ (list_all _ faces) d.0 in
-    let f = both (list_all enum_right es) (each_at (struct_right (shapes es ss faces)) 0 ss) e.0 in
+    let a = and_parts _ (list_all _ ms) right in
+    let b = and_parts _ (each_at _ 0 fs) a.0 in
+    let c = and_parts _ (shapes_right (shapes es ss faces)) b.0 in
+    let d = and_parts _ (begins_empty faces) c.1 in
+    let e = and_parts _ (list_all _ faces) d.0 in
+    let f = and_parts (list_all enum_right es) (each_at (struct_right (shapes es ss faces)) 0 ss) e.0 in
     record { enums = λ k e is. enum_width es ss k e f.0 is; structs = λ k t is. struct_width es ss faces k t f.0 f.1 is }
 
 pub is_told : (es : List Enum) (ss : List Struct) → Carries es ss → (k : Kind) → (h : WidthWithin es ss k 128) → width_by es ss k ≡ Some h.0
 is_told es ss c k h = told es ss c k h.0 h.2 h.1
 
 pub is_carried : (es : List Enum) (ss : List Struct) (r : ℕ) → Carries es ss → (k : Kind) → WidthWithin es ss k 128 → width_by es ss k ≡ Some r → HasWidth es ss k r
-is_carried es ss r c k h is = subst (HasWidth es ss k) (some_is h.0 r (sym (is_told es ss c k h) ∙ is)) h.1
+is_carried es ss r c k h is = subst (HasWidth es ss k) (same_Some h.0 r (sym (is_told es ss c k h) ∙ is)) h.1
 
 pub not_both : (o : Option ℕ) (w : ℕ) → o ≡ None → o ≡ Some w → ⊥
 not_both o w none some = cc

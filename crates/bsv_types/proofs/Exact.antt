@@ -8,7 +8,7 @@ use Rattle.bsv_types.proofs.Same.{same_is, same_self}
 abbrev Back : Ty → Type 0
 Back t = type_of (kind t) ≡ t
 
-rolled : (x : Ty-F Ty) → kind (roll-Ty x) ≡ kind_step (map-Ty Ty Kind kind x)
+pub rolled : (x : Ty-F Ty) → kind (roll-Ty x) ≡ kind_step (map-Ty Ty Kind kind x)
 rolled x = fold-roll-Ty Kind kind_step x
 
 by_variant : (y : Ty-F ((t : Ty) × Back t)) → Back (roll-Ty (map-Ty ((t : Ty) × Back t) Ty (λ e. e.0) y))

@@ -1,15 +1,11 @@
 -- Types compare exactly.
-use Rattle.std.proofs.Common.{◌≡◌, ◌∙◌, Bool, true, false, ◌&&◌, refl, ap, sym, subst}
-use Rattle.std.proofs.lemmas.Bool.{eqb-true, eq-eqb}
+use Rattle.std.proofs.Common.{◌≡◌, ◌∙◌, true, ◌&&◌, refl, ap, sym, subst}
+use Rattle.std.proofs.lemmas.Bool.{eqb-true, eq-eqb, and_parts}
 use Rattle.bsv_types.specs.declared.types.PartTy.{PartTy}
 use Rattle.bsv_types.specs.declared.types.PartTy.TheVariants as part_type
 use Rattle.bsv_types.specs.Kinds.{Kind, bit, down, uint, int, bool, enum, struct, maybe, integer, interface, part, bare, same_part, same_kind}
 
-pub both : (a b : Bool) → (a && b) ≡ true → (a ≡ true) × (b ≡ true)
-both true b e = (refl, e)
-both false b e = absurd cc
-
-same_part_is : (p q : PartTy) → same_part p q ≡ true → p ≡ q
+pub same_part_is : (p q : PartTy) → same_part p q ≡ true → p ≡ q
 same_part_is part_type.Reg part_type.Reg e = refl
 same_part_is part_type.Wire part_type.Wire e = refl
 same_part_is part_type.RWire part_type.RWire e = refl
@@ -37,7 +33,7 @@ same_is (struct m) (struct n) e = ap struct (eqb-true m n e)
 same_is (maybe j) (maybe k) e = ap maybe (same_is j k e)
 same_is integer integer e = refl
 same_is (interface m) (interface n) e = ap interface (eqb-true m n e)
-same_is (part p j) (part q k) e = let h = both (same_part p q) (same_kind j k) e in ap (λ r. part r j) (same_part_is p q h.0) ∙ ap (part q) (same_is j k h.1)
+same_is (part p j) (part q k) e = let h = and_parts (same_part p q) (same_kind j k) e in ap (λ r. part r j) (same_part_is p q h.0) ∙ ap (part q) (same_is j k h.1)
 same_is (bare p) (bare q) e = ap bare (same_part_is p q e)
 same_is _ _ e = absurd cc
 

@@ -1,14 +1,12 @@
 -- Steps that may fail, taken apart, and tests that are passed.
-use Rattle.std.proofs.Common.{◌≡◌, Bool, true, false, cond, ◌&&◌, Option, Some, None, refl, subst}
+use Rattle.std.proofs.Common.{◌≡◌, Bool, true, false, cond, Option, Some, None, refl, subst}
+use Rattle.std.proofs.lemmas.Option.{same_Some}
 use Rattle.bsv_types.specs.Kinds.{Kind, same_kind}
 use Rattle.bsv_types.specs.Operators.{◌>>=◌}
 use Rattle.bsv_types.proofs.Same.{same_is}
 use Rattle.bsv_context.specs.Env.{Made, wanted}
 use Rattle.bsv_typing.specs.Operands.{Check, check_if}
 use Rattle.bsv_typing.specs.Forms.{if_true}
-
-pub some_is : {A : Type 0} (x y : A) → Some x ≡ Some y → x ≡ y
-some_is x y e = cc
 
 -- a step that gave something, and what went on with it
 pub taken : {A B : Type 0} (r : Option A) (f : A → Option B) (y : B) → (r >>= f) ≡ Some y → (x : A) × (r ≡ Some x) × (f x ≡ Some y)
@@ -17,7 +15,7 @@ taken (Some x) f y e = (x, refl, e)
 
 -- a test that was passed
 pub tested : {A : Type 0} (b : Bool) (x y : A) → if_true b x ≡ Some y → (b ≡ true) × (x ≡ y)
-tested true x y e = (refl, some_is x y e)
+tested true x y e = (refl, same_Some x y e)
 tested false x y e = absurd cc
 
 -- and a step behind a test, or behind one that failed
@@ -33,10 +31,6 @@ pub checked : (b : Bool) (check : Check) (want : Option Kind) (m : Made) → che
 checked true check want m e = (refl, e)
 checked false check want m e = absurd cc
 
-pub both_true : (a b : Bool) → a ≡ true → b ≡ true → (a && b) ≡ true
-both_true true b h k = k
-both_true false b h k = absurd cc
-
 -- the type that was expected
 abbrev pub HasKind : Option Kind → Kind → Type 0
 HasKind None k = Unit {0}
@@ -47,8 +41,8 @@ has_kind None k h j e = absurd cc
 has_kind (Some i) k h j e = cc
 
 pub wanted_is : (want : Option Kind) (t m : Made) → wanted want t ≡ Some m → (t ≡ m) × HasKind want m.kind
-wanted_is None t m e = (some_is t m e, tt)
+wanted_is None t m e = (same_Some t m e, tt)
 wanted_is (Some k) t m e =
     let h = tested_step (same_kind t.kind k) (Some t) m e in
-    let is = some_is t m h.1 in
+    let is = same_Some t m h.1 in
     (is, subst (λ x. x.kind ≡ k) is (same_is t.kind k h.0))

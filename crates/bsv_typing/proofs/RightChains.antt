@@ -2,7 +2,7 @@
 use Rattle.std.proofs.Common.{◌≡◌, ◌∙◌, ℕ, ◌+◌, ◌<◌, suc, true, ◌&&◌, List, [], ◌∷◌, ◌++◌, map, length, Option, Some, None, refl, ap, arith}
 use Rattle.std.specs.Prelude.{◌==◌, nat_lt}
 use Rattle.std.specs.List.{list_all}
-use Rattle.std.proofs.lemmas.Bool.{eqb-true, ltb-true}
+use Rattle.std.proofs.lemmas.Bool.{eqb-true, ltb-true, and_parts, and_from}
 use Rattle.bsv_ast.specs.declared.expressions.Level.{Level}
 use Rattle.bsv_ast.specs.declared.expressions.Level.TheVariants as level
 use Rattle.bsv_ast.specs.declared.expressions.Operator.{Operator}
@@ -16,11 +16,11 @@ use Rattle.bsv_types.specs.Kinds.{Kind, bool, same_kind, has_family, is_number, 
 use Rattle.bsv_types.specs.Shapes.{Shapes, is_value}
 use Rattle.bsv_types.specs.Operators.{◌>>=◌, when, is_kind, between, chained, gives}
 use Rattle.bsv_types.specs.Expressions.{World, Frame}
-use Rattle.bsv_types.proofs.Same.{both, same_self}
+use Rattle.bsv_types.proofs.Same.{same_self}
 use Rattle.bsv_typing.specs.Operands.{Operand, only_if}
 use Rattle.bsv_typing.specs.Forms as forms
 use Rattle.bsv_typing.specs.Typing.{operator, is_of_level, is_chain, chain_operand, negation, unary_operand}
-use Rattle.bsv_typing.proofs.Bound.{both_true, checked}
+use Rattle.bsv_typing.proofs.Bound.{checked}
 use Rattle.bsv_typing.proofs.Typings.{when_true}
 use Rattle.bsv_typing.proofs.RightOperands.{strictly, alike, FormedAs, Good, EachGood, ordered_good}
 use Rattle.bsv_typing.proofs.RightForms.{AllAmounts, negated_right, number_op_right, bits_op_right, truth_right, shift_right, order_right, equality_right}
@@ -45,7 +45,7 @@ module _ (s : Shapes) where
   kept : {A : Type 0} (l : Level) (k : Kind) → Keeps l k → (signs : List Operator) (ms : List A) → list_all (is_of_level l) signs ≡ true → length ms ≡ length signs → chained s k (map operator signs) (alike k ms) ≡ Some k
   kept l k keeps [] [] all many = refl
   kept l k keeps (x ∷ signs) (m ∷ ms) all many =
-      let h = both (is_of_level l x) (list_all (is_of_level l) signs) all in
+      let h = and_parts (is_of_level l x) (list_all (is_of_level l) signs) all in
       ap (λ o. o >>= λ r. chained s r (map operator signs) (alike k ms)) (keeps x h.0) ∙ kept l k keeps signs ms h.1 (omega arith)
   kept l k keeps [] (m ∷ ms) all many = absurd (omega arith)
   kept l k keeps (x ∷ signs) [] all many = absurd (omega arith)
@@ -59,13 +59,13 @@ module _ (s : Shapes) where
   chain_is : (l : Level) (signs : List Operator) (count : ℕ) → is_chain l signs count ≡ true → Chain l signs count
   unfolding is_chain
   chain_is l signs count e =
-      let h = both (list_all (is_of_level l) signs && nat_lt 1 count) (count == length signs + 1) e in
-      let g = both (list_all (is_of_level l) signs) (nat_lt 1 count) h.0 in
+      let h = and_parts (list_all (is_of_level l) signs && nat_lt 1 count) (count == length signs + 1) e in
+      let g = and_parts (list_all (is_of_level l) signs) (nat_lt 1 count) h.0 in
       record { all = g.0; some = ltb-true 1 count g.1; many = eqb-true count (length signs + 1) h.1 }
 
   chain_gives : (l : Level) (k : Kind) → Keeps l k → (signs : List Operator) (count : ℕ) → Chain l signs count → (ms : List Expr) → length ms ≡ count → gives s (map operator signs) (alike k ms) k ≡ true
   chain_gives l k keeps (x ∷ signs) count c (a ∷ b ∷ ms) is =
-      let h = both (is_of_level l x) (list_all (is_of_level l) signs) c.all in
+      let h = and_parts (is_of_level l x) (list_all (is_of_level l) signs) c.all in
       let many = c.many in
       first_gives x signs k k k k (alike k ms) (keeps x h.0) (kept l k keeps signs ms h.1 (omega arith))
   chain_gives l k keeps [] count c ms is = let some = c.some in let many = c.many in absurd (omega arith)
@@ -73,10 +73,10 @@ module _ (s : Shapes) where
   chain_gives l k keeps (x ∷ signs) count c (a ∷ []) is = let some = c.some in absurd (omega arith)
 
   same_number : (k r : Kind) → is_number k ≡ true → when (same_kind k k && is_number k) r ≡ Some r
-  same_number k r number = when_true (same_kind k k && is_number k) r (both_true _ _ (same_self k) number)
+  same_number k r number = when_true (same_kind k k && is_number k) r (and_from _ _ (same_self k) number)
 
   same_family : (k r : Kind) → has_family k ≡ true → when (same_kind k k && has_family k) r ≡ Some r
-  same_family k r family = when_true (same_kind k k && has_family k) r (both_true _ _ (same_self k) family)
+  same_family k r family = when_true (same_kind k k && has_family k) r (and_from _ _ (same_self k) family)
 
   product_keeps : (k : Kind) → is_number k ≡ true → Keeps level.Product k
   product_keeps k number sign.Mul e = same_number k k number
@@ -109,21 +109,21 @@ module _ (s : Shapes) where
 
   -- the others give another type, or take one
   shifted : (x : Operator) (k j : Kind) → is_of_level level.Shift x ≡ true → has_family k ≡ true → is_amount j ≡ true → between s (operator x) k j ≡ Some k
-  shifted sign.Shl k j e family amount = when_true (has_family k && is_amount j) k (both_true _ _ family amount)
-  shifted sign.Shr k j e family amount = when_true (has_family k && is_amount j) k (both_true _ _ family amount)
+  shifted sign.Shl k j e family amount = when_true (has_family k && is_amount j) k (and_from _ _ family amount)
+  shifted sign.Shr k j e family amount = when_true (has_family k && is_amount j) k (and_from _ _ family amount)
   shifted _ k j e family amount = absurd cc
 
   all_shifted : (k : Kind) (signs : List Operator) (ks : List Kind) → list_all (is_of_level level.Shift) signs ≡ true → has_family k ≡ true → AllAmounts ks → length ks ≡ length signs → chained s k (map operator signs) ks ≡ Some k
   all_shifted k [] [] all family amounts many = refl
   all_shifted k (x ∷ signs) (j ∷ ks) all family amounts many =
-      let h = both (is_of_level level.Shift x) (list_all (is_of_level level.Shift) signs) all in
+      let h = and_parts (is_of_level level.Shift x) (list_all (is_of_level level.Shift) signs) all in
       ap (λ o. o >>= λ r. chained s r (map operator signs) ks) (shifted x k j h.0 family amounts.0) ∙ all_shifted k signs ks h.1 family amounts.1 (omega arith)
   all_shifted k [] (j ∷ ks) all family amounts many = absurd (omega arith)
   all_shifted k (x ∷ signs) [] all family amounts many = absurd (omega arith)
 
   shift_gives : (k : Kind) (signs : List Operator) (count : ℕ) (ks : List Kind) → Chain level.Shift signs (suc count) → has_family k ≡ true → AllAmounts ks → length ks ≡ count → gives s (map operator signs) (k ∷ ks) k ≡ true
   shift_gives k (x ∷ signs) count (j ∷ ks) c family amounts is =
-      let h = both (is_of_level level.Shift x) (list_all (is_of_level level.Shift) signs) c.all in
+      let h = and_parts (is_of_level level.Shift x) (list_all (is_of_level level.Shift) signs) c.all in
       let many = c.many in
       first_gives x signs k j k k ks (shifted x k j h.0 family amounts.0) (all_shifted k signs ks h.1 family amounts.1 (omega arith))
   shift_gives k [] count ks c family amounts is = let some = c.some in let many = c.many in absurd (omega arith)
@@ -137,7 +137,7 @@ module _ (s : Shapes) where
   ordered _ k e number = absurd cc
 
   order_gives : (k : Kind) (signs : List Operator) (ms : List Expr) → Chain level.Order signs 2 → is_number k ≡ true → length ms ≡ 2 → gives s (map operator signs) (alike k ms) bool ≡ true
-  order_gives k (x ∷ []) (a ∷ b ∷ []) c number is = first_gives x [] k k bool bool [] (ordered x k (both (is_of_level level.Order x) true c.all).0 number) refl
+  order_gives k (x ∷ []) (a ∷ b ∷ []) c number is = first_gives x [] k k bool bool [] (ordered x k (and_parts (is_of_level level.Order x) true c.all).0 number) refl
   order_gives k [] ms c number is = let many = c.many in absurd (omega arith)
   order_gives k (x ∷ y ∷ signs) ms c number is = let many = c.many in absurd (omega arith)
   order_gives k (x ∷ []) [] c number is = absurd (omega arith)
@@ -145,14 +145,14 @@ module _ (s : Shapes) where
   order_gives k (x ∷ []) (a ∷ b ∷ d ∷ ms) c number is = absurd (omega arith)
 
   compared : (x : Operator) (k : Kind) → is_of_level level.Equality x ≡ true → is_value s k ≡ true → between s (operator x) k k ≡ Some bool
-  compared sign.Same k e value = when_true (same_kind k k && is_value s k) bool (both_true _ _ (same_self k) value)
-  compared sign.Different k e value = when_true (same_kind k k && is_value s k) bool (both_true _ _ (same_self k) value)
+  compared sign.Same k e value = when_true (same_kind k k && is_value s k) bool (and_from _ _ (same_self k) value)
+  compared sign.Different k e value = when_true (same_kind k k && is_value s k) bool (and_from _ _ (same_self k) value)
   compared _ k e value = absurd cc
 
   equality_gives : (k : Kind) (signs : List Operator) (count : ℕ) (ms bs : List Expr) → Chain level.Equality signs (suc (suc count)) → is_value s k ≡ true → length ms ≡ 2 → length bs ≡ count →
       gives s (map operator signs) (alike k ms ++ alike bool bs) bool ≡ true
   equality_gives k (x ∷ signs) count (a ∷ b ∷ []) bs c value two is =
-      let h = both (is_of_level level.Equality x) (list_all (is_of_level level.Equality) signs) c.all in
+      let h = and_parts (is_of_level level.Equality x) (list_all (is_of_level level.Equality) signs) c.all in
       let many = c.many in
       first_gives x signs k k bool bool (alike bool bs) (compared x k h.0 value) (kept level.Equality bool (λ y e. compared y bool e refl) signs bs h.1 (omega arith))
   equality_gives k [] count ms bs c value two is = let many = c.many in absurd (omega arith)
@@ -212,12 +212,12 @@ module _ (w : World) (frame : Frame) where
   not_gives (a ∷ b ∷ ms) is = absurd (omega arith)
 
   complement_gives : (k : Kind) (ms : List Expr) → has_family k ≡ true → length ms ≡ 1 → gives w.shapes (op.Complement ∷ []) (alike k ms) k ≡ true
-  complement_gives k (a ∷ []) family is = both_true _ _ (same_self k) family
+  complement_gives k (a ∷ []) family is = and_from _ _ (same_self k) family
   complement_gives k [] family is = absurd (omega arith)
   complement_gives k (a ∷ b ∷ ms) family is = absurd (omega arith)
 
   negate_gives : (k : Kind) (ms : List Expr) → is_number k ≡ true → length ms ≡ 1 → gives w.shapes (op.Negate ∷ []) (alike k ms) k ≡ true
-  negate_gives k (a ∷ []) number is = both_true _ _ (same_self k) number
+  negate_gives k (a ∷ []) number is = and_from _ _ (same_self k) number
   negate_gives k [] number is = absurd (omega arith)
   negate_gives k (a ∷ b ∷ ms) number is = absurd (omega arith)
 

@@ -3,6 +3,8 @@ use Rattle.std.proofs.Common.{◌≡◌, ◌∙◌, ℕ, ◌+◌, true, List, []
 use Rattle.std.specs.Prelude.{◌==◌}
 use Rattle.std.specs.List.{list_all}
 use Rattle.std.proofs.lemmas.List.{length-map}
+use Rattle.std.proofs.lemmas.Bool.{and_parts}
+use Rattle.std.proofs.lemmas.Option.{same_Some}
 use Rattle.bsv_ast.specs.declared.expressions.Expr.{Expr, roll-Expr, ind-Expr, map-Expr, fold-roll-Expr}
 use Rattle.bsv_ast.specs.declared.expressions.Expr.TheOpen.{Expr-F, Suffix-F}
 use Rattle.bsv_ast.specs.declared.expressions.Suffix.{Suffix, roll-Suffix, fold-Suffix, map-Suffix, fold-roll-Suffix}
@@ -13,14 +15,13 @@ use Rattle.bsv_types.specs.Operators.{◌>>=◌}
 use Rattle.bsv_types.specs.Shapes.{Shapes}
 use Rattle.bsv_types.specs.Programs.{each_at, enum_right, struct_right, shapes_right}
 use Rattle.bsv_types.specs.Expressions.{World, Frame}
-use Rattle.bsv_types.proofs.Same.{both}
 use Rattle.bsv_typing.specs.Operands.{Check, Operand, only_if}
 use Rattle.bsv_context.specs.Env.{Env}
 use Rattle.bsv_typing.specs.Forms as forms
 use Rattle.bsv_typing.specs.Places.{Front, whole, name_front, member_behind, index_behind, slice_behind}
 use Rattle.bsv_typing.specs.Typing.{Term, Suffixed, form_of, operator, is_chain, is_choice, chain_operand, choice_operand, literal_case, label_case, call_case, postfix_front, all_behind, front_case, front_term, operands, step, suffix_step, field_step, term, typed}
 use Rattle.bsv_typing.specs.Laws.{FitsWorld, Fits, Right}
-use Rattle.bsv_typing.proofs.Bound.{some_is, taken, checked, has_kind}
+use Rattle.bsv_typing.proofs.Bound.{taken, checked, has_kind}
 use Rattle.bsv_typing.proofs.RightOperands.{strictly, TypedAs, Good, EachGood, ordered_good}
 use Rattle.bsv_typing.proofs.RightForms.{concat_right, choice_right}
 use Rattle.bsv_typing.proofs.RightChains.{chain_right, unary_right}
@@ -35,7 +36,7 @@ module _ (w : World) (frame : Frame) where
 
   -- what a check gives, with nothing in front that a suffix could see
   alone_good : (check : Check) → TypedAs w frame check → TypedAs w frame check × ((f : Front) → (check None >>= λ m. Some (whole m)) ≡ Some f → GoodFront w frame f)
-  alone_good check good = (good, λ f e. let t = taken (check None) _ f e in subst (GoodFront w frame) (some_is (whole t.0) f t.2) (good None t.0 t.1).0)
+  alone_good check good = (good, λ f e. let t = taken (check None) _ f e in subst (GoodFront w frame) (same_Some (whole t.0) f t.2) (good None t.0 t.1).0)
 
   front_good : (o : Option Front) → ((f : Front) → o ≡ Some f → GoodFront w frame f) → TermGood (front_term (strictly w) o)
   front_good o good = (ordered_good w frame (front_case (strictly w) o) (front_formed w frame o good), good)
@@ -120,7 +121,7 @@ module _ (w : World) (frame : Frame) where
         (λ x y is. subst (λ z. Good w frame (field (roll-FieldValue z)).1) is (subst (λ (q : List ℕ × Operand). Good w frame q.1) (sym (fold-roll-FieldValue Term Suffixed (List ℕ × Operand) (step strict) (suffix_step strict) field_step _)) y.value.1.0))
 
 structs_right : (s : Shapes) → shapes_right s ≡ true → each_at (struct_right s) 0 s.structs ≡ true
-structs_right s right = (both (list_all enum_right s.enums) (each_at (struct_right s) 0 s.structs) (both _ _ (both _ _ right).0).0).1
+structs_right s right = (and_parts (list_all enum_right s.enums) (each_at (struct_right s) 0 s.structs) (and_parts _ _ (and_parts _ _ right).0).0).1
 
 pub ground_is : (env : Env) (w : World) → FitsWorld env w → env.limits ≡ strictly w
 ground_is env w fits = ap₂ (λ a b. record { strict = a; shapes = b }) fits.strict fits.shapes

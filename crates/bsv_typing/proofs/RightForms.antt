@@ -1,9 +1,10 @@
 -- What forms give is in order: literals, operators, choices and parts side by side.
 use Rattle.std.proofs.Common.{◌≡◌, ◌∙◌, ℕ, ◌+◌, ◌*◌, ◌^◌, ◌<◌, ◌≤◌, suc, Bool, true, false, cond, List, [], ◌∷◌, ◌++◌, map, length, Option, Some, None, refl, sym, ap, ap₂, subst, arith}
 use Rattle.std.specs.Prelude.{◌==◌, nat_lt, nat_le}
-use Rattle.std.proofs.lemmas.Bool.{eqb-true, eq-eqb, ltb-true, lt-ltb, leb-true}
+use Rattle.std.proofs.lemmas.Bool.{eqb-true, eq-eqb, ltb-true, lt-ltb, leb-true, and_parts, and_from}
 use Rattle.std.proofs.lemmas.List.{length-map}
 use Rattle.std.proofs.Math.Pow.{pow_pos}
+use Rattle.std.proofs.lemmas.Option.{same_Some}
 use Rattle.bsv_types.specs.declared.operators.Op.{Op}
 use Rattle.bsv_types.specs.declared.operators.Op.TheVariants as op
 use Rattle.bsv_types.specs.declared.expressions.Expr.{Expr}
@@ -12,12 +13,12 @@ use Rattle.bsv_types.specs.Shapes.{is_value, counted, widths_by, is_width, plus}
 use Rattle.bsv_types.specs.Operators.{gives, is_kind, all_bit}
 use Rattle.bsv_types.specs.Expressions.{World, Frame, typing, holds, all_of}
 use Rattle.bsv_types.proofs.Counted.{widths_start, widths_turn, widths_done}
-use Rattle.bsv_types.proofs.Same.{both, same_self}
+use Rattle.bsv_types.proofs.Same.{same_self}
 use Rattle.bsv_context.specs.Env.{Made, wanted, literal, applied, chosen, beside, fits, fits_negated}
 use Rattle.bsv_typing.specs.Operands.{Operand, Agreed, all_as, agree, agree_with_result}
 use Rattle.bsv_typing.specs.Forms.{if_kind, if_true, number_case, sized_case, truth_case, number_op_case, bits_op_case, negated_case, amount, amounts, shift_case, order_case, equality_case, choice_case, joined, concat_case}
 use Rattle.bsv_typing.specs.Laws.{Typed}
-use Rattle.bsv_typing.proofs.Bound.{some_is, taken, tested, both_true, HasKind}
+use Rattle.bsv_typing.proofs.Bound.{taken, tested, HasKind}
 use Rattle.bsv_typing.proofs.Typings.{Each, value_typed, literal_typed, apply_typed, choice_typed}
 use Rattle.bsv_typing.proofs.RightOperands.{strictly, alike, Formed, FormedAs, Good, EachGood, wanted_formed, AllOf, each_more, each_of, each_joined, all_as_right, agree_right, result_right}
 
@@ -94,7 +95,7 @@ module _ (w : World) (frame : Frame) where
       let h = tested (fits_negated (strictly w) number k) (applied k (op.Negate ∷ []) ((literal k number).expr ∷ [])) m e in
       let f = fits_number number k h.0 in
       subst (λ z. Formed w frame z × (z.kind ≡ k)) h.1
-      ((λ value. apply_typed w frame k (op.Negate ∷ []) ((literal k number).expr ∷ []) (k ∷ []) value (one_typed (literal k number) (literal_formed k number f.0 value)) (both_true (same_kind k k) (is_number k) (same_self k) f.1)), refl)
+      ((λ value. apply_typed w frame k (op.Negate ∷ []) ((literal k number).expr ∷ []) (k ∷ []) value (one_typed (literal k number) (literal_formed k number f.0 value)) (and_from (same_kind k k) (is_number k) (same_self k) f.1)), refl)
 
   pub negated_right : (number : ℕ) → FormedAs w frame (negated_case (strictly w) number)
   unfolding negated_case
@@ -111,7 +112,7 @@ module _ (w : World) (frame : Frame) where
       let h = if_kind_is test (agree_with_result xs want) (λ k ms. Some (applied k os ms)) m e in
       let r = h.0 in
       let a = result_right w frame xs want r good h.1 in
-      subst (λ z. Formed w frame z × HasKind want z.kind) (some_is (applied r.0 os r.1) m h.3)
+      subst (λ z. Formed w frame z × HasKind want z.kind) (same_Some (applied r.0 os r.1) m h.3)
       (applied_formed r.0 os r.1 (alike r.0 r.1) (each_of w frame r.0 r.1 a.0.0) (give r.0 r.1 h.2 a.0.1), a.1)
 
   pub number_op_right : (os : List Op) (xs : List Operand) → EachGood w frame xs → Give os (length xs) is_number (λ k. k) → FormedAs w frame (number_op_case os xs)
@@ -144,13 +145,13 @@ module _ (w : World) (frame : Frame) where
 
   amounts_right : (xs : List Operand) (ms : List Expr) → EachGood w frame xs → amounts xs ≡ Some ms → (ks : List Kind) × Each w frame ms ks × AllAmounts ks × (length ks ≡ length xs)
   unfolding amounts
-  amounts_right [] ms good e = subst (λ zs. (ks : List Kind) × Each w frame zs ks × AllAmounts ks × (length ks ≡ 0)) (some_is [] ms e) ([], refl, tt, refl)
+  amounts_right [] ms good e = subst (λ zs. (ks : List Kind) × Each w frame zs ks × AllAmounts ks × (length ks ≡ 0)) (same_Some [] ms e) ([], refl, tt, refl)
   amounts_right (x ∷ xs) ms good e =
       let t = taken (amount x) _ ms e in
       let r = taken (amounts xs) _ ms t.2 in
       let a = amount_right x t.0 good.0 t.1 in
       let more = amounts_right xs r.0 good.1 r.1 in
-      subst (λ zs. (ks : List Kind) × Each w frame zs ks × AllAmounts ks × (length ks ≡ suc (length xs))) (some_is (t.0 ∷ r.0) ms r.2)
+      subst (λ zs. (ks : List Kind) × Each w frame zs ks × AllAmounts ks × (length ks ≡ suc (length xs))) (same_Some (t.0 ∷ r.0) ms r.2)
       (a.0 ∷ more.0, each_more w frame t.0 r.0 a.0 more.0 a.1 more.1, (a.2, more.2), ap suc more.3)
 
   pub shift_right : (os : List Op) (x : Operand) (xs : List Operand) → Good w frame x → EachGood w frame xs →
@@ -197,7 +198,7 @@ module _ (w : World) (frame : Frame) where
 
   all_of_right : (k : Kind) (ms : List Expr) → AllOf w frame k ms → all_of k (map (typing w) ms) frame ≡ true
   all_of_right k [] h = refl
-  all_of_right k (m ∷ ms) h = both_true (is_kind (typing w m frame) k) (all_of k (map (typing w) ms) frame) (subst (λ o. is_kind o k ≡ true) (sym h.0) (same_self k)) (all_of_right k ms h.1)
+  all_of_right k (m ∷ ms) h = and_from (is_kind (typing w m frame) k) (all_of k (map (typing w) ms) frame) (subst (λ o. is_kind o k ≡ true) (sym h.0) (same_self k)) (all_of_right k ms h.1)
 
   pub choice_right : (cs xs : List Operand) → EachGood w frame cs → EachGood w frame xs → (length xs == length cs + 1) ≡ true → FormedAs w frame (choice_case cs xs)
   unfolding choice_case
@@ -210,12 +211,12 @@ module _ (w : World) (frame : Frame) where
       let many : length (map (typing w) r.1) ≡ length xs = length-map r.1 (typing w) ∙ a.0.1 in
       let tests : length (map (typing w) t.0) ≡ length cs = length-map t.0 (typing w) ∙ conditions.1 in
       let same = ap₂ (λ i j. i == j + 1) many tests ∙ count in
-      let right = both_true _ _ (both_true _ _ same (all_of_right bool t.0 conditions.0)) (all_of_right r.0 r.1 a.0.0) in
-      subst (λ z. Formed w frame z × HasKind want z.kind) (some_is (chosen r.0 t.0 r.1) m b.2) ((λ value. choice_typed w frame r.0 t.0 r.1 value right), a.1)
+      let right = and_from _ _ (and_from _ _ same (all_of_right bool t.0 conditions.0)) (all_of_right r.0 r.1 a.0.0) in
+      subst (λ z. Formed w frame z × HasKind want z.kind) (same_Some (chosen r.0 t.0 r.1) m b.2) ((λ value. choice_typed w frame r.0 t.0 r.1 value right), a.1)
 
   -- a Bit with values, beside others
   beside_is : (a : ℕ) (k j : Kind) → is_value w.shapes k ≡ true → beside (bit a) k ≡ Some j → (n : ℕ) × (k ≡ bit n) × (bit (counted (a + n)) ≡ j)
-  beside_is a (bit n) j value e = (n, refl, some_is (bit (counted (a + n))) j e)
+  beside_is a (bit n) j value e = (n, refl, same_Some (bit (counted (a + n))) j e)
   beside_is a _ j value e = absurd cc
 
   -- bits of these types, side by side, behind so many others
@@ -224,7 +225,7 @@ module _ (w : World) (frame : Frame) where
 
   joined_right : (a : ℕ) (xs : List Operand) (r : Kind × List Expr) → a ≤ 4294967295 → EachGood w frame xs → joined (bit a) xs ≡ Some r → Joined a r
   unfolding joined
-  joined_right a [] r few good e = subst (Joined a) (some_is (bit a, []) r e) (a, [], refl, refl, refl, widths_done a few)
+  joined_right a [] r few good e = subst (Joined a) (same_Some (bit a, []) r e) (a, [], refl, refl, refl, widths_done a few)
   joined_right a (x ∷ xs) r few good e =
       let t = taken (x.check None) _ r e in
       let b = taken (beside (bit a) t.0.kind) _ r t.2 in
@@ -233,15 +234,15 @@ module _ (w : World) (frame : Frame) where
       let h = beside_is a t.0.kind b.0 (value_typed w frame t.0.expr t.0.kind first) b.1 in
       let small : counted (a + h.0) ≤ 4294967295 = omega arith in
       let more = joined_right (counted (a + h.0)) xs q.0 small good.1 (ap (λ k. joined k xs) h.2 ∙ q.1) in
-      subst (Joined a) (some_is (q.0.0, t.0.expr ∷ q.0.1) r q.2)
+      subst (Joined a) (same_Some (q.0.0, t.0.expr ∷ q.0.1) r q.2)
       (more.0, bit h.0 ∷ more.1, more.2, each_more w frame t.0.expr q.0.1 (bit h.0) more.1 (first ∙ ap Some h.1) more.3, more.4, widths_turn a h.0 (widths_by w.shapes.enums w.shapes.structs more.1) ∙ more.5)
 
   concat_gives : (ks : List Kind) (n : ℕ) → all_bit ks ≡ true → widths_by w.shapes.enums w.shapes.structs ks ≡ Some n → is_value w.shapes (bit n) ≡ true → gives w.shapes (op.Concat ∷ []) ks (bit n) ≡ true
   concat_gives [] n bits width value =
-      let none : 0 ≡ n = some_is 0 n width in
-      let some : 1 ≤ n = leb-true 1 n (both (nat_le 1 n) (nat_le n 128) value).0 in
+      let none : 0 ≡ n = same_Some 0 n width in
+      let some : 1 ≤ n = leb-true 1 n (and_parts (nat_le 1 n) (nat_le n 128) value).0 in
       absurd (omega arith)
-  concat_gives (k ∷ ks) n bits width value = both_true _ _ bits (subst (λ o. is_width o n ≡ true) (sym width) (eq-eqb n n refl))
+  concat_gives (k ∷ ks) n bits width value = and_from _ _ bits (subst (λ o. is_width o n ≡ true) (sym width) (eq-eqb n n refl))
 
   pub concat_right : (xs : List Operand) → EachGood w frame xs → FormedAs w frame (concat_case xs)
   unfolding concat_case

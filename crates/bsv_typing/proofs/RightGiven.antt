@@ -2,7 +2,8 @@
 use Rattle.std.proofs.Common.{◌≡◌, ◌∙◌, ℕ, ◌+◌, ◌^◌, Bool, true, false, cond, ◌&&◌, List, [], ◌∷◌, Option, Some, None, refl, sym, ap, subst}
 use Rattle.std.specs.Prelude.{nat_lt, slice_get, codes}
 use Rattle.std.specs.Str.{bytes_eq}
-use Rattle.std.proofs.lemmas.Bool.{eq-eqb}
+use Rattle.std.proofs.lemmas.Bool.{eq-eqb, and_parts, and_from}
+use Rattle.std.proofs.lemmas.Option.{same_Some}
 use Rattle.bsv_ast.specs.declared.text.Literal.{Literal}
 use Rattle.bsv_types.specs.declared.operators.Op.{Op}
 use Rattle.bsv_types.specs.declared.operators.Op.TheVariants as op
@@ -11,7 +12,7 @@ use Rattle.bsv_types.specs.Kinds.{Kind, bit, down, bool, enum, maybe, integer, h
 use Rattle.bsv_types.specs.Shapes.{Shapes, is_value, has_bits, has_range, counted, plus, width_by, is_width}
 use Rattle.bsv_types.specs.Operators.{◌>>=◌, gives, is_kind, when, chained, same_kinds, is_packed}
 use Rattle.bsv_types.specs.Expressions.{World, Frame, typing, is_call, label_count}
-use Rattle.bsv_types.proofs.Same.{both, same_self}
+use Rattle.bsv_types.proofs.Same.{same_self}
 use Rattle.bsv_types.specs.GivenFunctions.{given_function}
 use Rattle.bsv_types.specs.declared.given.GivenFunction.{GivenFunction}
 use Rattle.bsv_types.specs.declared.given.GivenFunction.TheVariants as given
@@ -19,7 +20,7 @@ use Rattle.bsv_context.specs.Env.{Made, wanted, literal, applied, called, beside
 use Rattle.bsv_typing.specs.Operands.{Operand}
 use Rattle.bsv_typing.specs.Forms.{resized_case, no_narrower, pack_case, unpack_case, from_integer_case, valid_case, invalid_case, payload, is_valid_case, valid_value_case, from_maybe_case, arguments, function_case, sized_case}
 use Rattle.bsv_typing.specs.Typing.{literal_case, label_case, one_case, two_case, given_case, call_case}
-use Rattle.bsv_typing.proofs.Bound.{some_is, taken, tested, tested_step, checked, both_true, HasKind, wanted_is}
+use Rattle.bsv_typing.proofs.Bound.{taken, tested, tested_step, checked, HasKind, wanted_is}
 use Rattle.bsv_typing.proofs.Typings.{Each, value_typed, call_typed}
 use Rattle.bsv_typing.proofs.RightOperands.{strictly, Formed, FormedAs, Good, EachGood, wanted_formed, each_more}
 use Rattle.bsv_typing.proofs.RightForms.{literal_formed, number_right, sized_right, applied_formed}
@@ -42,21 +43,21 @@ packed_is : (w : World) (k j : Kind) → is_value w.shapes k ≡ true → packed
 packed_is w (down n) j value e = absurd cc
 packed_is w (maybe k) j value e =
     let t = taken (packed (strictly w) k) (beside (bit 1)) j e in
-    let held = bits_value w.shapes k (both (has_bits w.shapes k) (has_range (width_by w.shapes.enums w.shapes.structs (maybe k))) value).0 in
+    let held = bits_value w.shapes k (and_parts (has_bits w.shapes k) (has_range (width_by w.shapes.enums w.shapes.structs (maybe k))) value).0 in
     let h = packed_is w k t.0 held t.1 in
-    (counted (1 + h.0), some_is (bit (counted (1 + h.0))) j (ap (beside (bit 1)) h.1 ∙ t.2), ap (plus (Some 1)) h.2)
+    (counted (1 + h.0), same_Some (bit (counted (1 + h.0))) j (ap (beside (bit 1)) h.1 ∙ t.2), ap (plus (Some 1)) h.2)
 packed_is w k j value e =
     let t = taken (width_by w.shapes.enums w.shapes.structs k) (λ n. Some (bit n)) j e in
-    (t.0, some_is (bit t.0) j t.2, t.1)
+    (t.0, same_Some (bit t.0) j t.2, t.1)
 
 packs : (w : World) (k j : Kind) → is_value w.shapes k ≡ true → packed (strictly w) k ≡ Some j → (has_bits w.shapes k && is_packed w.shapes k j) ≡ true
 packs w k j value e =
     let h = packed_is w k j value e in
-    both_true _ _ (bits_of w.shapes k h.0 value h.2) (subst (λ i. is_packed w.shapes k i ≡ true) h.1 (subst (λ o. is_width o h.0 ≡ true) (sym h.2) (eq-eqb h.0 h.0 refl)))
+    and_from _ _ (bits_of w.shapes k h.0 value h.2) (subst (λ i. is_packed w.shapes k i ≡ true) h.1 (subst (λ o. is_width o h.0 ≡ true) (sym h.2) (eq-eqb h.0 h.0 refl)))
 
 pub same_kinds_self : (ks : List Kind) → same_kinds ks ks ≡ true
 same_kinds_self [] = refl
-same_kinds_self (k ∷ ks) = both_true _ _ (same_self k) (same_kinds_self ks)
+same_kinds_self (k ∷ ks) = and_from _ _ (same_self k) (same_kinds_self ks)
 
 module _ (w : World) (frame : Frame) where
   -- ---- literals and labels
@@ -97,16 +98,16 @@ module _ (w : World) (frame : Frame) where
   unfolding valid_case
   valid_right x good (Some (maybe k)) m e =
       let t = taken (x.check (Some k)) _ m e in
-      subst (λ z. Formed w frame z × (z.kind ≡ maybe k)) (some_is _ m t.2) (one_formed (maybe k) k op.Valid t.0.expr (as_kind x k t.0 good t.1) (same_self k), refl)
+      subst (λ z. Formed w frame z × (z.kind ≡ maybe k)) (same_Some _ m t.2) (one_formed (maybe k) k op.Valid t.0.expr (as_kind x k t.0 good t.1) (same_self k), refl)
   valid_right x good None m e =
       let t = taken (x.check None) _ m e in
       let n = taken (packed (strictly w) t.0.kind) _ m t.2 in
-      subst (λ z. Formed w frame z × HasKind None z.kind) (some_is _ m n.2) (one_formed (maybe t.0.kind) t.0.kind op.Valid t.0.expr (good None t.0 t.1).0 (same_self t.0.kind), tt)
+      subst (λ z. Formed w frame z × HasKind None z.kind) (same_Some _ m n.2) (one_formed (maybe t.0.kind) t.0.kind op.Valid t.0.expr (good None t.0 t.1).0 (same_self t.0.kind), tt)
   valid_right x good _ m e = absurd cc
 
   pub invalid_right : FormedAs w frame invalid_case
   unfolding invalid_case
-  invalid_right (Some (maybe k)) m e = subst (λ z. Formed w frame z × (z.kind ≡ maybe k)) (some_is _ m e) (applied_formed w frame (maybe k) (op.Invalid ∷ []) [] [] refl refl, refl)
+  invalid_right (Some (maybe k)) m e = subst (λ z. Formed w frame z × (z.kind ≡ maybe k)) (same_Some _ m e) (applied_formed w frame (maybe k) (op.Invalid ∷ []) [] [] refl refl, refl)
   invalid_right _ m e = absurd cc
 
   is_valid_right : (x : Operand) → Good w frame x → FormedAs w frame (is_valid_case x)
@@ -164,7 +165,7 @@ module _ (w : World) (frame : Frame) where
   unpack_right x good (Some k) m e =
       let b = taken (packed (strictly w) k) _ m e in
       let t = taken (x.check (Some b.0)) _ m b.2 in
-      subst (λ z. Formed w frame z × (z.kind ≡ k)) (some_is _ m t.2)
+      subst (λ z. Formed w frame z × (z.kind ≡ k)) (same_Some _ m t.2)
       ((λ value. one_formed k b.0 op.Unpack t.0.expr (as_kind x b.0 t.0 good t.1) (packs w k b.0 value b.1) value), refl)
 
   from_integer_right : (x : Operand) → Good w frame x → FormedAs w frame (from_integer_case x)
@@ -173,17 +174,17 @@ module _ (w : World) (frame : Frame) where
   from_integer_right x good (Some k) m e =
       let h = tested_step (has_family k) (x.check (Some integer) >>= λ t. Some (applied k (op.FromInteger ∷ []) (t.expr ∷ []))) m e in
       let t = taken (x.check (Some integer)) _ m h.1 in
-      subst (λ z. Formed w frame z × (z.kind ≡ k)) (some_is _ m t.2) (one_formed k integer op.FromInteger t.0.expr (as_kind x integer t.0 good t.1) h.0, refl)
+      subst (λ z. Formed w frame z × (z.kind ≡ k)) (same_Some _ m t.2) (one_formed k integer op.FromInteger t.0.expr (as_kind x integer t.0 good t.1) h.0, refl)
 
   -- ---- calls
 
   pub arguments_right : (ks : List Kind) (xs : List Operand) (ms : List Expr) → EachGood w frame xs → arguments ks xs ≡ Some ms → Each w frame ms ks
   unfolding arguments
-  arguments_right [] [] ms good e = subst (λ zs. Each w frame zs []) (some_is [] ms e) refl
+  arguments_right [] [] ms good e = subst (λ zs. Each w frame zs []) (same_Some [] ms e) refl
   arguments_right (k ∷ ks) (x ∷ xs) ms good e =
       let t = taken (x.check (Some k)) _ ms e in
       let r = taken (arguments ks xs) _ ms t.2 in
-      subst (λ zs. Each w frame zs (k ∷ ks)) (some_is (t.0.expr ∷ r.0) ms r.2) (each_more w frame t.0.expr r.0 k ks (as_kind x k t.0 good.0 t.1) (arguments_right ks xs r.0 good.1 r.1))
+      subst (λ zs. Each w frame zs (k ∷ ks)) (same_Some (t.0.expr ∷ r.0) ms r.2) (each_more w frame t.0.expr r.0 k ks (as_kind x k t.0 good.0 t.1) (arguments_right ks xs r.0 good.1 r.1))
   arguments_right [] (x ∷ xs) ms good e = absurd cc
   arguments_right (k ∷ ks) [] ms good e = absurd cc
 
@@ -192,7 +193,7 @@ module _ (w : World) (frame : Frame) where
   FunctionRight function = (f : ℕ × List Kind × Kind) → function ≡ Some f → (slice_get w.functions f.0 ≡ Some (f.1, f.2)) × (is_value w.shapes f.2 ≡ true)
 
   called_formed : (f : ℕ × List Kind × Kind) (ms : List Expr) → slice_get w.functions f.0 ≡ Some (f.1, f.2) → Each w frame ms f.1 → Formed w frame (called f.2 f.0 ms)
-  called_formed f ms is each value = call_typed w frame f.2 f.0 ms f.1 value each (subst (λ o. is_call o f.1 f.2 ≡ true) (sym is) (both_true _ _ (same_kinds_self f.1) (same_self f.2)))
+  called_formed f ms is each value = call_typed w frame f.2 f.0 ms f.1 value each (subst (λ o. is_call o f.1 f.2 ≡ true) (sym is) (and_from _ _ (same_kinds_self f.1) (same_self f.2)))
 
   -- its result has a type of values
   pub function_typed : (function : Option (ℕ × List Kind × Kind)) (xs : List Operand) (want : Option Kind) (m : Made) → FunctionRight function → EachGood w frame xs → function_case function xs want ≡ Some m →

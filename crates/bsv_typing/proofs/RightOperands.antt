@@ -1,6 +1,7 @@
 -- Operands that are in order, and those that agree.
 use Rattle.std.proofs.Common.{◌≡◌, ◌∙◌, ℕ, zero, suc, ◌+◌, Bool, true, false, cond, List, [], ◌∷◌, ◌++◌, map, take, drop, length, Option, Some, None, refl, ap, ap₂, subst, arith}
 use Rattle.std.proofs.lemmas.List.{length-append}
+use Rattle.std.proofs.lemmas.Option.{same_Some}
 use Rattle.bsv_types.specs.declared.expressions.Expr.{Expr}
 use Rattle.bsv_types.specs.Kinds.{Kind, integer}
 use Rattle.bsv_types.specs.Shapes.{is_value}
@@ -10,7 +11,7 @@ use Rattle.bsv_context.specs.Env.{Made, wanted, Limits, has_bits, is_typed_value
 use Rattle.bsv_typing.specs.Operands.{Check, Operand, all_as, are_literals, are_open, open_front, agreed, beside, around, by_first, agree_with_result, agree}
 use Rattle.bsv_typing.specs.Typing.{ordered}
 use Rattle.bsv_typing.specs.Laws.{Typed}
-use Rattle.bsv_typing.proofs.Bound.{some_is, taken, tested_step, HasKind, wanted_is}
+use Rattle.bsv_typing.proofs.Bound.{taken, tested_step, HasKind, wanted_is}
 use Rattle.bsv_typing.proofs.Typings.{Each}
 
 -- the types of a world, where they are asked to be in range
@@ -49,7 +50,7 @@ module _ (w : World) (frame : Frame) where
   unfolding in_order
   ordered_typed t m formed e =
       let h = tested_step (is_typed_value (strictly w) t.kind) (Some t) m e in
-      let is = some_is t m h.1 in
+      let is = same_Some t m h.1 in
       (subst (Typed w frame) is (formed (strict_value w t.kind h.0)), is)
 
   pub ordered_good : (check : Check) → FormedAs check → TypedAs (ordered (strictly w) check)
@@ -75,11 +76,11 @@ module _ (w : World) (frame : Frame) where
   each_of k (x ∷ xs) h = each_more x xs k (alike k xs) h.0 (each_of k xs h.1)
 
   pub each_joined : (xs ys : List Expr) (ks js : List Kind) → Each w frame xs ks → Each w frame ys js → Each w frame (xs ++ ys) (ks ++ js)
-  each_joined [] ys ks js h g = subst (λ is. Each w frame ys (is ++ js)) (some_is [] ks h) g
+  each_joined [] ys ks js h g = subst (λ is. Each w frame ys (is ++ js)) (same_Some [] ks h) g
   each_joined (x ∷ xs) ys ks js h g =
       let t = taken (typing w x frame) _ ks h in
       let r = taken (all_typed (map (typing w) xs) frame) _ ks t.2 in
-      subst (λ is. Each w frame (x ∷ xs ++ ys) (is ++ js)) (some_is (t.0 ∷ r.0) ks r.2) (each_more x (xs ++ ys) t.0 (r.0 ++ js) t.1 (each_joined xs ys r.0 js r.1 g))
+      subst (λ is. Each w frame (x ∷ xs ++ ys) (is ++ js)) (same_Some (t.0 ∷ r.0) ks r.2) (each_more x (xs ++ ys) t.0 (r.0 ++ js) t.1 (each_joined xs ys r.0 js r.1 g))
 
   of_append : (k : Kind) (xs ys : List Expr) → AllOf k xs → AllOf k ys → AllOf k (xs ++ ys)
   of_append k [] ys h g = g
@@ -91,13 +92,13 @@ module _ (w : World) (frame : Frame) where
 
   pub all_as_right : (k : Kind) (xs : List Operand) (ms : List Expr) → EachGood xs → all_as k xs ≡ Some ms → AllFrom k ms xs
   unfolding all_as
-  all_as_right k [] ms good e = subst (λ zs. AllFrom k zs []) (some_is [] ms e) (tt, refl)
+  all_as_right k [] ms good e = subst (λ zs. AllFrom k zs []) (same_Some [] ms e) (tt, refl)
   all_as_right k (x ∷ xs) ms good e =
       let t = taken (x.check (Some k)) _ ms e in
       let r = taken (all_as k xs) _ ms t.2 in
       let h = good.0 (Some k) t.0 t.1 in
       let more = all_as_right k xs r.0 good.1 r.1 in
-      subst (λ zs. AllFrom k zs (x ∷ xs)) (some_is (t.0.expr ∷ r.0) ms r.2) ((h.0 ∙ ap Some h.1, more.0), ap suc more.1)
+      subst (λ zs. AllFrom k zs (x ∷ xs)) (same_Some (t.0.expr ∷ r.0) ms r.2) ((h.0 ∙ ap Some h.1, more.0), ap suc more.1)
 
   abbrev pub AgreedRight : List Operand → Kind × List Expr → Type 0
   AgreedRight xs r = AllFrom r.0 r.1 xs
@@ -106,11 +107,11 @@ module _ (w : World) (frame : Frame) where
   agreed_right k xs r good e = by (all_as k xs) refl e where
     by : (o : Option (List Expr)) → all_as k xs ≡ o → agreed k o ≡ Some r → AgreedRight xs r × (r.0 ≡ k)
     by None is at = absurd cc
-    by (Some ms) is at = subst (λ q. AgreedRight xs q × (q.0 ≡ k)) (some_is (k, ms) r at) (all_as_right k xs ms good is, refl)
+    by (Some ms) is at = subst (λ q. AgreedRight xs q × (q.0 ≡ k)) (same_Some (k, ms) r at) (all_as_right k xs ms good is, refl)
 
   beside_is : (k : Kind) (front : Option (List Expr)) (x : Expr) (rest : Option (List Expr)) (r : Kind × List Expr) → beside k front x rest ≡ Some r →
       (fs : List Expr) × (rs : List Expr) × (front ≡ Some fs) × (rest ≡ Some rs) × ((k, fs ++ x ∷ rs) ≡ r)
-  beside_is k (Some fs) x (Some rs) r e = (fs, rs, refl, refl, some_is (k, fs ++ x ∷ rs) r e)
+  beside_is k (Some fs) x (Some rs) r e = (fs, rs, refl, refl, same_Some (k, fs ++ x ∷ rs) r e)
   beside_is k _ x _ r e = absurd cc
 
   around_right : (front rest : List Operand) (r : Kind × List Expr) → EachGood front → EachGood rest → around front rest ≡ Some r → AllOf r.0 r.1 × (length r.1 ≡ length front + length rest)

@@ -1,15 +1,17 @@
 -- What names and suffixes give is in order.
-use Rattle.std.proofs.Common.{◌≡◌, ◌∙◌, ℕ, ◌+◌, ◌-◌, ◌<◌, ◌≤◌, suc, Bool, true, false, cond, ◌||◌, ◌&&◌, List, [], ◌∷◌, Option, Some, None, refl, sym, ap, subst, arith}
+use Rattle.std.proofs.Common.{◌≡◌, ◌∙◌, ℕ, ◌+◌, ◌-◌, ◌<◌, ◌≤◌, suc, Bool, true, false, cond, ◌&&◌, List, [], ◌∷◌, Option, Some, None, refl, sym, ap, subst, arith}
 use Rattle.std.specs.Prelude.{nat_lt, nat_le, slice_get, codes}
 use Rattle.std.specs.Str.{bytes_eq}
-use Rattle.std.proofs.lemmas.Bool.{ltb-true, leb-true}
+use Rattle.std.proofs.lemmas.Bool.{ltb-true, leb-true, and_parts, and_from}
+use Rattle.std.proofs.lemmas.Option.{same_Some}
+use Rattle.bsv_lemmas.proofs.Truths.{from_or_false}
 use Rattle.bsv_types.specs.declared.types.PartTy.TheVariants as part_type
 use Rattle.bsv_types.specs.Kinds.{Kind, bit, bool, integer, interface, part, bare, is_interface}
 use Rattle.bsv_types.specs.Shapes.{Shapes, is_value, is_instance, has_bits, counted}
 use Rattle.bsv_types.specs.Operators.{slice_kind}
 use Rattle.bsv_types.specs.Methods.{Signature, Effect, value, action, action_value, methods}
 use Rattle.bsv_types.specs.Expressions.{one, World, Frame, place_typing, many_at, is_value_call, gives_value, method_at}
-use Rattle.bsv_types.proofs.Same.{both, same_self}
+use Rattle.bsv_types.proofs.Same.{same_self}
 use Rattle.bsv_context.specs.Env.{Made, below, in_order}
 use Rattle.bsv_typing.specs.Operands.{Operand}
 use Rattle.bsv_typing.specs.Forms.{arguments}
@@ -17,7 +19,7 @@ use Rattle.bsv_context.specs.Methods.{method_from, method_named, value_of}
 use Rattle.bsv_typing.specs.Places.{Instance, Front, whole, instance, array, place_of, call_of, method_call, is_read, read, value_at, slice_type, slice_fits}
 use Rattle.bsv_typing.specs.Typing.{ordered_front}
 use Rattle.bsv_typing.specs.Laws.{Typed, slot_right}
-use Rattle.bsv_typing.proofs.Bound.{some_is, taken, tested_step, both_true}
+use Rattle.bsv_typing.proofs.Bound.{taken, tested_step}
 use Rattle.bsv_typing.proofs.Typings.{when_true, method_typed}
 use Rattle.bsv_typing.proofs.RightOperands.{strictly, Formed, EachGood, ordered_typed}
 use Rattle.bsv_typing.proofs.RightGiven.{bits_value, arguments_right, same_kinds_self}
@@ -30,7 +32,7 @@ method_from_is n name (m ∷ ms) q e = by (bytes_eq name m.name) (method_from_is
   by : (b : Bool) → (method_from (n + 1) name ms ≡ Some q → (i : ℕ) × (q.0 ≡ n + 1 + i) × (slice_get ms i ≡ Some q.1)) →
       cond b (Some (n, m)) (method_from (n + 1) name ms) ≡ Some q → (i : ℕ) × (q.0 ≡ n + i) × (slice_get (m ∷ ms) i ≡ Some q.1)
   by true later at =
-      let is = some_is (n, m) q at in
+      let is = same_Some (n, m) q at in
       let first : n ≡ n + 0 = omega arith in
       (0, sym (ap (λ (r : ℕ × Signature). r.0) is) ∙ first, ap (λ (r : ℕ × Signature). Some r.1) is)
   by false later at =
@@ -47,7 +49,7 @@ method_is w k name q e =
     ap (slice_get (methods w.shapes k)) (h.1 ∙ first) ∙ h.2
 
 value_of_is : (e : Effect) (k : Kind) → value_of e ≡ Some k → value k ≡ e
-value_of_is (value j) k is = ap value (sym (some_is j k is))
+value_of_is (value j) k is = ap value (sym (same_Some j k is))
 value_of_is action k is = absurd cc
 value_of_is (action_value j) k is = absurd cc
 
@@ -55,21 +57,17 @@ value_of_is (action_value j) k is = absurd cc
 read_value : (w : World) (k j : Kind) (q : ℕ × Signature) → is_read k ≡ true → is_instance w.shapes k ≡ true → method_named (strictly w) k (codes "_read") ≡ Some q → value_of q.1.effect ≡ Some j → is_value w.shapes j ≡ true
 unfolding method_named
 read_value w (part part_type.Reg k) j q reads right named gives =
-    let is = ap (λ (r : ℕ × Signature). value_of r.1.effect) (some_is _ q named) ∙ gives in
-    subst (λ i. is_value w.shapes i ≡ true) (some_is k j is) (bits_value w.shapes k right)
+    let is = ap (λ (r : ℕ × Signature). value_of r.1.effect) (same_Some _ q named) ∙ gives in
+    subst (λ i. is_value w.shapes i ≡ true) (same_Some k j is) (bits_value w.shapes k right)
 read_value w (part part_type.Wire k) j q reads right named gives =
-    let is = ap (λ (r : ℕ × Signature). value_of r.1.effect) (some_is _ q named) ∙ gives in
-    subst (λ i. is_value w.shapes i ≡ true) (some_is k j is) (bits_value w.shapes k right)
+    let is = ap (λ (r : ℕ × Signature). value_of r.1.effect) (same_Some _ q named) ∙ gives in
+    subst (λ i. is_value w.shapes i ≡ true) (same_Some k j is) (bits_value w.shapes k right)
 read_value w (bare part_type.PulseWire) j q reads right named gives =
-    let is = ap (λ (r : ℕ × Signature). value_of r.1.effect) (some_is _ q named) ∙ gives in
-    subst (λ i. is_value w.shapes i ≡ true) (some_is bool j is) refl
+    let is = ap (λ (r : ℕ × Signature). value_of r.1.effect) (same_Some _ q named) ∙ gives in
+    subst (λ i. is_value w.shapes i ≡ true) (same_Some bool j is) refl
 read_value w _ j q reads right named gives = absurd cc
 
 -- ---- slots
-
-or_false : (b : Bool) → (b || false) ≡ true → b ≡ true
-or_false true e = refl
-or_false false e = e
 
 pub instance_slot : (s : Shapes) (k : Kind) → is_interface k ≡ true → slot_right s (one k) ≡ true → is_instance s k ≡ true
 instance_slot s (interface n) face right = right
@@ -82,16 +80,16 @@ value_slot s (interface n) face right = absurd cc
 value_slot s (part p k) face right = absurd cc
 value_slot s (bare p) face right = absurd cc
 value_slot s integer face right = refl
-value_slot s k face right = or_false _ right
+value_slot s k face right = from_or_false _ right
 
 -- ---- the bits of a slice
 
 pub slice_right : (w : World) (n h l : ℕ) → is_value w.shapes (bit n) ≡ true → slice_fits (strictly w) h l (bit n) ≡ true → slice_kind (counted h) (counted l) (bit n) ≡ Some (slice_type h l)
 slice_right w n h l range fits =
-    let few : n ≤ 128 = leb-true n 128 (both (nat_le 1 n) (nat_le n 128) range).1 in
-    let order = (both (nat_le l h) (nat_lt h n) fits).0 in
+    let few : n ≤ 128 = leb-true n 128 (and_parts (nat_le 1 n) (nat_le n 128) range).1 in
+    let order = (and_parts (nat_le l h) (nat_lt h n) fits).0 in
     let low : l ≤ h = leb-true l h order in
-    let high : h < n = ltb-true h n (both (nat_le l h) (nat_lt h n) fits).1 in
+    let high : h < n = ltb-true h n (and_parts (nat_le l h) (nat_lt h n) fits).1 in
     let same_h : counted h ≡ h = omega arith in
     let same_l : counted l ≡ l = omega arith in
     let wide : counted (h - l + 1) ≡ h - l + 1 = omega arith in
@@ -119,9 +117,9 @@ module _ (w : World) (frame : Frame) where
   front_ordered None f formed e = absurd cc
   front_ordered (Some (whole m)) f formed e =
       let t = taken (in_order (strictly w) m) _ f e in
-      subst GoodFront (some_is (whole t.0) f t.2) (ordered_typed w frame m t.0 (formed (whole m) refl) t.1).0
-  front_ordered (Some (instance i)) f formed e = subst GoodFront (some_is (instance i) f e) (formed (instance i) refl)
-  front_ordered (Some (array level k)) f formed e = subst GoodFront (some_is (array level k) f e) (formed (array level k) refl)
+      subst GoodFront (same_Some (whole t.0) f t.2) (ordered_typed w frame m t.0 (formed (whole m) refl) t.1).0
+  front_ordered (Some (instance i)) f formed e = subst GoodFront (same_Some (instance i) f e) (formed (instance i) refl)
+  front_ordered (Some (array level k)) f formed e = subst GoodFront (same_Some (array level k) f e) (formed (array level k) refl)
 
   -- ---- calls and reads
 
@@ -133,8 +131,8 @@ module _ (w : World) (frame : Frame) where
       let a = taken (arguments q.1.params xs) _ m v.2 in
       let gives = ap (λ f. gives_value f k) (sym (value_of_is q.1.effect k v.1)) ∙ same_self k in
       let found = ap (λ o. method_at w.shapes o q.0) here.0 ∙ is in
-      let called = ap (λ o. is_value_call o q.1.params k) found ∙ both_true _ _ (same_kinds_self q.1.params) gives in
-      subst (Formed w frame) (some_is (method_call i q.0 k a.0) m a.2)
+      let called = ap (λ o. is_value_call o q.1.params k) found ∙ and_from _ _ (same_kinds_self q.1.params) gives in
+      subst (Formed w frame) (same_Some (method_call i q.0 k a.0) m a.2)
       (λ right. method_typed w frame k (place_of i) q.0 a.0 q.1.params right (arguments_right w frame q.1.params xs a.0 good a.1) called)
 
   pub read_typed : (i : Instance) (m : Made) → GoodInstance i → read (strictly w) i ≡ Some m → Typed w frame m
@@ -145,10 +143,10 @@ module _ (w : World) (frame : Frame) where
       let v = taken (value_of q.0.1.effect) _ m q.2 in
       let a = taken (arguments q.0.1.params []) _ m v.2 in
       let right = read_value w i.kind v.0 q.0 h.0 here.1 q.1 v.1 in
-      call_formed i q.0 [] m here (method_is w i.kind (codes "_read") q.0 q.1) tt q.2 (subst (λ z. is_value w.shapes z.kind ≡ true) (some_is (method_call i q.0.0 v.0 a.0) m a.2) right)
+      call_formed i q.0 [] m here (method_is w i.kind (codes "_read") q.0 q.1) tt q.2 (subst (λ z. is_value w.shapes z.kind ≡ true) (same_Some (method_call i q.0.0 v.0 a.0) m a.2) right)
 
   pub value_at_typed : (f : Front) (m : Made) → GoodFront f → value_at (strictly w) f ≡ Some m → Typed w frame m
   unfolding value_at
-  value_at_typed (whole t) m good e = subst (Typed w frame) (some_is t m e) good
+  value_at_typed (whole t) m good e = subst (Typed w frame) (same_Some t m e) good
   value_at_typed (instance i) m good e = read_typed i m good e
   value_at_typed (array level k) m good e = absurd cc

@@ -3,8 +3,10 @@ use Rattle.std.proofs.Common.{◌≡◌, ◌∙◌, ℕ, ◌+◌, ◌<◌, ◌�
 use Rattle.std.specs.Prelude.{◌==◌, nat_le, slice_get}
 use Rattle.std.specs.List.{list_any}
 use Rattle.std.specs.Str.{bytes_eq}
-use Rattle.std.proofs.lemmas.Bool.{eqb-true, eq-eqb, ltb-true, leb-true}
+use Rattle.std.proofs.lemmas.Bool.{eqb-true, eq-eqb, ltb-true, leb-true, and_parts, and_from, not_from_false}
 use Rattle.std.proofs.lemmas.List.{length-map}
+use Rattle.std.proofs.lemmas.Option.{same_Some}
+use Rattle.bsv_lemmas.proofs.Places.{item_there}
 use Rattle.bsv_types.specs.declared.operators.Op.TheVariants as op
 use Rattle.bsv_types.specs.declared.definitions.Field.{Field}
 use Rattle.bsv_types.specs.declared.definitions.Struct.{Struct}
@@ -15,11 +17,11 @@ use Rattle.bsv_types.specs.Shapes.{Shapes, widths_by, is_width, in_range}
 use Rattle.bsv_types.specs.Operators.{◌>>=◌, gives, is_kind, field_kind, are_fields, is_set, sets_once}
 use Rattle.bsv_types.specs.Programs.{each_at, struct_right}
 use Rattle.bsv_types.specs.Expressions.{World, Frame, typing}
-use Rattle.bsv_types.proofs.Same.{both, same_self}
+use Rattle.bsv_types.proofs.Same.{same_self}
 use Rattle.bsv_typing.specs.Operands.{Operand}
 use Rattle.bsv_context.specs.Env.{applied}
 use Rattle.bsv_typing.specs.Forms.{field_from, field_named, is_among, field_values, field_count, construct_case}
-use Rattle.bsv_typing.proofs.Bound.{some_is, taken, tested_step, failed_step, both_true}
+use Rattle.bsv_typing.proofs.Bound.{taken, tested_step, failed_step}
 use Rattle.bsv_typing.proofs.Typings.{Each, apply_typed}
 use Rattle.bsv_typing.proofs.RightOperands.{strictly, FormedAs, Good, wanted_formed, each_more}
 
@@ -34,7 +36,7 @@ field_from_is n name (d ∷ ds) f e = by (bytes_eq name d.name) (field_from_is (
   by : (b : Bool) → (field_from (n + 1) name ds ≡ Some f → (i : ℕ) × (f.0 ≡ n + 1 + i) × (kind_at ds i ≡ Some f.1)) →
       cond b (Some (n, kind d.ty)) (field_from (n + 1) name ds) ≡ Some f → (i : ℕ) × (f.0 ≡ n + i) × (kind_at (d ∷ ds) i ≡ Some f.1)
   by true later at =
-      let is = some_is (n, kind d.ty) f at in
+      let is = same_Some (n, kind d.ty) f at in
       let first : n ≡ n + 0 = omega arith in
       (0, sym (ap (λ (q : ℕ × Kind). q.0) is) ∙ first, ap (λ (q : ℕ × Kind). Some q.1) is)
   by false later at =
@@ -86,38 +88,28 @@ set_once given (n ∷ ns) f h = neither (f == n) (list_any (is_set f) (map op.Se
   neither true b p q = absurd cc
   neither false b p q = q
 
-not_true : (b : Bool) → b ≡ false → not b ≡ true
-not_true true e = absurd cc
-not_true false e = refl
-
 -- ---- a struct in order has fields
 
 no_fields : (s : Shapes) (fs : List Field) (width : ℕ) → length fs ≡ 0 → in_range width ≡ true → is_width (widths_by s.enums s.structs (field_kinds fs)) width ≡ true → ⊥
 no_fields s [] width none range is =
     let zero_wide : 0 ≡ width = eqb-true 0 width is in
-    let some : 1 ≤ width = leb-true 1 width (both (nat_le 1 width) (nat_le width 128) range).0 in
+    let some : 1 ≤ width = leb-true 1 width (and_parts (nat_le 1 width) (nat_le width 128) range).0 in
     omega arith
 no_fields s (f ∷ fs) width none range is = omega arith
 
 has_fields : (s : Shapes) (first : ℕ) (ts : List Struct) (k : ℕ) (t : Struct) → each_at (struct_right s) first ts ≡ true → slice_get ts k ≡ Some t → length t.fields ≡ 0 → ⊥
 has_fields s first [] k t all is none = absurd cc
 has_fields s first (u ∷ us) zero t all is none =
-    let right = (both _ _ all).0 in
-    let h = both _ _ right in
-    let same = some_is u t is in
-    no_fields s u.fields u.width (ap (λ (v : Struct). length v.fields) same ∙ none) (both _ _ h.0).1 h.1
-has_fields s first (u ∷ us) (suc k) t all is none = has_fields s (first + 1) us k t (both _ _ all).1 is none
+    let right = (and_parts _ _ all).0 in
+    let h = and_parts _ _ right in
+    let same = same_Some u t is in
+    no_fields s u.fields u.width (ap (λ (v : Struct). length v.fields) same ∙ none) (and_parts _ _ h.0).1 h.1
+has_fields s first (u ∷ us) (suc k) t all is none = has_fields s (first + 1) us k t (and_parts _ _ all).1 is none
 
 not_there : {A : Type 0} (xs : List A) (k : ℕ) → slice_get xs k ≡ None → k < length xs → ⊥
 not_there [] k e h = omega arith
 not_there (x ∷ xs) zero e h = absurd cc
 not_there (x ∷ xs) (suc k) e h = not_there xs k e (omega arith)
-
-there : {A : Type 0} (xs : List A) (k : ℕ) → k < length xs → (x : A) × (slice_get xs k ≡ Some x)
-there {A = A} xs k h = by (slice_get xs k) refl where
-  by : (o : Option A) → slice_get xs k ≡ o → (x : A) × (slice_get xs k ≡ Some x)
-  by None e = absurd (not_there xs k e h)
-  by (Some x) e = (x, e)
 
 count_is : (w : World) (k : ℕ) (t : Struct) → slice_get w.shapes.structs k ≡ Some t → field_count (strictly w) k ≡ length t.fields
 unfolding field_count
@@ -130,7 +122,7 @@ constructed w k [] ks t right is many fields once = absurd (has_fields w.shapes 
 constructed w k (n ∷ ns) ks t right is many fields once =
     let count = length-map (n ∷ ns) op.Set ∙ many in
     let whole = ap (λ (o : Option Struct). is_width (o >>= λ s. Some (length s.fields)) (length (map op.Set (n ∷ ns)))) is ∙ eq-eqb (length t.fields) (length (map op.Set (n ∷ ns))) (sym count) in
-    both_true _ _ (both_true _ _ fields once) whole
+    and_from _ _ (and_from _ _ fields once) whole
 
 module _ (w : World) (frame : Frame) where
   abbrev pub FieldsGood : List (List ℕ × Operand) → Type 0
@@ -150,7 +142,7 @@ module _ (w : World) (frame : Frame) where
 
   values_right : (k : Kind) (given : List ℕ) (xs : List (List ℕ × Operand)) (r : List ℕ × List Expr) → FieldsGood xs → field_values (strictly w) k given xs ≡ Some r → Values k given (length xs) r
   unfolding field_values
-  values_right k given [] r good e = subst (Values k given 0) (some_is (given, []) r e)
+  values_right k given [] r good e = subst (Values k given 0) (same_Some (given, []) r e)
       (record { numbers = []; kinds = []; behind = sym (append-nil given); typed = refl; fields = refl; once = refl; fresh = tt; many = refl })
   values_right k given (x ∷ xs) r good e =
       let f = taken (field_named (strictly w) k x.0) _ r e in
@@ -161,14 +153,14 @@ module _ (w : World) (frame : Frame) where
       let v = values_right k (given ++ n ∷ []) xs q.0 good.1 q.1 in
       let h = good.0 (Some f.0.1) t.0 t.1 in
       let is_field = ap (λ (o : Option Kind). is_kind o f.0.1) (field_is w k x.0 f.0 f.1) ∙ same_self f.0.1 in
-      subst (Values k given (suc (length xs))) (some_is (q.0.0, t.0.expr ∷ q.0.1) r q.2)
+      subst (Values k given (suc (length xs))) (same_Some (q.0.0, t.0.expr ∷ q.0.1) r q.2)
       (record {
         numbers = n ∷ v.numbers;
         kinds = f.0.1 ∷ v.kinds;
         behind = v.behind ∙ append_assoc given (n ∷ []) v.numbers;
         typed = each_more w frame t.0.expr q.0.1 f.0.1 v.kinds (h.0 ∙ ap Some h.1) v.typed;
-        fields = both_true (is_kind (field_kind w.shapes k n) f.0.1) (are_fields w.shapes k (map op.Set v.numbers) v.kinds) is_field v.fields;
-        once = both_true (not (list_any (is_set n) (map op.Set v.numbers))) (sets_once (map op.Set v.numbers)) (not_true (list_any (is_set n) (map op.Set v.numbers)) (set_once given v.numbers n v.fresh)) v.once;
+        fields = and_from (is_kind (field_kind w.shapes k n) f.0.1) (are_fields w.shapes k (map op.Set v.numbers) v.kinds) is_field v.fields;
+        once = and_from (not (list_any (is_set n) (map op.Set v.numbers))) (sets_once (map op.Set v.numbers)) (not_from_false (list_any (is_set n) (map op.Set v.numbers)) (set_once given v.numbers n v.fresh)) v.once;
         fresh = (b.0, fresh_less given v.numbers n v.fresh);
         many = ap suc v.many;
       })
@@ -184,7 +176,7 @@ module _ (w : World) (frame : Frame) where
       let h = tested_step (length given == field_count (strictly w) k) _ m q.2 in
       let v = values_right (struct k) [] given r good q.1 in
       wanted_formed w frame want (applied (struct k) (map op.Set r.0) r.1) m h.1 (λ value.
-      let t = there w.shapes.structs k (ltb-true k (length w.shapes.structs) value) in
+      let t = item_there w.shapes.structs k (ltb-true k (length w.shapes.structs) value) in
       let many = v.many ∙ eqb-true (length given) (field_count (strictly w) k) h.0 ∙ count_is w k t.0 t.1 in
       subst (λ ns. typing w (applied (struct k) (map op.Set ns) r.1).expr frame ≡ Some (struct k)) (sym v.behind)
       (apply_typed w frame (struct k) (map op.Set v.numbers) r.1 v.kinds value v.typed (constructed w k v.numbers v.kinds t.0 right t.1 many v.fields v.once)))

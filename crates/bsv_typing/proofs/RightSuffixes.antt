@@ -1,6 +1,8 @@
 -- Names, and suffixes behind what is in order, give what is in order.
 use Rattle.std.proofs.Common.{◌≡◌, ◌∙◌, ℕ, Bool, true, false, cond, ◌&&◌, List, [], ◌∷◌, Option, Some, None, refl, sym, ap, subst}
 use Rattle.std.specs.Prelude.{slice_get}
+use Rattle.std.proofs.lemmas.Option.{same_Some as some_is}
+use Rattle.std.proofs.lemmas.Bool.{and_from}
 use Rattle.bsv_types.specs.declared.operators.Op.TheVariants as op
 use Rattle.bsv_types.specs.declared.expressions.Expr.{Expr, Variable}
 use Rattle.bsv_types.specs.declared.expressions.Place.{fold-roll-Place}
@@ -18,7 +20,7 @@ use Rattle.bsv_context.specs.Suffixes.{with_suffix}
 use Rattle.bsv_typing.specs.Places.{Instance, Front, whole, instance, array, place_of, call_of, read, value_at, variable_front, name_front, field_of, member_behind, method_behind, bit_of, index_behind, slice_type, slice_fits, bits_of, slice_behind}
 use Rattle.bsv_typing.specs.Typing.{Suffixed, all_behind, front_case}
 use Rattle.bsv_typing.specs.Laws.{Typed, slot_right}
-use Rattle.bsv_typing.proofs.Bound.{some_is, taken, tested_step, both_true}
+use Rattle.bsv_typing.proofs.Bound.{taken, tested_step}
 use Rattle.bsv_typing.proofs.Typings.{when_true, value_typed, variable_typed}
 use Rattle.bsv_typing.proofs.RightOperands.{strictly, FormedAs, Good, EachGood, wanted_formed, each_more}
 use Rattle.bsv_typing.proofs.RightStructs.{field_is}
@@ -104,7 +106,7 @@ module _ (w : World) (frame : Frame) where
       let h = good (Some integer) t.0 t.1 in
       subst (FormedFront w frame) (some_is (whole (with_suffix (bit 1) op.Index (t.0.expr ∷ []) m.expr)) g t.2)
       (suffix_formed w frame (bit 1) op.Index (t.0.expr ∷ []) (integer ∷ []) m refl typed (each_more w frame t.0.expr [] integer [] (h.0 ∙ ap Some h.1) refl)
-      (ap (λ o. o >>= λ r. Some r) (when_true (is_bit m.kind && true) (bit 1) (both_true (is_bit m.kind) true b.0 refl))))
+      (ap (λ o. o >>= λ r. Some r) (when_true (is_bit m.kind && true) (bit 1) (and_from (is_bit m.kind) true b.0 refl))))
 
   -- an index behind what has a value
   value_index : (x : Operand) (f g : Front) → Good w frame x → GoodFront w frame f → (value_at (strictly w) f >>= bit_of x) ≡ Some g → FormedFront w frame g

@@ -1,5 +1,6 @@
 -- Suffixes of one expression, in one list, give what each gives behind the others.
 use Rattle.std.proofs.Common.{◌≡◌, ◌∙◌, Bool, true, false, cond, List, [], ◌∷◌, ◌++◌, map, Option, Some, None, refl, sym, ap}
+use Rattle.std.proofs.lemmas.Option.{same_Some}
 use Rattle.bsv_types.specs.declared.operators.Op.{Op}
 use Rattle.bsv_types.specs.declared.operators.Op.TheVariants as op
 use Rattle.bsv_types.specs.declared.expressions.Expr.{Expr, out-Expr}
@@ -9,18 +10,15 @@ use Rattle.bsv_types.specs.Kinds.{Kind}
 use Rattle.bsv_types.specs.Shapes.{Shapes}
 use Rattle.bsv_types.specs.Operators.{◌>>=◌, is_kind, bit_kind, slice_kind, field_kind, is_suffix, suffixed, gives}
 use Rattle.bsv_types.specs.Expressions.{World, Frame, typing, all_typed, is_typed}
-use Rattle.bsv_types.proofs.Same.{same_is, same_self}
+use Rattle.bsv_types.proofs.Same.{same_self}
 use Rattle.bsv_context.specs.Env.{Made}
 use Rattle.bsv_context.specs.Suffixes.{are_suffixes, suffixes_in, suffixes, with_suffix}
 use Rattle.bsv_typing.specs.Laws.{Typed}
-use Rattle.bsv_typing.proofs.Bound.{some_is, taken}
+use Rattle.bsv_typing.proofs.Bound.{taken}
 use Rattle.bsv_typing.proofs.Typings.{Each, apply_right}
 use Rattle.bsv_typing.proofs.RightOperands.{Formed, each_more, each_joined}
 use Rattle.bsv_typing.proofs.RightForms.{applied_formed}
-
-is_kind_is : (o : Option Kind) (k : Kind) → is_kind o k ≡ true → o ≡ Some k
-is_kind_is None k e = absurd cc
-is_kind_is (Some j) k e = ap Some (same_is j k e)
+use Rattle.bsv_types.proofs.GivenKinds.{kind_given}
 
 typed_is : (o : Option (List Kind)) (p : List Kind → Bool) → is_typed o p ≡ true → (ks : List Kind) × (o ≡ Some ks) × (p ks ≡ true)
 typed_is None p e = absurd cc
@@ -33,7 +31,7 @@ begins (p ∷ os) o e = e
 module _ (s : Shapes) where
   -- those at the end stand behind what the others give
   suffixed_on : (os ps : List Op) (k : Kind) (ks js : List Kind) (r : Kind) → suffixed s k os ks ≡ Some r → suffixed s k (os ++ ps) (ks ++ js) ≡ suffixed s r ps js
-  suffixed_on [] ps k [] js r e = ap (λ j. suffixed s j ps js) (some_is k r e)
+  suffixed_on [] ps k [] js r e = ap (λ j. suffixed s j ps js) (same_Some k r e)
   suffixed_on [] ps k (j ∷ ks) js r e = absurd cc
   suffixed_on (op.Index ∷ os) ps k [] js r e = absurd cc
   suffixed_on (op.Index ∷ os) ps k (j ∷ ks) js r e =
@@ -66,7 +64,7 @@ module _ (s : Shapes) where
   suffixes_given : (os : List Op) (ks : List Kind) (t : Kind) → are_suffixes os ≡ true → gives s os ks t ≡ true → (q : Kind × List Kind) × (ks ≡ q.0 ∷ q.1) × (suffixed s q.0 os q.1 ≡ Some t)
   suffixes_given [] ks t e g = absurd cc
   suffixes_given (o ∷ os) [] t e g = let none = sym g ∙ gives_none o os t e in absurd cc
-  suffixes_given (o ∷ os) (k ∷ ks) t e g = ((k, ks), refl, is_kind_is (suffixed s k (o ∷ os) ks) t (sym (gives_suffixed o os k ks t e) ∙ g))
+  suffixes_given (o ∷ os) (k ∷ ks) t e g = ((k, ks), refl, kind_given (suffixed s k (o ∷ os) ks) t (sym (gives_suffixed o os k ks t e) ∙ g))
 
 module _ (w : World) (frame : Frame) where
   -- the suffixes give the type, behind the first of these expressions

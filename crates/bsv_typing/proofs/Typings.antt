@@ -1,22 +1,20 @@
 -- When an expression of the typed tree is in order, form by form.
 use Rattle.std.proofs.Common.{◌≡◌, ◌∙◌, ℕ, Bool, true, false, ◌&&◌, List, map, Some, None, refl, sym, ap, subst}
 use Rattle.std.specs.Prelude.{slice_get}
-use Rattle.bsv_types.specs.declared.types.Ty.{Ty, roll-Ty, fold-roll-Ty, map-Ty}
+use Rattle.std.proofs.lemmas.Bool.{and_parts, and_from}
+use Rattle.std.proofs.lemmas.Option.{same_Some}
+use Rattle.bsv_types.specs.declared.types.Ty.{Ty}
 use Rattle.bsv_types.specs.declared.types.Ty.TheOpen.{Ty-F}
 use Rattle.bsv_types.specs.declared.operators.Op.{Op}
 use Rattle.bsv_types.specs.declared.expressions.Expr.{Expr, Literal, Variable, Apply, Call, Method, Choice, fold-roll-Expr, fold_out-Expr, map-Expr, out-Expr}
 use Rattle.bsv_types.specs.declared.expressions.Expr.TheOpen.{Expr-F}
 use Rattle.bsv_types.specs.declared.expressions.Expr.TheViews.{rolls-Literal, rolls-Variable, rolls-Apply, rolls-Call, rolls-Method, rolls-Choice}
 use Rattle.bsv_types.specs.declared.expressions.Place.{Place}
-use Rattle.bsv_types.specs.Kinds.{Kind, bit, down, uint, int, bool, enum, struct, maybe, integer, interface, part, bare, kind, kind_step, type_of}
+use Rattle.bsv_types.specs.Kinds.{Kind, bit, down, uint, int, bool, enum, struct, maybe, integer, interface, part, bare, kind, type_of}
 use Rattle.bsv_types.specs.Shapes.{is_value}
 use Rattle.bsv_types.specs.Operators.{when, gives, is_kind}
 use Rattle.bsv_types.specs.Expressions.{World, Frame, Typing, typing, place_typing, expr_step, place_step, expr_right, carried, holds, one_at, all_typed, is_typed, is_call, method_at, is_value_call}
-use Rattle.bsv_types.proofs.Same.{both}
-use Rattle.bsv_typing.proofs.Bound.{some_is, both_true}
-
-rolled : (x : Ty-F Ty) → kind (roll-Ty x) ≡ kind_step (map-Ty Ty Kind kind x)
-rolled x = fold-roll-Ty Kind kind_step x
+use Rattle.bsv_types.proofs.Exact.{rolled}
 
 pub kind_back : (k : Kind) → kind (type_of k) ≡ k
 kind_back (bit n) = rolled (Ty-F.Bit n)
@@ -37,22 +35,22 @@ when_true true k e = refl
 when_true false k e = absurd cc
 
 pub when_is : (b : Bool) (j k : Kind) → when b j ≡ Some k → (b ≡ true) × (j ≡ k)
-when_is true j k e = (refl, some_is j k e)
+when_is true j k e = (refl, same_Some j k e)
 when_is false j k e = absurd cc
 
 module _ (w : World) (frame : Frame) where
   stepped : (y : Expr-F Typing Typing) (k : Kind) → carried y ≡ k → is_value w.shapes k ≡ true → expr_right w y frame k ≡ true → expr_step w y frame ≡ Some k
-  stepped y k e value right = subst (λ j. when (is_value w.shapes j && expr_right w y frame j) j ≡ Some k) (sym e) (when_true (is_value w.shapes k && expr_right w y frame k) k (both_true (is_value w.shapes k) (expr_right w y frame k) value right))
+  stepped y k e value right = subst (λ j. when (is_value w.shapes j && expr_right w y frame j) j ≡ Some k) (sym e) (when_true (is_value w.shapes k && expr_right w y frame k) k (and_from (is_value w.shapes k) (expr_right w y frame k) value right))
 
   stepped_value : (y : Expr-F Typing Typing) (k : Kind) → expr_step w y frame ≡ Some k → is_value w.shapes k ≡ true
   stepped_value y k e =
       let h = when_is (is_value w.shapes (carried y) && expr_right w y frame (carried y)) (carried y) k e in
-      subst (λ j. is_value w.shapes j ≡ true) h.1 (both (is_value w.shapes (carried y)) (expr_right w y frame (carried y)) h.0).0
+      subst (λ j. is_value w.shapes j ≡ true) h.1 (and_parts (is_value w.shapes (carried y)) (expr_right w y frame (carried y)) h.0).0
 
   stepped_right : (y : Expr-F Typing Typing) (k : Kind) → expr_step w y frame ≡ Some k → expr_right w y frame k ≡ true
   stepped_right y k e =
       let h = when_is (is_value w.shapes (carried y) && expr_right w y frame (carried y)) (carried y) k e in
-      subst (λ j. expr_right w y frame j ≡ true) h.1 (both (is_value w.shapes (carried y)) (expr_right w y frame (carried y)) h.0).1
+      subst (λ j. expr_right w y frame j ≡ true) h.1 (and_parts (is_value w.shapes (carried y)) (expr_right w y frame (carried y)) h.0).1
 
   -- a typed expression has a type of values
   pub value_typed : (e : Expr) (k : Kind) → typing w e frame ≡ Some k → is_value w.shapes k ≡ true

@@ -4,6 +4,7 @@ use Rattle.std.proofs.Common.{◌≡◌, ◌∙◌, ◌<◌, ◌≤◌, ◌⊎�
 use Rattle.std.specs.Prelude.{slice_get, unwrap_or, ◌&&◌, ◌||◌}
 use Rattle.std.proofs.lemmas.Bool.{both_ways, cases_lt, false_from_ne_true}
 use Rattle.std.proofs.lemmas.Option.{slice_get_past, slice_get_within}
+use Rattle.bsv_lemmas.proofs.Places.{mapped_at}
 use Rattle.bsv_bits.specs.Words.{Bits, zero_word}
 use Rattle.bsv_prim.specs.declared.part.Part.{Part}
 use Rattle.bsv_design.specs.declared.element.Port.{Port}
@@ -15,7 +16,6 @@ use Rattle.bsv_design.specs.Schemes.{Scheme, Outline, Asking, Called, Look, all_
 use Rattle.bsv_design.specs.States.{AreWordsOf, after_calls, emptied}
 use Rattle.bsv_design.specs.Traces.{Trace}
 use Rattle.bsv_graph.specs.Edges.{numbers_below}
-use Rattle.bsv_guard.proofs.Lists.{mapped_at}
 use Rattle.bsv_clock.specs.Clocks.{IsClock, is_in, is_asked, may_fire, may_fire_as}
 use Rattle.bsv_clock.specs.Grounds.{BelongTogether, Fit, IsLawful, IsScheduleOf}
 use Rattle.bsv_clock.specs.Looks.{calls_in_turn, clock_look, look_after}
@@ -27,6 +27,7 @@ use Rattle.bsv_clock.proofs.Clocks.{clock_run, one_after, one_fired, some_clock}
 use Rattle.bsv_clock.proofs.Members.{found, in_kept, is_found, kept_in, not_found}
 use Rattle.bsv_clock.proofs.Steadily.{steady_scheme}
 use Rattle.bsv_net.proofs.Numbers.{number_at}
+use Rattle.bsv_clock.proofs.Quiet.{value_role}
 
 -- ---- the requests
 
@@ -45,14 +46,8 @@ asking_values S q = record {
   args = map (given S q) (numbers_below (length S.elements));
 }
 
-value_is : (r : Role) → is_value r ≡ true → r ≡ role.Value
-value_is role.Value h = refl
-value_is role.Rule h = absurd (let n : ⊥ = cc in n)
-value_is role.Action h = absurd (let n : ⊥ = cc in n)
-value_is role.ActionValue h = absurd (let n : ⊥ = cc in n)
-
 not_value : (S : Scheme) (n : ℕ) (o : Outline) → slice_get S.elements n ≡ Some o → ¬ IsValueMethod S n → is_value o.role ≡ false
-not_value S n o there other = false_from_ne_true (is_value o.role) (λ h. other (o, there, value_is o.role h))
+not_value S n o there other = false_from_ne_true (is_value o.role) (λ h. other (o, there, value_role o.role h))
 
 -- words that are given are as many as they are to be
 filled_again : (ps : List Port) (ws : List Bits) → filled ps (filled ps ws) ≡ filled ps ws

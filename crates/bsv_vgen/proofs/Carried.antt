@@ -5,6 +5,7 @@ use Rattle.std.proofs.Math.Logic.{∥∥₁_elim}
 use Rattle.std.specs.Prelude.{IsTrue, cond, option_map, slice_get, unwrap_or, ◌||◌}
 use Rattle.std.proofs.lemmas.Bool.{both_ways}
 use Rattle.std.proofs.lemmas.Option.{same_Some, slice_get_within}
+use Rattle.bsv_lemmas.proofs.Places.{mapped_at}
 use Rattle.bsv_bits.specs.Words.{Bits, bit}
 use Rattle.bsv_prim.specs.declared.part.Part.{Part}
 use Rattle.bsv_design.specs.declared.element.Element.{Element}
@@ -21,7 +22,7 @@ use Rattle.bsv_graph.specs.Edges.{numbers_below}
 use Rattle.bsv_guard.specs.Fitting.{HaveWidths}
 use Rattle.bsv_guard.proofs.Alike.{alike}
 use Rattle.bsv_guard.proofs.Given.{given_arguments}
-use Rattle.bsv_guard.proofs.Lists.{IsOf, item_of, mapped_at}
+use Rattle.bsv_guard.proofs.Lists.{IsOf, item_of}
 use Rattle.bsv_clock.specs.Hardware.{Cell, Given, Shows, TellsClock, cell, cell_widths, cells_of, input_widths, inputs_of}
 use Rattle.bsv_clock.specs.Hardware as clocks
 use Rattle.bsv_clock.specs.Clocks.{IsClock, is_asked, is_in}
@@ -45,7 +46,8 @@ use Rattle.bsv_vgen.specs.Modules as modules
 use Rattle.bsv_vgen.specs.Modules.{argument_inputs, asked_input}
 use Rattle.bsv_vgen.specs.Names.{fire_wire}
 use Rattle.bsv_vgen.proofs.AskedToo.{ClockToo, asking_values, clock_too, fit_too, given_too, is_asked_too, is_value_at, ready_too, value_too}
-use Rattle.bsv_vgen.proofs.Computes.{Computes, TellsNet, input_words, or_zero}
+use Rattle.bsv_vgen.proofs.Computes.{Computes, TellsNet, input_words}
+use Rattle.bsv_design.specs.Running.{or_zero}
 
 -- ---- the words of the inputs
 

@@ -13,11 +13,11 @@ use Rattle.bsv_design.specs.Kinds.{kind_table}
 use Rattle.bsv_graph.specs.Edges.{numbers_below}
 use Rattle.bsv_clock.specs.Hardware as carrying
 use Rattle.bsv_clock.specs.Hardware.{Cell, cell_of, cells_in, cells_of}
-use Rattle.bsv_net.proofs.Numbers.{count_below}
 use Rattle.bsv_vtext.specs.declared.tree.VRegister.{VRegister}
 use Rattle.bsv_vgen.specs.Interfaces.{cell}
 use Rattle.bsv_vgen.specs.Modules.{register_of, registers_of}
 use Rattle.bsv_vgen.specs.Names.{verilog_name, item_suffix, queue_suffixes, suffixes, part_names, register_names}
+use Rattle.bsv_graph.proofs.Below.{count_below}
 
 -- ---- as many names as registers
 

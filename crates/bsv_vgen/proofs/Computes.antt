@@ -1,7 +1,7 @@
 -- A module that computes what a net does: where its inputs have the words of the net's inputs, and its registers those of the
 -- net's registers, it tells the words of the net's nodes.
-use Rattle.std.proofs.Common.{◌≡◌, ℕ, Bool, true, false, List, map, slice_get, Option, Some, None}
-use Rattle.bsv_bits.specs.Words.{Bits, bit}
+use Rattle.std.proofs.Common.{◌≡◌, ℕ, Bool, true, false, List, map, slice_get, Some}
+use Rattle.bsv_bits.specs.Words.{Bits}
 use Rattle.bsv_design.specs.Designs.{Blueprint}
 use Rattle.bsv_design.specs.Roles.{is_rule, is_value, gives_value}
 use Rattle.bsv_design.specs.declared.element.Element.{Element}
@@ -16,14 +16,11 @@ use Rattle.bsv_vtext.specs.VClock.{Inputs, Nets, VClock, atom_word}
 use Rattle.bsv_vgen.specs.declared.known.Known.{Known}
 use Rattle.bsv_vgen.specs.Hardware.{TellsFire}
 use Rattle.bsv_vgen.specs.Modules.{inputs}
+use Rattle.bsv_design.specs.Running.{or_zero}
 
 -- the words of the inputs of a net, where atoms have these words
 abbrev pub input_words : (Atom → Bits) → List Known → List Bits
 input_words word ks = map (λ k. word k.atom) ks
-
-abbrev pub or_zero : Option Bits → Bits
-or_zero None = bit false
-or_zero (Some w) = w
 
 -- what is told in a clock in which the inputs and the registers of the net have these words
 pub record TellsNet (b : Blueprint) (c : Circuit) (m : Contents) (vs ws : List Bits) (nets : Nets) : Type 0 where

@@ -3,7 +3,7 @@ use Rattle.std.proofs.Common.{◌≡◌, ◌∙◌, ℕ, ◌+◌, ◌<◌, ◌�
 use Rattle.std.specs.Prelude.{slice_get, option_map}
 use Rattle.std.proofs.Math.Nat.{eq-or-lt_of_le}
 use Rattle.std.proofs.lemmas.Option.{same_Some}
-use Rattle.bsv_net.proofs.Lists.{got_right}
+use Rattle.bsv_lemmas.proofs.Places.{at_right}
 use Rattle.bsv_vtext.specs.declared.tree.Assign.{Assign}
 use Rattle.bsv_vtext.specs.declared.tree.Atom.{Atom}
 use Rattle.bsv_vtext.specs.declared.tree.Atom.TheVariants as atom
@@ -19,7 +19,7 @@ pub last_there : {A : Type 0} (xs : List A) (x : A) (more all : List A) → all 
 last_there {A} xs x more all e =
     let place : length xs ≡ length xs + 0 = omega arith in
     ap (λ (ys : List A). slice_get ys (length xs)) (e ∙ append_assoc xs (x ∷ []) more)
-    ∙ ap (slice_get (xs ++ x ∷ more)) place ∙ got_right xs (x ∷ more) 0
+    ∙ ap (slice_get (xs ++ x ∷ more)) place ∙ at_right xs (x ∷ more) 0
 
 module _ (m : Contents) where
   -- what is written is the front of the module

@@ -6,6 +6,7 @@ use Rattle.std.proofs.Math.Bridge.{le_prop}
 use Rattle.std.proofs.Math.Logic.{∥∥₁_elim, ∥∥₁_prop}
 use Rattle.std.proofs.Math.Nat.{ℕ_set}
 use Rattle.std.proofs.lemmas.Option.{same_Some, slice_get-map, slice_get_within}
+use Rattle.bsv_lemmas.proofs.Places.{mapped_at}
 use Rattle.bsv_bits.specs.Words.{Bits}
 use Rattle.bsv_prim.specs.Table.{IsWordOf}
 use Rattle.bsv_prim.specs.declared.part.Part.{Part}
@@ -16,7 +17,6 @@ use Rattle.bsv_design.specs.Schemes.{Scheme, Asking, Outline, given, ports_of}
 use Rattle.bsv_design.specs.States.{AreWordsOf, FitsKinds, opening}
 use Rattle.bsv_graph.specs.Edges.{numbers_below}
 use Rattle.bsv_guard.specs.Fitting.{HaveWidths, RequestFits}
-use Rattle.bsv_guard.proofs.Lists.{mapped_at}
 use Rattle.bsv_clock.specs.Hardware.{Shows, cell_widths, cells_of}
 use Rattle.bsv_clock.specs.Grounds.{IsLawful}
 use Rattle.bsv_clock.specs.Runs.{Row, AllFit, Continues}

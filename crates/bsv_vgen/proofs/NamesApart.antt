@@ -6,7 +6,8 @@ use Rattle.std.specs.Option.{option_map}
 use Rattle.std.proofs.lemmas.Bool.{and_parts}
 use Rattle.std.proofs.lemmas.Fmt.{decimal_injective}
 use Rattle.std.proofs.lemmas.List.{append_cancel_left}
-use Rattle.std.proofs.lemmas.Option.{slice_get_within}
+use Rattle.std.proofs.lemmas.Option.{slice_get_within, same_Some}
+use Rattle.bsv_lemmas.proofs.Places.{mapped_at}
 use Rattle.bsv_ast.specs.Names.{is_lower}
 use Rattle.bsv_types.specs.Names.{distinct}
 use Rattle.bsv_design.specs.Designs.{Blueprint, IsDesign}
@@ -19,10 +20,11 @@ use Rattle.bsv_vtext.specs.Signals.{Contents, argument_name, enable_name, ready_
 use Rattle.bsv_vgen.specs.Interfaces.{IsModuleOf, argument_of}
 use Rattle.bsv_vgen.specs.Names.{verilog_name, part_names, numbered_from, fire_wires}
 use Rattle.bsv_vgen.proofs.VerilogPaths.{path_told, dotted_route, verilog_same}
-use Rattle.bsv_vgen.proofs.Places.{some_is, Found, in_first, in_second, made_of, mapped, distinct_apart, before, fires_before, fire_at}
+use Rattle.bsv_vgen.proofs.Places.{Found, in_first, in_second, made_of, before, fires_before, fire_at}
 use Rattle.bsv_vgen.proofs.Spellings.{Sort, Clocks, Resets, Enables, Arguments, Readies, Results, Registers, Wires, sort, clock_sort, reset_sort, enable_sort, argument_sort, ready_sort, result_sort, register_sort, numbered_sort, fire_sort, argument_told, numbered_or_fire}
 use Rattle.bsv_vgen.proofs.Suffixes.{suffix_at, suffix_same}
 use Rattle.bsv_vgen.proofs.NamesRight.{method_of, method_right, argument_right, RegisterOf, register_at, register_small, register_behind, wire_at, wire_numbered, wire_route}
+use Rattle.bsv_types.proofs.Distinct.{distinct_places}
 
 -- ---- sorts of signals
 
@@ -80,7 +82,7 @@ record Mapped {A B : Type 0} (f : A → B) (o : Option A) (y : B) : Type 0 where
 
 mapped_of : {A B : Type 0} (f : A → B) (o : Option A) (y : B) → option_map f o ≡ Some y → Mapped f o y
 mapped_of f None y e = absurd cc
-mapped_of f (Some x) y e = record { from = x; at = refl; is = some_is (f x) y e }
+mapped_of f (Some x) y e = record { from = x; at = refl; is = same_Some (f x) y e }
 
 record Enabled (o : Option VMethod) (name : List ℕ) : Type 0 where
   method : VMethod
@@ -91,7 +93,7 @@ enabled_of : (o : Option VMethod) (name : List ℕ) → name_of_enable o ≡ Som
 enabled_of None name e = absurd cc
 enabled_of (Some v) name e = record { method = v; at = refl; is = by v.action e } where
   by : (acts : Bool) → (if acts then Some (enable_name v.name) else None) ≡ Some name → enable_name v.name ≡ name
-  by true f = some_is (enable_name v.name) name f
+  by true f = same_Some (enable_name v.name) name f
   by false f = absurd cc
 
 record Argued (o : Option VMethod) (k : ℕ) (name : List ℕ) : Type 0 where
@@ -146,8 +148,8 @@ module _ (b : Blueprint) (right : IsDesign b) (m : Contents) (made : IsModuleOf 
       ap (λ (x : VWire). sort x.name) (sym h.is) ∙ fire_sort (verilog_name h.outline.name)
 
   sorted : (x : Signal) (name : List ℕ) → signal_name m x ≡ Some name → sort name ≡ sort_of x
-  sorted Clock name e = ap sort (sym (some_is (codes "CLK") name e)) ∙ clock_sort
-  sorted Reset name e = ap sort (sym (some_is (codes "RST_N") name e)) ∙ reset_sort
+  sorted Clock name e = ap sort (sym (same_Some (codes "CLK") name e)) ∙ clock_sort
+  sorted Reset name e = ap sort (sym (same_Some (codes "RST_N") name e)) ∙ reset_sort
   sorted (Enable k) name e = let o = enabled_of (slice_get m.methods k) name e in ap sort (sym o.is) ∙ enable_sort o.method.name
   sorted (Argument k j) name e =
       let o = argued_of (slice_get m.methods k) j name e in
@@ -181,8 +183,8 @@ module _ (b : Blueprint) (right : IsDesign b) (m : Contents) (made : IsModuleOf 
       let parts = and_parts (list_all is_lower (map (λ p. p.name) ports)) (distinct (map (λ p. p.name) ports)) names in
       let one : left.from.name ≡ a.name = ap (λ (x : VWire). x.name) left.is in
       let two : other.from.name ≡ a.name = ap (λ (x : VWire). x.name) other.is ∙ sym same in
-      distinct_apart (map (λ p. p.name) ports) i j a.name parts.1 (mapped (λ p. p.name) ports i left.from left.at ∙ ap Some one)
-      (mapped (λ p. p.name) ports j other.from other.at ∙ ap Some two)
+      distinct_places (map (λ p. p.name) ports) i j a.name parts.1 (mapped_at (λ p. p.name) ports i left.from left.at ∙ ap Some one)
+      (mapped_at (λ p. p.name) ports j other.from other.at ∙ ap Some two)
 
   argued_apart : (k l i j : ℕ) (name : List ℕ) → Argued (slice_get m.methods k) i name → Argued (slice_get m.methods l) j name
       → Argument k i ≡ Argument l j
@@ -190,7 +192,7 @@ module _ (b : Blueprint) (right : IsDesign b) (m : Contents) (made : IsModuleOf 
       let parts = argument_told o.method.name p.method.name o.argument.name p.argument.name (lower k o.method o.at) (lower l p.method p.at)
       (o.is ∙ sym p.is) in
       let one = methods_apart k l o.method p.method o.at p.at parts.0 in
-      let same : p.method ≡ o.method = some_is p.method o.method (sym p.at ∙ ap (slice_get m.methods) (sym one) ∙ o.at) in
+      let same : p.method ≡ o.method = same_Some p.method o.method (sym p.at ∙ ap (slice_get m.methods) (sym one) ∙ o.at) in
       let has = subst (λ (v : VMethod). slice_get v.args j ≡ Some p.argument) same p.has in
       ap₂ Argument one (arguments_apart k i j o.method o.argument p.argument o.at o.has has parts.1)
 

@@ -4,7 +4,8 @@ use Rattle.std.proofs.Common.{◌≡◌, ◌∙◌, ℕ, ◌+◌, ◌^◌, ◌<�
 use Rattle.std.specs.Prelude.{slice_get, decimal}
 use Rattle.std.specs.List.{list_all}
 use Rattle.std.proofs.lemmas.Bool.{and_parts, not-true}
-use Rattle.std.proofs.lemmas.Option.{slice_get_within}
+use Rattle.std.proofs.lemmas.Option.{slice_get_within, same_Some}
+use Rattle.bsv_lemmas.proofs.Places.{at_right, mapped_at, passes_at}
 use Rattle.bsv_ast.specs.Names.{is_lower}
 use Rattle.bsv_types.specs.Names.{distinct}
 use Rattle.bsv_design.specs.declared.design.NamedPart.{NamedPart}
@@ -24,7 +25,7 @@ use Rattle.bsv_vgen.specs.Interfaces.{IsModuleOf, IsMethodOf, argument_of}
 use Rattle.bsv_vgen.specs.Names.{register_names, part_names, suffixes, verilog_name, numbered_from, fire_wire, fire_wires}
 use Rattle.bsv_vgen.proofs.VerilogPaths.{IsRoute, lower_route, dotted_route, lower_stays}
 use Rattle.bsv_vgen.proofs.Spellings.{fire_named, numbered_named, register_named, numbered_or_fire}
-use Rattle.bsv_vgen.proofs.Places.{some_is, Found, in_first, in_second, found, behind, made_of, mapped, each_is, before, from_one, numbered_at, IsFire, fire_at, fire_of}
+use Rattle.bsv_vgen.proofs.Places.{Found, in_first, in_second, found, made_of, before, from_one, numbered_at, IsFire, fire_at, fire_of}
 use Rattle.bsv_vgen.proofs.Suffixes.{suffix_at, IsBehind, suffix_behind}
 
 -- ---- elements
@@ -78,7 +79,7 @@ module _ (b : Blueprint) (right : IsDesign b) (m : Contents) (made : IsModuleOf 
       let at = made.no_more k v e in
       let from = made_of outline b.elements k at.outline at.at in
       let has = made.methods k at.outline at.at at.method in
-      let same : has.method ≡ v = some_is has.method v (sym has.at ∙ e) in
+      let same : has.method ≡ v = same_Some has.method v (sym has.at ∙ e) in
       record {
         element = from.from;
         at = from.at;
@@ -98,14 +99,14 @@ module _ (b : Blueprint) (right : IsDesign b) (m : Contents) (made : IsModuleOf 
       let p = made_of argument_of o.element.arguments j a (ap (λ xs. slice_get xs j) (sym o.is.arguments) ∙ f) in
       let own = map (λ p. p.name) o.element.arguments in
       let names = and_parts (list_all is_lower own) (distinct own) is.arguments in
-      let lower = each_is is_lower own j p.from.name names.0 (mapped (λ p. p.name) o.element.arguments j p.from p.at) in
-      subst IsArgument p.is (record { name = lower; width = each_is port_fits o.element.arguments j p.from is.fits.ports p.at })
+      let lower = passes_at is_lower own j p.from.name names.0 (mapped_at (λ p. p.name) o.element.arguments j p.from p.at) in
+      subst IsArgument p.is (record { name = lower; width = passes_at port_fits o.element.arguments j p.from is.fits.ports p.at })
 
   -- ---- registers
 
   pub register_at : (k : ℕ) (r : VRegister) → slice_get m.registers k ≡ Some r → RegisterOf b.parts k r.name
   register_at k r e =
-      register_of b.parts k r.name (ap (λ xs. slice_get xs k) (sym made.registers) ∙ mapped (λ (x : VRegister). x.name) m.registers k r e)
+      register_of b.parts k r.name (ap (λ xs. slice_get xs k) (sym made.registers) ∙ mapped_at (λ (x : VRegister). x.name) m.registers k r e)
 
   pub register_small : (k : ℕ) (r : VRegister) → slice_get m.registers k ≡ Some r → (o : RegisterOf b.parts k r.name) → o.inner < 2 ^ 64
   register_small k r e o = omega (arith, o.place, slice_get_within m.registers k r e)
@@ -153,12 +154,12 @@ module _ (b : Blueprint) (right : IsDesign b) (m : Contents) (made : IsModuleOf 
   fires k v e acts =
       let o = method_of k v e in
       let value : is_value o.element.role ≡ false = not-true (is_value o.element.role) (sym o.is.action ∙ acts) in
-      let h = fire_of (map outline b.elements) k (outline o.element) (mapped outline b.elements k o.element o.at) value in
+      let h = fire_of (map outline b.elements) k (outline o.element) (mapped_at outline b.elements k o.element o.at) value in
       let lower : is_lower o.element.name ≡ true = named_lower o.element.role o.element.name (right.named k o.element o.at) o.method in
       record {
         place = length (numbered_from 0 made.widths) + h.place;
         wire = fire_wire o.element.name;
         at = ap (λ xs. slice_get xs (length (numbered_from 0 made.widths) + h.place)) made.wires
-            ∙ behind (numbered_from 0 made.widths) (fire_wires (map outline b.elements)) h.place ∙ h.at;
+            ∙ at_right (numbered_from 0 made.widths) (fire_wires (map outline b.elements)) h.place ∙ h.at;
         name_is = ap fire_name (lower_stays o.element.name lower ∙ sym o.is.name);
       }

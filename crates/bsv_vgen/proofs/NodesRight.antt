@@ -4,6 +4,7 @@ use Rattle.std.specs.Prelude.{◌==◌, nat_le, slice_get, option_map}
 use Rattle.std.specs.List.{list_all}
 use Rattle.std.proofs.lemmas.Bool.{and_parts, leb-true, ltb-true, eqb-true}
 use Rattle.std.proofs.lemmas.Option.{same_Some, slice_get_within, slice_get-map}
+use Rattle.bsv_lemmas.proofs.Places.{at_left, at_right}
 use Rattle.bsv_bits.specs.declared.operator.Operator.{Operator}
 use Rattle.bsv_prim.specs.declared.primitive.RegisterInfo.{RegisterInfo}
 use Rattle.bsv_design.specs.declared.element.Port.{Port}
@@ -15,7 +16,6 @@ use Rattle.bsv_guard.proofs.Words.{constant_fits}
 use Rattle.bsv_net.specs.declared.node.NetNode.{NetNode}
 use Rattle.bsv_net.specs.declared.node.NetNode.TheVariants as net
 use Rattle.bsv_net.specs.Circuits.{as_node, as_nodes, port, ports, register_widths, is_within}
-use Rattle.bsv_net.proofs.Lists.{got_left, got_right}
 use Rattle.bsv_vtext.specs.declared.tree.Atom.TheVariants as atom
 use Rattle.bsv_vtext.specs.declared.tree.Side.TheVariants as side
 use Rattle.bsv_vtext.specs.Modules.{Stands, IsAtom}
@@ -45,7 +45,7 @@ unfolding widths_from
 width_kept ps [] us ends e k u there = ap (λ (vs : List ℕ). slice_get vs k) (sym (same_Some us ends e)) ∙ there
 width_kept ps (x ∷ xs) us ends e k u there =
     let c = chained (node_width ps [] [] us x) (λ v. widths_from ps [] [] (us ++ v ∷ []) xs) ends e in
-    width_kept ps xs (us ++ c.width ∷ []) ends c.rest k u (got_left us (c.width ∷ []) k (slice_get_within us k u there) ∙ there)
+    width_kept ps xs (us ++ c.width ∷ []) ends c.rest k u (at_left us (c.width ∷ []) k (slice_get_within us k u there) ∙ there)
 
 -- what the operands of a node are
 pub record AreTwo (o : Operator) (p q : Option ℕ) (u : ℕ) : Type 0 where
@@ -137,10 +137,10 @@ module _ (m : Contents) where
     each = λ k v e. elim (entry_behind us u k v e) [
       | inl there ↦
           let few : k < length ks = let b = slice_get_within us k v there in omega (arith, b, h.as_many) in
-          subst (λ (y : Known). IsKnownRight m j y v) (sym (ap or_nothing (got_left ks (x ∷ []) k few))) (right_later m n j (known_at ks k) v l (h.each k v there))
+          subst (λ (y : Known). IsKnownRight m j y v) (sym (ap or_nothing (at_left ks (x ∷ []) k few))) (right_later m n j (known_at ks k) v l (h.each k v there))
       | inr last ↦
           let place : k ≡ length ks + 0 = omega (arith, h.as_many, last.0) in
-          let found : known_at (ks ++ x ∷ []) k ≡ x = ap (λ (i : ℕ). known_at (ks ++ x ∷ []) i) place ∙ ap or_nothing (got_right ks (x ∷ []) 0) in
+          let found : known_at (ks ++ x ∷ []) k ≡ x = ap (λ (i : ℕ). known_at (ks ++ x ∷ []) i) place ∙ ap or_nothing (at_right ks (x ∷ []) 0) in
           subst (λ (y : Known). IsKnownRight m j y v) (sym found) (subst (λ (w : ℕ). IsKnownRight m j x w) last.1 own)
     ];
   }
@@ -168,13 +168,13 @@ module _ (m : Contents) where
       input_right : (k u : ℕ) → k < length ins → option_map (λ (p : Port). p.width) (slice_get (ports ins registers) k) ≡ Some u
           → IsKnownRight m (length w.wires) (known_at inputs k) u
       input_right k u few e =
-          outer (length w.wires) k u (sym (got_left ins (register_widths registers) k few) ∙ sym (port_width (ins ++ register_widths registers) k) ∙ e)
+          outer (length w.wires) k u (sym (at_left ins (register_widths registers) k few) ∙ sym (port_width (ins ++ register_widths registers) k) ∙ e)
 
       placed_register : (k u : ℕ) → option_map (λ (p : Port). p.width) (slice_get (ports ins registers) (length ins + k)) ≡ Some u
           → IsKnownRight m (length w.wires) (register (slice_get registers k) k) u
       placed_register k u e =
           register_right (length w.wires) k u (slice_get registers k) refl
-          (sym (slice_get-map (λ (r : RegisterInfo). r.width) registers k) ∙ sym (got_right ins (register_widths registers) k)
+          (sym (slice_get-map (λ (r : RegisterInfo). r.width) registers k) ∙ sym (at_right ins (register_widths registers) k)
           ∙ sym (port_width (ins ++ register_widths registers) (length ins + k)) ∙ e)
 
       pub node_right : (x : NetNode) (u : ℕ) → 1 ≤ u → u ≤ 128 → is_within (length ins) (length registers) x ≡ true

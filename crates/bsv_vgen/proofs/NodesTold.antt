@@ -4,6 +4,7 @@ use Rattle.std.specs.Prelude.{slice_get, option_map, if◌then◌else◌}
 use Rattle.std.specs.List.{list_all}
 use Rattle.std.proofs.lemmas.Bool.{and_parts, ltb-true}
 use Rattle.std.proofs.lemmas.Option.{same_Some, slice_get_within, slice_get-map}
+use Rattle.bsv_lemmas.proofs.Places.{at_left, at_right}
 use Rattle.bsv_bits.specs.Words.{Bits, bit, word_not, word_concat}
 use Rattle.bsv_bits.specs.Operators.{operate}
 use Rattle.bsv_prim.specs.Signals.{is_one}
@@ -18,7 +19,6 @@ use Rattle.bsv_net.specs.declared.node.NetNode.{NetNode}
 use Rattle.bsv_net.specs.declared.node.NetNode.TheVariants as net
 use Rattle.bsv_net.specs.Circuits.{as_node, as_nodes, ports, is_within}
 use Rattle.bsv_net.specs.Equations.{Values, operated, computed}
-use Rattle.bsv_net.proofs.Lists.{got_left, got_right}
 use Rattle.bsv_vtext.specs.declared.tree.Atom.{Atom}
 use Rattle.bsv_vtext.specs.declared.tree.Side.TheVariants as side
 use Rattle.bsv_vtext.specs.Signals.{Contents}
@@ -124,10 +124,10 @@ module _ (m : Contents) (ws : List Bits) (ins : Inputs) (nets : Nets) (solved : 
       words = λ k v e. elim (entry_behind us u k v e) [
         | inl there ↦
             let few : k < length ks = let b = slice_get_within us k v there in omega (arith, b, h.as_many) in
-            ap (λ (o : Option Known). word (or_nothing o).atom) (got_left ks (x ∷ []) k few) ∙ h.words k v there
+            ap (λ (o : Option Known). word (or_nothing o).atom) (at_left ks (x ∷ []) k few) ∙ h.words k v there
         | inr last ↦
             let place : k ≡ length ks + 0 = omega (arith, h.as_many, last.0) in
-            ap (λ (i : ℕ). word (known_at (ks ++ x ∷ []) i).atom) place ∙ ap (λ (o : Option Known). word (or_nothing o).atom) (got_right ks (x ∷ []) 0)
+            ap (λ (i : ℕ). word (known_at (ks ++ x ∷ []) i).atom) place ∙ ap (λ (o : Option Known). word (or_nothing o).atom) (at_right ks (x ∷ []) 0)
             ∙ own ∙ ap V (sym last.0)
       ];
     }
@@ -138,7 +138,7 @@ module _ (m : Contents) (ws : List Bits) (ins : Inputs) (nets : Nets) (solved : 
     known_kept (x ∷ xs) ks w k few =
         let s : Step = node inputs registers ks w x in
         known_kept xs (ks ++ s.known ∷ []) s.written k (omega (arith, few, length-append ks (s.known ∷ [])))
-        ∙ ap or_nothing (got_left ks (s.known ∷ []) k few)
+        ∙ ap or_nothing (at_left ks (s.known ∷ []) k few)
 
     nodes_told_from : (xs : List NetNode) (us : List ℕ) (ks : List Known) (w : Written) (ends : List ℕ)
         → widths_from (ports widths registers) [] [] us (as_nodes (length widths) xs) ≡ Some ends

@@ -1,24 +1,20 @@
 -- What stands at a place of the lists that a module's names are made of.
-use Rattle.std.proofs.Common.{◌≡◌, ◌∙◌, ℕ, zero, suc, ◌+◌, Bool, true, false, not, cond, List, [], ◌∷◌, ◌++◌, map, take, length, Some, refl, sym, ap, subst, arith, codes}
+use Rattle.std.proofs.Common.{◌≡◌, ◌∙◌, ℕ, zero, suc, ◌+◌, Bool, true, false, cond, List, [], ◌∷◌, ◌++◌, map, take, length, Some, refl, sym, ap, arith, codes}
 use Rattle.std.specs.Prelude.{slice_get, decimal}
-use Rattle.std.specs.Option.{option_map}
-use Rattle.std.specs.List.{flat_map, list_all, list_any}
+use Rattle.std.specs.List.{flat_map, list_any}
 use Rattle.std.specs.Str.{bytes_eq}
-use Rattle.std.proofs.lemmas.Bool.{both_ways, and_parts, or_parts, not-true}
+use Rattle.std.proofs.lemmas.Bool.{both_ways, or_parts}
 use Rattle.std.proofs.lemmas.List.{length-append}
-use Rattle.std.proofs.lemmas.Option.{slice_get-map}
+use Rattle.std.proofs.lemmas.Option.{same_Some}
 use Rattle.std.proofs.lemmas.Slice.Eq.{bytes_eq-Decides}
 use Rattle.bsv_graph.specs.Edges.{numbers_below}
-use Rattle.bsv_types.specs.Names.{distinct}
 use Rattle.bsv_design.specs.Roles.{is_value}
 use Rattle.bsv_design.specs.Schemes.{Outline}
 use Rattle.bsv_vtext.specs.declared.tree.VWire.{VWire}
 use Rattle.bsv_vgen.specs.Names.{numbered_wire, numbered_from, fire_wire, fire_wires}
+use Rattle.bsv_graph.proofs.Below.{count_below}
 
 -- ---- lists
-
-pub some_is : {A : Type 0} (x y : A) → Some x ≡ Some y → x ≡ y
-some_is x y e = cc
 
 pub data Found {A : Type 0} (xs ys : List A) (n : ℕ) (x : A) : Type 0 where
   in_first : slice_get xs n ≡ Some x → Found xs ys n x
@@ -33,12 +29,6 @@ found [] ys n x e = in_second n (omega arith) e
 found (y ∷ xs) ys zero x e = in_first e
 found (y ∷ xs) ys (suc n) x e = found_later y xs ys n x (found xs ys n x e)
 
-pub behind : {A : Type 0} (xs ys : List A) (k : ℕ) → slice_get (xs ++ ys) (length xs + k) ≡ slice_get ys k
-behind [] ys k = ap (slice_get ys) (omega arith)
-behind (x ∷ xs) ys k =
-    let one : length (x ∷ xs) + k ≡ suc (length xs + k) = omega arith in
-    ap (slice_get ((x ∷ xs) ++ ys)) one ∙ behind xs ys k
-
 -- what is made of an element
 pub record MadeOf {A B : Type 0} (f : A → B) (xs : List A) (n : ℕ) (y : B) : Type 0 where
   pub from : A
@@ -47,24 +37,16 @@ pub record MadeOf {A B : Type 0} (f : A → B) (xs : List A) (n : ℕ) (y : B) :
 
 pub made_of : {A B : Type 0} (f : A → B) (xs : List A) (n : ℕ) (y : B) → slice_get (map f xs) n ≡ Some y → MadeOf f xs n y
 made_of f [] n y e = absurd cc
-made_of f (x ∷ xs) zero y e = record { from = x; at = refl; is = some_is (f x) y e }
+made_of f (x ∷ xs) zero y e = record { from = x; at = refl; is = same_Some (f x) y e }
 made_of f (x ∷ xs) (suc n) y e = let m = made_of f xs n y e in record { from = m.from; at = m.at; is = m.is }
 
-pub mapped : {A B : Type 0} (f : A → B) (xs : List A) (n : ℕ) (x : A) → slice_get xs n ≡ Some x → slice_get (map f xs) n ≡ Some (f x)
-mapped f xs n x e = slice_get-map f xs n ∙ ap (option_map f) e
-
--- the numbers below a number stand at their own places
-below_counted : (n : ℕ) → length (numbers_below n) ≡ n
-below_counted zero = refl
-below_counted (suc n) = length-append (numbers_below n) (n ∷ []) ∙ omega (arith, below_counted n)
-
 only_one : (n k x : ℕ) → slice_get (n ∷ []) k ≡ Some x → (k ≡ 0) × (x ≡ n)
-only_one n zero x e = (refl, sym (some_is n x e))
+only_one n zero x e = (refl, sym (same_Some n x e))
 only_one n (suc k) x e = absurd cc
 
 one_more : (n k x : ℕ) → (slice_get (numbers_below n) k ≡ Some x → x ≡ k) → Found (numbers_below n) (n ∷ []) k x → x ≡ k
 one_more n k x h (in_first e) = h e
-one_more n k x h (in_second j is e) = let o = only_one n j x e in omega (arith, o.0, o.1, below_counted n)
+one_more n k x h (in_second j is e) = let o = only_one n j x e in omega (arith, o.0, o.1, count_below n)
 
 pub number_at : (n k x : ℕ) → slice_get (numbers_below n) k ≡ Some x → x ≡ k
 number_at zero k x e = absurd cc
@@ -75,25 +57,8 @@ taken_there : (x y : List ℕ) (xs : List (List ℕ)) (n : ℕ) → list_any (by
 taken_there x y [] n none e same = absurd cc
 taken_there x y (z ∷ xs) zero none e same =
     both_ways (bytes_eq x z) (or_parts (bytes_eq x z) (list_any (bytes_eq x) xs) none).0
-    ((bytes_eq-Decides x z).1 (same ∙ sym (some_is z y e)))
+    ((bytes_eq-Decides x z).1 (same ∙ sym (same_Some z y e)))
 taken_there x y (z ∷ xs) (suc n) none e same = taken_there x y xs n (or_parts (bytes_eq x z) (list_any (bytes_eq x) xs) none).1 e same
-
-pub distinct_apart : (xs : List (List ℕ)) (m n : ℕ) (x : List ℕ) → distinct xs ≡ true → slice_get xs m ≡ Some x → slice_get xs n ≡ Some x → m ≡ n
-distinct_apart [] m n x h e f = absurd cc
-distinct_apart (y ∷ xs) zero zero x h e f = refl
-distinct_apart (y ∷ xs) zero (suc n) x h e f =
-    let p = and_parts (not (list_any (bytes_eq y) xs)) (distinct xs) h in
-    absurd (taken_there y x xs n (not-true (list_any (bytes_eq y) xs) p.0) f (some_is y x e))
-distinct_apart (y ∷ xs) (suc m) zero x h e f =
-    let p = and_parts (not (list_any (bytes_eq y) xs)) (distinct xs) h in
-    absurd (taken_there y x xs m (not-true (list_any (bytes_eq y) xs) p.0) e (some_is y x f))
-distinct_apart (y ∷ xs) (suc m) (suc n) x h e f =
-    ap suc (distinct_apart xs m n x (and_parts (not (list_any (bytes_eq y) xs)) (distinct xs) h).1 e f)
-
-pub each_is : {A : Type 0} (p : A → Bool) (xs : List A) (k : ℕ) (x : A) → list_all p xs ≡ true → slice_get xs k ≡ Some x → p x ≡ true
-each_is p [] k x all is = absurd cc
-each_is p (y ∷ ys) zero x all is = subst (λ z. p z ≡ true) (some_is y x is) (and_parts (p y) (list_all p ys) all).0
-each_is p (y ∷ ys) (suc k) x all is = each_is p ys k x (and_parts (p y) (list_all p ys) all).1 is
 
 -- ---- lists one behind the other
 
@@ -136,7 +101,7 @@ pub record IsNumbered (k : ℕ) (ws : List ℕ) (n : ℕ) (w : VWire) : Type 0 w
 pub numbered_at : (k : ℕ) (ws : List ℕ) (n : ℕ) (w : VWire) → slice_get (numbered_from k ws) n ≡ Some w → IsNumbered k ws n w
 numbered_at k [] n w e = absurd cc
 numbered_at k (x ∷ ws) zero w e =
-    let same : numbered_wire k x ≡ w = some_is (numbered_wire k x) w e in
+    let same : numbered_wire k x ≡ w = same_Some (numbered_wire k x) w e in
     let number : k ≡ k + 0 = omega arith in
     record { is = ap (λ (v : VWire). v.name) (sym same) ∙ ap (λ j. codes "N" ++ decimal j) number }
 numbered_at k (x ∷ ws) (suc n) w e =
@@ -169,7 +134,7 @@ fire_first : (o : Outline) (os : List Outline) (w : VWire) → ((k : ℕ) → sl
     → (b : Bool) → is_value o.role ≡ b → (k : ℕ) → slice_get (cond b (fire_wires os) (fire_wire o.name ∷ fire_wires os)) k ≡ Some w
     → IsFire (o ∷ os) k w
 fire_first o os w more true is k e = let h = more k e in fire_later o os k k w h (h.place ∙ fires_more o os true h.number is)
-fire_first o os w more false is zero e = record { number = 0; outline = o; at = refl; is = some_is (fire_wire o.name) w e; place = refl }
+fire_first o os w more false is zero e = record { number = 0; outline = o; at = refl; is = same_Some (fire_wire o.name) w e; place = refl }
 fire_first o os w more false is (suc k) e =
     let h = more k e in fire_later o os k (suc k) w h (ap suc h.place ∙ fires_more o os false h.number is)
 
@@ -185,7 +150,7 @@ pub record HasFireWire (os : List Outline) (name : List ℕ) : Type 0 where
 pub fire_of : (os : List Outline) (n : ℕ) (o : Outline) → slice_get os n ≡ Some o → is_value o.role ≡ false → HasFireWire os o.name
 fire_of [] n o e acts = absurd cc
 fire_of (p ∷ os) zero o e acts =
-    let same : p ≡ o = some_is p o e in
+    let same : p ≡ o = same_Some p o e in
     let value : is_value p.role ≡ false = ap (λ (x : Outline). is_value x.role) same ∙ acts in
     record {
       place = 0;

@@ -1,5 +1,5 @@
 -- What is promised of the module of a design and of its net.
-use Rattle.std.proofs.Common.{◌≡◌, ◌∙◌, ℕ, ◌<◌, ◌^◌, Bool, true, IsTrue, List, length, map, sym, ap, ap₂, subst, arith}
+use Rattle.std.proofs.Common.{◌≡◌, ◌∙◌, ℕ, ◌<◌, ◌^◌, Bool, true, IsTrue, List, length, map, sym, ap, subst, arith}
 use Rattle.std.specs.Prelude.{nat_lt}
 use Rattle.std.proofs.Math.Logic.{∥∥₁_elim, ∥∥₁_prop}
 use Rattle.std.proofs.lemmas.Bool.{ltb-true}
@@ -100,9 +100,3 @@ module _ (d : Design) (n : Net) (v : Contents) (is : v ≡ module_of (blueprint 
 abbrev of_parts : List ℕ → List VMethod → List VRegister → List VWire → List Assign → List Atom → Contents
 of_parts name methods registers wires assigns nexts =
     record { name = name; methods = methods; registers = registers; wires = wires; assigns = assigns; nexts = nexts }
-
-pub same_parts : (x y : Contents) → x.name ≡ y.name → x.methods ≡ y.methods → x.registers ≡ y.registers → x.wires ≡ y.wires → x.assigns ≡ y.assigns → x.nexts ≡ y.nexts → x ≡ y
-same_parts x y name methods registers wires assigns nexts =
-    ap₂ (λ n ms. of_parts n ms x.registers x.wires x.assigns x.nexts) name methods
-    ∙ ap₂ (λ rs ws. of_parts y.name y.methods rs ws x.assigns x.nexts) registers wires
-    ∙ ap₂ (λ xs ns. of_parts y.name y.methods y.registers y.wires xs ns) assigns nexts

@@ -2,6 +2,7 @@
 use Rattle.std.proofs.Common.{◌≡◌, ◌∙◌, ◌<◌, ℕ, zero, suc, Bool, true, false, List, [], ◌∷◌, ◌++◌, Some, refl, sym, ap, subst, arith, length, length-append, map, drop}
 use Rattle.std.specs.Prelude.{cond, not, slice_get, if◌then◌else◌}
 use Rattle.std.proofs.lemmas.List.{drop_at, length-map, map-append}
+use Rattle.bsv_lemmas.proofs.Places.{mapped_at, at_left}
 use Rattle.bsv_bits.specs.Words.{Bits}
 use Rattle.bsv_prim.specs.Table.{word_at}
 use Rattle.bsv_prim.specs.declared.part.Part.{Part}
@@ -11,15 +12,15 @@ use Rattle.bsv_design.specs.Kinds.{kind_table, kind_laws}
 use Rattle.bsv_design.specs.States.{FitsKinds, opening}
 use Rattle.bsv_graph.specs.Edges.{numbers_below}
 use Rattle.bsv_guard.specs.Fitting.{HaveWidths}
-use Rattle.bsv_guard.proofs.Lists.{mapped_at}
 use Rattle.bsv_clock.specs.Hardware.{Cell, Shows, cell_of, cell_widths, cells_in, cells_of}
-use Rattle.bsv_net.proofs.Numbers.{count_below, got_before, number_at}
+use Rattle.bsv_net.proofs.Numbers.{number_at}
 use Rattle.bsv_net.proofs.ShownRegisters.{shows_same}
 use Rattle.bsv_vtext.specs.declared.tree.VRegister.{VRegister}
 use Rattle.bsv_vtext.specs.Signals.{Contents}
 use Rattle.bsv_vtext.specs.VClock.{reset_words}
 use Rattle.bsv_vgen.specs.Interfaces.{cell}
 use Rattle.bsv_vgen.specs.Resetting.{BeginsOpen, Resets, keeps, reset_part, reset_parts}
+use Rattle.bsv_graph.proofs.Below.{count_below}
 
 -- ---- words behind a reset, by cells
 
@@ -57,7 +58,7 @@ long_cells k = length-map (numbers_below (kind_table k).registers) (cell_of (kin
 cell_there : (k : Kind) (more : List Cell) (r : ℕ) → r < (kind_table k).registers
     → slice_get (cells_in k ++ more) r ≡ Some (cell_of (kind_table k) r)
 cell_there k more r l =
-    got_before (cells_in k) more r (omega (arith, l, long_cells k))
+    at_left (cells_in k) more r (omega (arith, l, long_cells k))
     ∙ mapped_at (cell_of (kind_table k)) (numbers_below (kind_table k).registers) r r (number_at (kind_table k).registers r l)
 
 -- a reset sets the registers of every kind but those without a start

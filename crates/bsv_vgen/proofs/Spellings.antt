@@ -4,7 +4,7 @@ use Rattle.std.proofs.Common.{◌≡◌, ◌∙◌, ℕ, ◌^◌, ◌<◌, Bool,
 use Rattle.std.specs.Prelude.{◌==◌, decimal}
 use Rattle.std.specs.Char.{is_ascii_uppercase}
 use Rattle.std.specs.List.{list_all}
-use Rattle.std.proofs.lemmas.Bool.{false≢true, and_parts, and_from, or_from, or_left, not-true, not_from_false, false_from_ne_true, eqb-true}
+use Rattle.std.proofs.lemmas.Bool.{false≢true, and_parts, and_from, or_from, or_left, not-true, not_from_false, false_from_ne_true, eqb-true, cond-true, cond-false}
 use Rattle.std.proofs.lemmas.List.Folds.{list_all-append}
 use Rattle.bsv_ast.specs.Names.{is_lower, is_keyword, begins_name, is_word, is_capital}
 use Rattle.bsv_ast.proofs.Names.{begins_small, word_no_dollar, lower_words, lower_small, decimal_words}
@@ -67,22 +67,16 @@ numbered_or_fire digits name e = false≢true (sym (ap begins_n e)) where
   begins_n [] = false
   begins_n (b ∷ bytes) = b == 78
 
-chosen : {A : Type 0} (b : Bool) (x y : A) → b ≡ true → (if b then x else y) ≡ x
-chosen b x y e = ap (λ (c : Bool). if c then x else y) e
-
-passed : {A : Type 0} (b : Bool) (x y : A) → b ≡ false → (if b then x else y) ≡ y
-passed b x y e = ap (λ (c : Bool). if c then x else y) e
-
 small_is : (text rest : List ℕ) → begins_small text ≡ true → sort (text ++ rest) ≡ small_sort (text ++ rest)
 small_is [] rest h = absurd (false≢true h)
 small_is (b ∷ text) rest h =
-    passed (is_ascii_uppercase b) (capital_sort b (text ++ rest)) (small_sort (b ∷ (text ++ rest)))
+    cond-false (is_ascii_uppercase b) (capital_sort b (text ++ rest)) (small_sort (b ∷ (text ++ rest)))
     (not-true (is_ascii_uppercase b) (and_parts (begins_name b) (not (is_ascii_uppercase b)) h).1)
 
 pub register_sort : (path rest : List ℕ) → IsRoute path → is_capital rest ≡ true → sort (verilog_name path ++ 36 ∷ rest) ≡ Registers
 register_sort path rest p h =
     small_is (verilog_name path) (36 ∷ rest) (small_first path p.small)
-    ∙ chosen (marked (verilog_name path ++ 36 ∷ rest)) Registers _ (marked_in (verilog_name path) rest h)
+    ∙ cond-true (marked (verilog_name path ++ 36 ∷ rest)) Registers _ (marked_in (verilog_name path) rest h)
 
 -- ---- names with one `$`, and without
 
@@ -115,15 +109,15 @@ between_unmarked (b ∷ m) a h k =
 pub argument_sort : (m a : List ℕ) → is_lower m ≡ true → is_lower a ≡ true → sort (argument_name m a) ≡ Arguments
 argument_sort m a h k =
     small_is m (36 ∷ a) (lower_small m h)
-    ∙ passed (marked (m ++ 36 ∷ a)) Registers _ (between_unmarked m a (lower_words m h) k)
-    ∙ chosen (has_dollar (m ++ 36 ∷ a)) Arguments Results (dollar_in m a)
+    ∙ cond-false (marked (m ++ 36 ∷ a)) Registers _ (between_unmarked m a (lower_words m h) k)
+    ∙ cond-true (has_dollar (m ++ 36 ∷ a)) Arguments Results (dollar_in m a)
 
 unmarked_sort : (text : List ℕ) → marked text ≡ false → has_dollar text ≡ false → small_sort text ≡ Results
-unmarked_sort text h k = passed (marked text) Registers _ h ∙ passed (has_dollar text) Arguments Results k
+unmarked_sort text h k = cond-false (marked text) Registers _ h ∙ cond-false (has_dollar text) Arguments Results k
 
 result_is : (m : List ℕ) → begins_small m ≡ true → sort m ≡ small_sort m
 result_is [] h = absurd (false≢true h)
-result_is (b ∷ m) h = passed (is_ascii_uppercase b) (capital_sort b m) (small_sort (b ∷ m)) (small_capital (b ∷ m) h)
+result_is (b ∷ m) h = cond-false (is_ascii_uppercase b) (capital_sort b m) (small_sort (b ∷ m)) (small_capital (b ∷ m) h)
 
 pub result_sort : (m : List ℕ) → is_lower m ≡ true → sort m ≡ Results
 result_sort m h = result_is m (lower_small m h) ∙ unmarked_sort m (words_unmarked m (lower_words m h)) (words_bare m (lower_words m h))

@@ -5,6 +5,7 @@ use Rattle.std.specs.List.{list_all}
 use Rattle.std.proofs.lemmas.Bool.{false≢true}
 use Rattle.std.proofs.lemmas.Fmt.{decimal_injective}
 use Rattle.std.proofs.lemmas.List.{append_cancel_left}
+use Rattle.std.proofs.lemmas.Option.{same_Some}
 use Rattle.bsv_ast.specs.Names.{is_capital}
 use Rattle.bsv_ast.proofs.Names.{decimal_words}
 use Rattle.bsv_graph.specs.Edges.{numbers_below}
@@ -13,7 +14,7 @@ use Rattle.bsv_design.specs.declared.kind.Kind.TheVariants.{Reg, RegU, Wire, DWi
 use Rattle.bsv_vtext.specs.Modules.{is_name_byte}
 use Rattle.bsv_vgen.specs.Names.{item_suffix, queue_suffixes, suffixes}
 use Rattle.bsv_vgen.proofs.Spellings.{words_named}
-use Rattle.bsv_vgen.proofs.Places.{some_is, made_of, number_at}
+use Rattle.bsv_vgen.proofs.Places.{made_of, number_at}
 
 -- the suffix at a place
 pub data SuffixAt (i : ℕ) (s : List ℕ) : Type 0 where
@@ -22,13 +23,13 @@ pub data SuffixAt (i : ℕ) (s : List ℕ) : Type 0 where
   item : (k : ℕ) → i ≡ suc k → s ≡ item_suffix k → SuffixAt i s
 
 queue_at : (depth i : ℕ) (s : List ℕ) → slice_get (queue_suffixes depth) i ≡ Some s → SuffixAt i s
-queue_at depth zero s e = count refl (sym (some_is (codes "$N") s e))
+queue_at depth zero s e = count refl (sym (same_Some (codes "$N") s e))
 queue_at depth (suc i) s e =
     let m = made_of item_suffix (numbers_below depth) i s e in
     item i refl (sym m.is ∙ ap item_suffix (number_at depth i m.from m.at))
 
 whole_at : (i : ℕ) (s : List ℕ) → slice_get (codes "$Q" ∷ []) i ≡ Some s → SuffixAt i s
-whole_at zero s e = whole refl (sym (some_is (codes "$Q") s e))
+whole_at zero s e = whole refl (sym (same_Some (codes "$Q") s e))
 whole_at (suc i) s e = absurd cc
 
 pub suffix_at : (k : Kind) (i : ℕ) (s : List ℕ) → slice_get (suffixes k) i ≡ Some s → SuffixAt i s

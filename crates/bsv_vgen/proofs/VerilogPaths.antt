@@ -5,6 +5,7 @@ use Rattle.std.specs.Prelude.{◌==◌}
 use Rattle.std.specs.Char.{is_ascii_uppercase}
 use Rattle.std.specs.List.{list_all}
 use Rattle.std.proofs.lemmas.Bool.{false≢true, both_ways, and_parts, and_from, or_left, not-true, eqb-true}
+use Rattle.bsv_lemmas.proofs.Lists.{same_head, same_tail}
 use Rattle.bsv_ast.specs.Names.{is_lower, begins_name, is_word, is_capital}
 use Rattle.bsv_ast.proofs.Names.{begins_small, begins_word, word_no_dollar, word_no_dot, lower_words, lower_small}
 use Rattle.bsv_design.specs.Designs.{IsDotted}
@@ -104,12 +105,6 @@ byte_named : (b : ℕ) (bytes : List ℕ) → ByteOf b bytes → is_name_byte (w
 byte_named b bytes (word h) = subst (λ (c : ℕ). is_name_byte c ≡ true) (sym (word_stays b h)) (or_left (is_word b) (b == 36) h)
 byte_named b bytes (dot is small) = subst (λ (c : ℕ). is_name_byte c ≡ true) (sym (dot_written b is)) refl
 
-heads : (b c : ℕ) (xs ys : List ℕ) → b ∷ xs ≡ c ∷ ys → b ≡ c
-heads b c xs ys e = cc
-
-tails : (b c : ℕ) (xs ys : List ℕ) → b ∷ xs ≡ c ∷ ys → xs ≡ ys
-tails b c xs ys e = cc
-
 -- paths are one where their names in Verilog are
 same_routed : (xs ys : List ℕ) → routed xs ≡ true → routed ys ≡ true → verilog_name xs ≡ verilog_name ys → xs ≡ ys
 same_routed [] [] p q e = refl
@@ -118,8 +113,8 @@ same_routed (b ∷ xs) [] p q e = absurd cc
 same_routed (b ∷ xs) (c ∷ ys) p q e =
     let left = and_parts (fits_before b xs) (routed xs) p in
     let right = and_parts (fits_before c ys) (routed ys) q in
-    let first = heads (written b) (written c) (verilog_name xs) (verilog_name ys) e in
-    let rest = tails (written b) (written c) (verilog_name xs) (verilog_name ys) e in
+    let first = same_head (written b) (written c) (verilog_name xs) (verilog_name ys) e in
+    let rest = same_tail (written b) (written c) (verilog_name xs) (verilog_name ys) e in
     ap₂ (λ (d : ℕ) (bytes : List ℕ). d ∷ bytes) (byte_same b c xs ys (byte_of b xs left.0) (byte_of c ys right.0) first)
     (same_routed xs ys left.1 right.1 rest)
 
@@ -151,18 +146,18 @@ not_capital (b ∷ xs) rest h = not-true (is_ascii_uppercase b) (and_parts (begi
 -- the first dot is not where the other path ends
 dot_goes_on : (c : ℕ) (r s ys : List ℕ) → is_capital r ≡ true → fits_before c ys ≡ true → 36 ∷ r ≡ written c ∷ (verilog_name ys ++ s) → ⊥
 dot_goes_on c r s ys h fits e =
-    let small = dollar_dot c ys (byte_of c ys fits) (sym (heads 36 (written c) r (verilog_name ys ++ s) e)) in
-    let behind = tails 36 (written c) r (verilog_name ys ++ s) e in
+    let small = dollar_dot c ys (byte_of c ys fits) (sym (same_head 36 (written c) r (verilog_name ys ++ s) e)) in
+    let behind = same_tail 36 (written c) r (verilog_name ys ++ s) e in
     both_ways (is_capital r) (ap is_capital behind ∙ not_capital (verilog_name ys) s (small_first ys small)) h
 
 cut : (xs ys r s : List ℕ) → routed xs ≡ true → routed ys ≡ true → is_capital r ≡ true → is_capital s ≡ true
     → verilog_name xs ++ 36 ∷ r ≡ verilog_name ys ++ 36 ∷ s → (verilog_name xs ≡ verilog_name ys) × (r ≡ s)
-cut [] [] r s p q h k e = (refl, tails 36 36 r s e)
+cut [] [] r s p q h k e = (refl, same_tail 36 36 r s e)
 cut [] (c ∷ ys) r s p q h k e = absurd (dot_goes_on c r (36 ∷ s) ys h (and_parts (fits_before c ys) (routed ys) q).0 e)
 cut (b ∷ xs) [] r s p q h k e = absurd (dot_goes_on b s (36 ∷ r) xs k (and_parts (fits_before b xs) (routed xs) p).0 (sym e))
 cut (b ∷ xs) (c ∷ ys) r s p q h k e =
-    let first = heads (written b) (written c) (verilog_name xs ++ 36 ∷ r) (verilog_name ys ++ 36 ∷ s) e in
-    let rest = tails (written b) (written c) (verilog_name xs ++ 36 ∷ r) (verilog_name ys ++ 36 ∷ s) e in
+    let first = same_head (written b) (written c) (verilog_name xs ++ 36 ∷ r) (verilog_name ys ++ 36 ∷ s) e in
+    let rest = same_tail (written b) (written c) (verilog_name xs ++ 36 ∷ r) (verilog_name ys ++ 36 ∷ s) e in
     let more = cut xs ys r s (and_parts (fits_before b xs) (routed xs) p).1 (and_parts (fits_before c ys) (routed ys) q).1 h k rest in
     (ap₂ (λ (d : ℕ) (bytes : List ℕ). d ∷ bytes) first more.0, more.1)
 

@@ -1,7 +1,6 @@
 -- The module of a design and of its net is one of the profile, has the names and the ports of the design, and computes what
 -- the net does.
 use Rattle.std.proofs.Common.{◌≡◌, ◌∙◌, ℕ, zero, suc, ◌+◌, ◌-◌, ◌<◌, ◌≤◌, ◌^◌, Bool, true, false, ◌&&◌, cond, not, IsTrue, List, [], ◌∷◌, ◌++◌, length, map, Option, Some, None, refl, sym, ap, ap₂, subst, arith, length-append, append-nil, ◌⊎◌, inl, inr}
-use Rattle.std.proofs.Math.Nat.{ℕ_set}
 use Rattle.std.specs.Prelude.{slice_get, option_map, nat_le, nat_lt}
 use Rattle.std.specs.Option.{option_and_then}
 use Rattle.std.specs.List.{list_all}
@@ -10,6 +9,7 @@ use Rattle.std.proofs.Math.Pow.{pow_pos}
 use Rattle.std.proofs.Math.Logic.{∥∥₁_elim}
 use Rattle.std.proofs.lemmas.List.{length-map}
 use Rattle.std.proofs.lemmas.Option.{same_Some, slice_get_within, slice_get-map, slice_get_past}
+use Rattle.bsv_lemmas.proofs.Places.{mapped_at, at_right, item_there}
 use Rattle.bsv_bits.specs.Words.{Bits, bit}
 use Rattle.bsv_prim.specs.Table.{IsWordOf}
 use Rattle.bsv_prim.specs.declared.primitive.RegisterInfo.{RegisterInfo}
@@ -25,12 +25,11 @@ use Rattle.bsv_design.specs.States.{methods_in}
 use Rattle.bsv_design.specs.Widths.{has_width}
 use Rattle.bsv_guard.specs.Fitting.{HaveWidths}
 use Rattle.bsv_guard.proofs.BodyFits.{width_is}
-use Rattle.bsv_guard.proofs.Lists.{holds_at_all, mapped_at, item_of}
+use Rattle.bsv_guard.proofs.Lists.{holds_at_all, item_of}
 use Rattle.bsv_net.specs.declared.circuit.Circuit.{Circuit}
 use Rattle.bsv_net.specs.Circuits.{IsCircuit, is_bit, is_within, names, nexts_fit, register_widths, words}
 use Rattle.bsv_net.specs.Circuits as circuits
 use Rattle.bsv_net.specs.Equations.{Satisfies}
-use Rattle.bsv_net.proofs.Lists.{got_right}
 use Rattle.bsv_net.proofs.Solution.{satisfies, words_have, same_length}
 use Rattle.bsv_net.specs.Hardware.{gives}
 use Rattle.bsv_clock.specs.Hardware as carrying
@@ -54,7 +53,7 @@ use Rattle.bsv_vgen.specs.Lines.{Written, Nodes, or_nothing, known_at}
 use Rattle.bsv_vgen.specs.Modules.{assign, inputs, known_of, lines, method_of, module_with, nothing_written, outputs_from, result_of, told_at, with_fires}
 use Rattle.bsv_vgen.specs.Names.{register_names, fire_wires}
 use Rattle.bsv_vgen.proofs.Cells.{name_count, cells_same, names_same, registers_count, register_is, register_width}
-use Rattle.bsv_vgen.proofs.Computes.{input_words, or_zero, Computes}
+use Rattle.bsv_vgen.proofs.Computes.{input_words, Computes}
 use Rattle.bsv_vgen.proofs.Fires.{fires_wires, fires_many, fires_before, fires_right, fires_told}
 use Rattle.bsv_vgen.proofs.Forward.{IsNumbered, nodes_numbered, widths_of}
 use Rattle.bsv_vgen.proofs.Fronts.{Reaches, AreRight, none_right, stands_later}
@@ -67,6 +66,8 @@ use Rattle.bsv_vgen.proofs.Outputs.{IsOutput, IsOutputIn, IsPlaced, ready, resul
 use Rattle.bsv_vgen.proofs.NamesApart.{apart}
 use Rattle.bsv_vgen.proofs.NamesRight.{name_right, method_right, argument_right, register_right, wire_right, wire_fires, fires}
 use Rattle.bsv_vgen.proofs.Told.{Solved}
+use Rattle.bsv_design.specs.Running.{or_zero}
+use Rattle.bsv_clock.proofs.Propositions.{bits_set}
 
 -- ---- the widths of a net
 
@@ -90,12 +91,6 @@ none_past : {A : Type 0} (xs : List A) (k : ℕ) → slice_get xs k ≡ None →
 none_past [] k e = omega arith
 none_past (x ∷ xs) zero e = absurd (let h : ⊥ = cc in h)
 none_past (x ∷ xs) (suc k) e = let l = none_past xs k e in omega (arith, l)
-
--- there is an entry of each number below the length
-pub entry_there : {A : Type 0} (xs : List A) (k : ℕ) → k < length xs → (x : A) × (slice_get xs k ≡ Some x)
-entry_there [] k l = absurd (omega (arith, l))
-entry_there (x ∷ xs) zero l = (x, refl)
-entry_there (x ∷ xs) (suc k) l = entry_there xs k (omega (arith, l))
 
 -- what stands beside the nodes of a circuit
 record IsOrdered (us : List ℕ) (c : Circuit) : Type 0 where
@@ -138,10 +133,6 @@ next_count us [] [] h = refl
 next_count us [] (r ∷ rs) h = absurd (let i : ⊥ = cc in i)
 next_count us (n ∷ ns) [] h = absurd (let i : ⊥ = cc in i)
 next_count us (n ∷ ns) (r ∷ rs) h = ap suc (next_count us ns rs (and_parts (has_width (slice_get us n) r.width) (nexts_fit us ns rs) h).1)
-
--- words are a set
-bits_set : IsSet Bits
-bits_set = hlevel ℕ_set
 
 module _ (b : Blueprint) (c : Circuit)
     (cells : map carrying.cell c.registers ≡ cells_of (map (λ p. p.kind) b.parts)) (widths : c.inputs ≡ input_widths_of (map outline b.elements)) where
@@ -196,7 +187,7 @@ module _ (b : Blueprint) (c : Circuit)
   output_at : (j : ℕ) (x : Assign) → slice_get outputs j ≡ Some x → slice_get m.assigns (length F.wires + j) ≡ Some x
   output_at j x there =
       let same : length F.wires + j ≡ length F.assigns + j = (let e = many in omega (arith, e)) in
-      ap (slice_get m.assigns) same ∙ got_right F.assigns outputs j ∙ there
+      ap (slice_get m.assigns) same ∙ at_right F.assigns outputs j ∙ there
 
   reaches_fires : Reaches m F
   reaches_fires = record {
@@ -297,7 +288,7 @@ module _ (b : Blueprint) (c : Circuit)
       | inr long ↦
           let place : l ≡ length F.wires + (l - length F.wires) = omega (arith, long) in
           let same : length F.wires + (l - length F.wires) ≡ length F.assigns + (l - length F.wires) = (let e = many in omega (arith, e)) in
-          output (l - length F.wires) place (sym (got_right F.assigns outputs (l - length F.wires)) ∙ ap (slice_get m.assigns) (sym (place ∙ same)) ∙ there)
+          output (l - length F.wires) place (sym (at_right F.assigns outputs (l - length F.wires)) ∙ ap (slice_get m.assigns) (sym (place ∙ same)) ∙ there)
     ]
       where
         below_or_behind : (a n : ℕ) → (a < n) ⊎ (n ≤ a)
@@ -388,7 +379,7 @@ module _ (b : Blueprint) (c : Circuit)
     wire_assigned k w there =
         let few : k < length F.wires = slice_get_within m.wires k w there in
         let long : k < length m.assigns = (let e = many in omega (arith, few, e, length-append F.assigns outputs)) in
-        let x = entry_there m.assigns k long in
+        let x = item_there m.assigns k long in
         record { line = k; assign = x.0; at = x.1; target_is = lines_right.targets k x.0 few x.1 }
 
     placed : (t : Target) (x : Assign) → x.target ≡ t → IsPlaced ks c 0 methods x → IsAssigned m t

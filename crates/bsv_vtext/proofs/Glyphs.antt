@@ -1,11 +1,13 @@
 -- The bytes of names and of numbers.
-use Rattle.std.proofs.Common.{◌≡◌, ◌∙◌, ℕ, zero, suc, ◌+◌, ◌*◌, ◌/◌, ◌%◌, ◌^◌, ◌<◌, ◌≤◌, Bool, true, false, ◌||◌, ◌==◌, List, [], ◌∷◌, ◌++◌, codes, decimal, length, refl, sym, ap, subst, arith, append_assoc}
+use Rattle.std.proofs.Common.{◌≡◌, ◌∙◌, ℕ, zero, suc, ◌+◌, ◌*◌, ◌/◌, ◌%◌, ◌^◌, ◌<◌, ◌≤◌, Bool, true, ◌||◌, ◌==◌, List, [], ◌∷◌, ◌++◌, codes, decimal, length, refl, sym, ap, subst, arith, append_assoc}
 use Rattle.std.proofs.lemmas.Bool.Decides.{nat_tests}
 use Rattle.std.proofs.lemmas.Fmt.{decimal_by_steps, decimal_injective, decimal_nonempty}
 use Rattle.std.proofs.lemmas.List.{same_from_push}
 use Rattle.std.proofs.Math.Pow.{pow_mono}
 use Rattle.std.proofs.lemmas.Nat.{pow-add}
 use Rattle.std.specs.Char.{is_ascii_digit}
+use Rattle.std.proofs.lemmas.Bool.{or_left}
+use Rattle.bsv_lemmas.proofs.Digits.{digit_byte}
 use Rattle.bsv_bits.specs.Words.{Bits, IsWord}
 use Rattle.bsv_bits.specs.Constants.{constant_text, hex_digits, hex_glyph, digit_count}
 use Rattle.bsv_ast.specs.Names.{begins_name, is_word}
@@ -18,10 +20,6 @@ unfoldable pub is_glyph : ℕ → Bool
 is_glyph b = is_name_byte b || b == 39
 
 -- ---- which bytes are glyphs
-
-or_left : (a b : Bool) → a ≡ true → (a || b) ≡ true
-or_left true b e = refl
-or_left false b e = absurd cc
 
 pub word_is_name_byte : (b : ℕ) → is_word b ≡ true → is_name_byte b ≡ true
 word_is_name_byte b e = or_left (is_word b) (b == 36) e
@@ -41,13 +39,10 @@ digit_begins_no_name b e f = grind (arith, nat_tests)
 
 -- ---- numbers
 
-digit_glyph : (n : ℕ) → n < 10 → is_ascii_digit (48 + n) ≡ true
-digit_glyph n h = grind (arith, nat_tests)
-
 pub decimal_digits : (n : ℕ) → n < 2 ^ 64 → Each (Passes is_ascii_digit) (decimal n)
 decimal_digits = decimal_by_steps (λ n ds. Each (Passes is_ascii_digit) ds)
-    (λ n h. (digit_glyph n h, tt))
-    (λ n ds h some. each_append (Passes is_ascii_digit) ds ((48 + n % 10) ∷ []) some (digit_glyph (n % 10) (omega arith), tt))
+    (λ n h. (digit_byte n h, tt))
+    (λ n ds h some. each_append (Passes is_ascii_digit) ds ((48 + n % 10) ∷ []) some (digit_byte (n % 10) (omega arith), tt))
 
 pub decimal_name_bytes : (n : ℕ) → n < 2 ^ 64 → Each (Passes is_name_byte) (decimal n)
 decimal_name_bytes n h = each_weaker (Passes is_ascii_digit) (Passes is_name_byte) digit_is_name_byte (decimal n) (decimal_digits n h)

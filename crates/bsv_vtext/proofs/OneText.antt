@@ -245,7 +245,7 @@ contents name methods registers wires assigns nexts = record {
   nexts = nexts;
 }
 
-same_contents : (c d : Contents) → c.name ≡ d.name → c.methods ≡ d.methods → c.registers ≡ d.registers → c.wires ≡ d.wires → c.assigns ≡ d.assigns
+pub same_contents : (c d : Contents) → c.name ≡ d.name → c.methods ≡ d.methods → c.registers ≡ d.registers → c.wires ≡ d.wires → c.assigns ≡ d.assigns
     → c.nexts ≡ d.nexts → c ≡ d
 same_contents c d name methods registers wires assigns nexts =
     let all : contents c.name c.methods c.registers c.wires c.assigns c.nexts ≡ contents d.name d.methods d.registers d.wires d.assigns d.nexts = cc

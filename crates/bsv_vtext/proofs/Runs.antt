@@ -1,6 +1,8 @@
 -- A list is split in one way where a test passes on its front and fails behind it.
-use Rattle.std.proofs.Common.{◌≡◌, ◌∙◌, ℕ, suc, Bool, true, false, ◌&&◌, if◌then◌else◌, List, [], ◌∷◌, ◌++◌, map, slice_get, flat_map, Some, refl, sym, ap, subst, append_assoc}
+use Rattle.std.proofs.Common.{◌≡◌, ◌∙◌, ℕ, suc, Bool, true, false, if◌then◌else◌, List, [], ◌∷◌, ◌++◌, map, slice_get, flat_map, Some, refl, sym, ap, subst, append_assoc}
 use Rattle.std.specs.List.{list_all, concat}
+use Rattle.std.proofs.lemmas.Bool.{and_parts}
+use Rattle.bsv_lemmas.proofs.Lists.{same_head, same_tail}
 
 -- ---- what holds of each element
 
@@ -25,20 +27,9 @@ each_at P (x ∷ xs) all = (all 0 x refl, each_at P xs (λ k y e. all (suc k) y 
 abbrev pub Passes : (ℕ → Bool) → ℕ → Type 0
 Passes p b = p b ≡ true
 
-and_left : (a b : Bool) → (a && b) ≡ true → a ≡ true
-and_left true b e = refl
-and_left false b e = absurd cc
-
-and_right : (a b : Bool) → (a && b) ≡ true → b ≡ true
-and_right true b e = e
-and_right false b e = absurd cc
-
-pub both : (a b : Bool) → (a && b) ≡ true → (a ≡ true) × (b ≡ true)
-both a b e = (and_left a b e, and_right a b e)
-
 pub each_passes : (p : ℕ → Bool) (xs : List ℕ) → list_all p xs ≡ true → Each (Passes p) xs
 each_passes p [] e = tt
-each_passes p (x ∷ xs) e = let parts = both (p x) (list_all p xs) e in (parts.0, each_passes p xs parts.1)
+each_passes p (x ∷ xs) e = let parts = and_parts (p x) (list_all p xs) e in (parts.0, each_passes p xs parts.1)
 
 -- the list goes on with a byte that fails the test
 abbrev pub Stops : (ℕ → Bool) → List ℕ → Type 0
@@ -48,12 +39,6 @@ Stops p (b ∷ bs) = p b ≡ false
 clash : (p : ℕ → Bool) (x y : ℕ) → x ≡ y → p x ≡ true → p y ≡ false → ⊥
 clash p x y same passes fails = cc
 
-head_is : (x y : ℕ) (xs ys : List ℕ) → x ∷ xs ≡ y ∷ ys → x ≡ y
-head_is x y xs ys e = cc
-
-pub tail_is : (x y : ℕ) (xs ys : List ℕ) → x ∷ xs ≡ y ∷ ys → xs ≡ ys
-tail_is x y xs ys e = cc
-
 longer : (x y : ℕ) (xs ys : List ℕ) → x ≡ y → xs ≡ ys → x ∷ xs ≡ y ∷ ys
 longer x y xs ys e f = cc
 
@@ -62,12 +47,12 @@ pub split : (p : ℕ → Bool) (xs ys r s : List ℕ) → Each (Passes p) xs →
     → (xs ≡ ys) × (r ≡ s)
 split p [] [] r s some others stop end e = (refl, e)
 split p [] (y ∷ ys) [] s some others stop end e = absurd stop
-split p [] (y ∷ ys) (b ∷ r) s some others stop end e = absurd (clash p y b (sym (head_is b y r (ys ++ s) e)) others.0 stop)
+split p [] (y ∷ ys) (b ∷ r) s some others stop end e = absurd (clash p y b (sym (same_head b y r (ys ++ s) e)) others.0 stop)
 split p (x ∷ xs) [] r [] some others stop end e = absurd end
-split p (x ∷ xs) [] r (b ∷ s) some others stop end e = absurd (clash p x b (head_is x b (xs ++ r) s e) some.0 end)
+split p (x ∷ xs) [] r (b ∷ s) some others stop end e = absurd (clash p x b (same_head x b (xs ++ r) s e) some.0 end)
 split p (x ∷ xs) (y ∷ ys) r s some others stop end e =
-    let more = split p xs ys r s some.1 others.1 stop end (tail_is x y (xs ++ r) (ys ++ s) e) in
-    (longer x y xs ys (head_is x y (xs ++ r) (ys ++ s) e) more.0, more.1)
+    let more = split p xs ys r s some.1 others.1 stop end (same_tail x y (xs ++ r) (ys ++ s) e) in
+    (longer x y xs ys (same_head x y (xs ++ r) (ys ++ s) e) more.0, more.1)
 
 -- what stands behind the front that passes
 abbrev pub behind : (ℕ → Bool) → List ℕ → List ℕ

@@ -1,13 +1,14 @@
 -- The assignments of a text tell those of its module.
 use Rattle.std.proofs.Common.{◌≡◌, ◌∙◌, ℕ, Bool, ◌==◌, List, [], ◌∷◌, ◌++◌, flat_map, codes, refl, sym}
 use Rattle.std.proofs.lemmas.List.{append_cancel_left, map-id}
+use Rattle.bsv_lemmas.proofs.Lists.{same_tail}
 use Rattle.bsv_vtext.specs.declared.tree.Assign.{Assign}
 use Rattle.bsv_vtext.specs.declared.tree.Side.{Side}
 use Rattle.bsv_vtext.specs.declared.tree.Target.{Target}
 use Rattle.bsv_vtext.specs.Signals.{Contents, scope}
 use Rattle.bsv_vtext.specs.VText.{target_text, side_text, assign_line}
 use Rattle.bsv_vtext.specs.Modules.{IsModule, IsAssign}
-use Rattle.bsv_vtext.proofs.Runs.{Each, each_at, split, pieces, same_lines, tail_is}
+use Rattle.bsv_vtext.proofs.Runs.{Each, each_at, split, pieces, same_lines}
 use Rattle.bsv_vtext.proofs.Glyphs.{is_glyph}
 use Rattle.bsv_vtext.proofs.SameAtoms.{SameNames, HasWidth, target_glyphs, same_target}
 use Rattle.bsv_vtext.proofs.SameSides.{IsSide, side_is, same_side}
@@ -43,7 +44,7 @@ module _ (c d : Contents) (is : IsModule c) (other : IsModule d) (same : SameNam
       let side = same_side c d is other same x.side y.side (10 ∷ r) (10 ∷ s) good.1 fine.1 (append_cancel_left (codes " = ") _ _ front.1) in
       let target : x.target ≡ y.target = same_target c d is same x.target y.target good.0 fine.0 front.0 in
       let all : assign x.target x.side ≡ assign y.target y.side = cc (target, side.0) in
-      (all, tail_is 10 10 r s side.1)
+      (all, same_tail 10 10 r s side.1)
 
   pub same_assigns : (xs ys : List Assign) (r s : List ℕ) → Each (IsAssignment c) xs → Each (IsAssignment d) ys → Fails begins_assign r
       → Fails begins_assign s

@@ -2,6 +2,7 @@
 use Rattle.std.proofs.Common.{◌≡◌, ◌∙◌, ℕ, Bool, true, false, not, ◌&&◌, List, [], ◌∷◌, ◌++◌, Option, Some, None, codes, refl, sym, ap, append_assoc, arith}
 use Rattle.std.proofs.lemmas.Bool.Decides.{nat_tests}
 use Rattle.std.proofs.lemmas.List.{append_cancel_left}
+use Rattle.bsv_lemmas.proofs.Lists.{same_head, same_tail}
 use Rattle.bsv_ast.specs.Names.{is_capital, is_word, begins_name}
 use Rattle.bsv_vtext.specs.declared.tree.VMethod.{VMethod}
 use Rattle.bsv_vtext.specs.declared.tree.VWire.{VWire}
@@ -11,12 +12,6 @@ use Rattle.bsv_vtext.proofs.Runs.{Each, Passes, split}
 use Rattle.bsv_vtext.proofs.SignalNames.{IsLower, lower_is}
 
 -- ---- parts of ports
-
-head_is : (x y : Port) (xs ys : List Port) → x ∷ xs ≡ y ∷ ys → x ≡ y
-head_is x y xs ys e = cc
-
-tail_is : (x y : Port) (xs ys : List Port) → x ∷ xs ≡ y ∷ ys → xs ≡ ys
-tail_is x y xs ys e = cc
 
 -- what a list of ports begins with
 abbrev begins : (Port → Bool) → List Port → Bool
@@ -76,9 +71,9 @@ same_arguments m n [] (y ∷ ys) r s is other stop end e =
 same_arguments m n (x ∷ xs) [] r s is other stop end e =
     absurd (unlike takes (argument_ports m (x ∷ xs) ++ r) s e (takes_argument m x.name x.width is) end)
 same_arguments m n (x ∷ xs) (y ∷ ys) r s is other stop end e =
-    let first : x ≡ y = same_argument m n x y is other (head_is (argument_port m x) (argument_port n y) (argument_ports m xs ++ r)
+    let first : x ≡ y = same_argument m n x y is other (same_head (argument_port m x) (argument_port n y) (argument_ports m xs ++ r)
     (argument_ports n ys ++ s) e) in
-    let more = same_arguments m n xs ys r s is other stop end (tail_is (argument_port m x) (argument_port n y) (argument_ports m xs ++ r)
+    let more = same_arguments m n xs ys r s is other stop end (same_tail (argument_port m x) (argument_port n y) (argument_ports m xs ++ r)
     (argument_ports n ys ++ s) e) in
     let all : x ∷ xs ≡ y ∷ ys = cc (first, more.0) in
     (all, more.1)
@@ -99,17 +94,17 @@ same_enable : (m n : List ℕ) (acts does : Bool) (r s : List Port)
     → enable_ports m acts ++ (ready_port m ∷ r) ≡ enable_ports n does ++ (ready_port n ∷ s)
     → (acts ≡ does) × ((m ≡ n) × (r ≡ s))
 same_enable m n true true r s e =
-    let behind = tail_is (input (enable_name m) 1) (input (enable_name n) 1) (ready_port m ∷ r) (ready_port n ∷ s) e in
-    (refl, (same_ready m n (head_is (ready_port m) (ready_port n) r s behind), tail_is (ready_port m) (ready_port n) r s behind))
+    let behind = same_tail (input (enable_name m) 1) (input (enable_name n) 1) (ready_port m ∷ r) (ready_port n ∷ s) e in
+    (refl, (same_ready m n (same_head (ready_port m) (ready_port n) r s behind), same_tail (ready_port m) (ready_port n) r s behind))
 same_enable m n true false r s e = absurd (other_way (enable_name m) (ready_name n) 1 1
-    (head_is (input (enable_name m) 1) (ready_port n) (ready_port m ∷ r) s e))
+    (same_head (input (enable_name m) 1) (ready_port n) (ready_port m ∷ r) s e))
 same_enable m n false true r s e = absurd (other_way (enable_name n) (ready_name m) 1 1
-    (sym (head_is (ready_port m) (input (enable_name n) 1) r (ready_port n ∷ s) e)))
+    (sym (same_head (ready_port m) (input (enable_name n) 1) r (ready_port n ∷ s) e)))
 same_enable m n false false r s e = (
   refl,
   (
-    same_ready m n (head_is (ready_port m) (ready_port n) r s e),
-    tail_is (ready_port m) (ready_port n) r s
+    same_ready m n (same_head (ready_port m) (ready_port n) r s e),
+    same_tail (ready_port m) (ready_port n) r s
         e,
   ),
 )
@@ -120,7 +115,7 @@ same_result m n None None r s is other stop end e = (refl, e)
 same_result m n None (Some w) r s is other stop end e = absurd (unlike gives (output n w ∷ s) r (sym e) (gives_result n w other) stop)
 same_result m n (Some v) None r s is other stop end e = absurd (unlike gives (output m v ∷ r) s e (gives_result m v is) end)
 same_result m n (Some v) (Some w) r s is other stop end e =
-    (ap (λ (p : Port). Some p.width) (head_is (output m v) (output n w) r s e), tail_is (output m v) (output n w) r s e)
+    (ap (λ (p : Port). Some p.width) (same_head (output m v) (output n w) r s e), same_tail (output m v) (output n w) r s e)
 
 -- ---- methods
 

@@ -1,6 +1,7 @@
 -- A text tells its side.
 use Rattle.std.proofs.Common.{◌≡◌, ◌∙◌, ℕ, ◌<◌, ◌≤◌, ◌^◌, Bool, true, false, if◌then◌else◌, ◌==◌, List, [], ◌∷◌, ◌++◌, take, drop, length, slice_get, Option, Some, None, option_map, codes, decimal, flat_map, bytes_eq, refl, sym, ap, subst, arith}
 use Rattle.std.proofs.lemmas.List.{append_cancel_left, map-id}
+use Rattle.bsv_lemmas.proofs.Lists.{same_tail}
 use Rattle.bsv_vtext.specs.declared.tree.VMethod.{VMethod}
 use Rattle.bsv_vtext.specs.declared.tree.VWire.{VWire}
 use Rattle.bsv_vtext.specs.declared.tree.Atom.{Atom}
@@ -14,7 +15,7 @@ use Rattle.bsv_vtext.specs.Widths.{width_fits, atom_width, enable_width, Sort, E
 use Rattle.bsv_vtext.specs.Widths as widths
 use Rattle.bsv_vtext.specs.VText.{operator_text, joined_atom, joined_atoms, side_text}
 use Rattle.bsv_vtext.specs.Modules.{IsModule, IsMethod, Stands}
-use Rattle.bsv_vtext.proofs.Runs.{Each, Passes, Stops, split, behind, behind_is, concat_on, pieces, same_lines, tail_is, regrouped}
+use Rattle.bsv_vtext.proofs.Runs.{Each, Passes, Stops, split, behind, behind_is, concat_on, pieces, same_lines, regrouped}
 use Rattle.bsv_vtext.proofs.Glyphs.{is_glyph, same_number, fits_below}
 use Rattle.bsv_vtext.proofs.SameAtoms.{SameNames, IsSized, said, is_opener, atom_glyphs, atom_opens_nothing, same_atom}
 
@@ -347,16 +348,16 @@ module _ (c d : Contents) (is : IsModule c) (other : IsModule d) (same : SameNam
   unfolding is_glyph
   same_shape (side.Is a) (side.Is b) r s good fine one e =
       let parts = same_front a b (59 ∷ r) (59 ∷ s) good fine refl refl e in
-      (ap side.Is parts.0, tail_is 59 59 r s parts.1)
+      (ap side.Is parts.0, same_tail 59 59 r s parts.1)
   same_shape (side.Not a) (side.Not b) r s good fine one e =
       let parts = same_front a b (59 ∷ r) (59 ∷ s) good fine refl refl (append_cancel_left (codes "~") (said c a ++ 59 ∷ r) (said d b ++ 59 ∷ s) e) in
-      (ap side.Not parts.0, tail_is 59 59 r s parts.1)
+      (ap side.Not parts.0, same_tail 59 59 r s parts.1)
   same_shape (side.Two o a b) (side.Two q x y) r s good fine one e =
       let op : o ≡ q = cc in
       let whole = pieces (two_pieces c (operator_text o) a b) (two_pieces d (operator_text q) x y) (59 ∷ r) (59 ∷ s) e in
       let parts = same_pair a b x y (operator_text o) (59 ∷ r) (59 ∷ s) good.0 good.1 fine.0 fine.1 (operator_stops o) refl refl
       (whole ∙ ap (λ (q : VOperator). said d x ++ (operator_text q ++ (said d y ++ 59 ∷ s))) (sym op)) in
-      (cc (op, parts.0, parts.1.0), tail_is 59 59 r s parts.1.1)
+      (cc (op, parts.0, parts.1.0), same_tail 59 59 r s parts.1.1)
   same_shape (side.LessSigned a b) (side.LessSigned x y) r s good fine one e =
       let whole = pieces (signed_pieces c (codes ") < $signed(") a b) (signed_pieces d (codes ") < $signed(") x y) (59 ∷ r) (59 ∷ s) e in
       let parts = same_pair a b x y (codes ") < $signed(") (codes ")" ++ 59 ∷ r) (codes ")" ++ 59 ∷ s) good.0 good.1 fine.0 fine.1 (λ t. refl) refl
@@ -371,19 +372,19 @@ module _ (c d : Contents) (is : IsModule c) (other : IsModule d) (same : SameNam
       let whole = pieces (shift_pieces c a b) (shift_pieces d x y) (59 ∷ r) (59 ∷ s) e in
       let parts = same_pair a b x y (codes ") >>> ") (59 ∷ r) (59 ∷ s) good.0 good.1 fine.0 fine.1 (λ t. refl) refl refl
       (append_cancel_left (codes "$signed(") _ _ whole) in
-      (cc (parts.0, parts.1.0), tail_is 59 59 r s parts.1.1)
+      (cc (parts.0, parts.1.0), same_tail 59 59 r s parts.1.1)
   same_shape (side.Pick t a b) (side.Pick u x y) r s good fine one e =
       let whole = pieces (pick_pieces c t a b) (pick_pieces d u x y) (59 ∷ r) (59 ∷ s) e in
       let test = same_front t u _ _ good.0 fine.0 refl refl whole in
       let parts = same_pair a b x y (codes " : ") (59 ∷ r) (59 ∷ s) good.1.0 good.1.1 fine.1.0 fine.1.1 (λ t. refl) refl refl
       (append_cancel_left (codes " ? ") _ _ test.1) in
-      (cc (test.0, parts.0, parts.1.0), tail_is 59 59 r s parts.1.1)
+      (cc (test.0, parts.0, parts.1.0), same_tail 59 59 r s parts.1.1)
   same_shape (side.Join []) (side.Join ys) r s good fine one e = absurd good
   same_shape (side.Join (a ∷ xs)) (side.Join []) r s good fine one e = absurd fine
   same_shape (side.Join (a ∷ xs)) (side.Join (b ∷ ys)) r s good fine one e =
       let whole = pieces (join_pieces c (a ∷ xs)) (join_pieces d (b ∷ ys)) (59 ∷ r) (59 ∷ s) e in
       let parts = same_join a b xs ys (59 ∷ r) (59 ∷ s) good fine (append_cancel_left (codes "{") _ _ whole) in
-      (ap side.Join parts.0, tail_is 59 59 r s parts.1)
+      (ap side.Join parts.0, same_tail 59 59 r s parts.1)
   same_shape (side.Slice a high low) (side.Slice b top bottom) r s good fine one e =
       let whole = pieces (slice_pieces c a high low) (slice_pieces d b top bottom) (59 ∷ r) (59 ∷ s) e in
       let front = same_front a b _ _ good.0 fine.0 refl refl whole in

@@ -2,6 +2,8 @@
 use Rattle.std.proofs.Common.{◌≡◌, ℕ, Bool, true, false, not, ◌&&◌, if◌then◌else◌, List, [], ◌∷◌, ◌++◌, Option, Some, None, option_map, slice_get, codes, refl, subst}
 use Rattle.std.specs.List.{list_all}
 use Rattle.std.specs.Char.{is_ascii_uppercase}
+use Rattle.std.proofs.lemmas.Bool.{and_parts}
+use Rattle.std.proofs.lemmas.Option.{same_Some}
 use Rattle.bsv_ast.specs.Names.{begins_name, is_word, is_lower, is_keyword}
 use Rattle.bsv_ast.proofs.Names.{lower_parts, lower_some}
 use Rattle.bsv_vtext.specs.declared.tree.VMethod.{VMethod}
@@ -9,7 +11,7 @@ use Rattle.bsv_vtext.specs.declared.tree.VRegister.{VRegister}
 use Rattle.bsv_vtext.specs.declared.tree.VWire.{VWire}
 use Rattle.bsv_vtext.specs.Signals.{Contents, argument_name, enable_name, ready_name}
 use Rattle.bsv_vtext.specs.Modules.{IsModule, IsMethod, IsArgument, Signal, Clock, Reset, Enable, Argument, Ready, Result, Register, Wire, signal_name, name_of_enable, name_of_argument, name_of_result, is_name_byte, is_signal_name}
-use Rattle.bsv_vtext.proofs.Runs.{Each, Passes, each_append, each_weaker, each_passes, both}
+use Rattle.bsv_vtext.proofs.Runs.{Each, Passes, each_append, each_weaker, each_passes}
 use Rattle.bsv_vtext.proofs.Glyphs.{is_glyph, word_is_name_byte, name_byte_is_glyph, first_is_name_byte, BeginsWith}
 
 -- a letter or `_`, and then letters, digits, `_` and `$`
@@ -26,7 +28,7 @@ pub lower_is : (text : List ℕ) → is_lower text ≡ true → IsLower text
 lower_is [] e = absurd (lower_some [] [] e refl)
 lower_is (b ∷ bs) e =
     let parts = lower_parts (b ∷ bs) e in
-    let bytes = both (begins_name b) (list_all is_word bs) parts.named in
+    let bytes = and_parts (begins_name b) (list_all is_word bs) parts.named in
     (bytes.0, (parts.small, each_passes is_word bs bytes.1))
 
 -- ---- names
@@ -66,17 +68,14 @@ ready_is_name m is = longer_name (codes "RDY_") m (refl, (refl, (refl, (refl, tt
 pub signal_is_name : (name : List ℕ) → is_signal_name name ≡ true → IsName name
 signal_is_name [] e = absurd cc
 signal_is_name (b ∷ bs) e =
-    let front = both (begins_name b && list_all is_name_byte bs) (not (is_keyword (b ∷ bs))) e in
-    let parts = both (begins_name b) (list_all is_name_byte bs) front.0 in
+    let front = and_parts (begins_name b && list_all is_name_byte bs) (not (is_keyword (b ∷ bs))) e in
+    let parts = and_parts (begins_name b) (list_all is_name_byte bs) front.0 in
     (parts.0, each_passes is_name_byte bs parts.1)
 
 -- ---- signals
 
-some_is : {A : Type 0} (x y : A) → Some x ≡ Some y → x ≡ y
-some_is x y e = cc
-
 same_name : (own name : List ℕ) → Some own ≡ Some name → IsName own → IsName name
-same_name own name e is = subst IsName (some_is own name e) is
+same_name own name e is = subst IsName (same_Some own name e) is
 
 -- what is known of what stands in a list
 abbrev Known : {A : Type 0} → (A → Type 0) → Option A → Type 0

@@ -2,7 +2,7 @@
 use Rattle.std.proofs.Common.{◌≡◌, ◌∙◌, ◌↔◌, ℕ, Bool, true, false, ◌&&◌, ◌||◌, not, List, [], Some, None, refl, sym, subst}
 use Rattle.std.specs.Prelude.{IsTrue}
 use Rattle.std.specs.List.{list_all}
-use Rattle.bsv_types.proofs.Same.{both}
+use Rattle.std.proofs.lemmas.Bool.{and_parts, and_from}
 use Rattle.bsv_design.specs.declared.element.Element.{Element}
 use Rattle.bsv_design.specs.declared.element.Role.{Role}
 use Rattle.bsv_design.specs.declared.element.Role.TheVariants as role
@@ -12,10 +12,6 @@ use Rattle.bsv_design.specs.Roles.{gives_value, is_value}
 use Rattle.bsv_design.specs.Widths.{widths_from, call_fits, condition_fits, port_fits, result_fits}
 use Rattle.bsv_widths.specs.Fitting.{fits}
 
-both_true : (a b : Bool) → a ≡ true → b ≡ true → (a && b) ≡ true
-both_true true b h i = i
-both_true false b h i = h
-
 some_is : (v w : List ℕ) → Some v ≡ Some w → v ≡ w
 some_is v w e = cc
 
@@ -23,18 +19,18 @@ fit : (ks : List Kind) (e : Element) (ws : List ℕ) → Some ws ≡ widths_from
 fit ks e ws found h =
     let calls : Bool = list_all (call_fits ks ws) e.calls in
     let conditions : Bool = list_all (condition_fits ws) e.conditions in
-    let last = both (calls && conditions && result_fits ws (gives_value e.role) e.result) (list_all port_fits e.arguments) h in
-    let third = both (calls && conditions) (result_fits ws (gives_value e.role) e.result) last.0 in
-    let second = both calls conditions third.0 in
+    let last = and_parts (calls && conditions && result_fits ws (gives_value e.role) e.result) (list_all port_fits e.arguments) h in
+    let third = and_parts (calls && conditions) (result_fits ws (gives_value e.role) e.result) last.0 in
+    let second = and_parts calls conditions third.0 in
     record { widths = ws; nodes = sym found; calls = second.0; conditions = second.1; result = third.1; ports = last.1 }
 
 fit_of : (ks : List Kind) (e : Element) (ws : List ℕ) → Some ws ≡ widths_from e.arguments ks e.calls [] e.nodes → HasWidths ks e → fits ks e ws ≡ true
 fit_of ks e ws found has =
     let same : has.widths ≡ ws = some_is has.widths ws (sym has.nodes ∙ sym found) in
     subst (λ (vs : List ℕ). fits ks e vs ≡ true) same
-    (both_true (list_all (call_fits ks has.widths) e.calls && list_all (condition_fits has.widths) e.conditions && result_fits has.widths (gives_value e.role) e.result) (list_all port_fits e.arguments)
-    (both_true (list_all (call_fits ks has.widths) e.calls && list_all (condition_fits has.widths) e.conditions) (result_fits has.widths (gives_value e.role) e.result)
-    (both_true (list_all (call_fits ks has.widths) e.calls) (list_all (condition_fits has.widths) e.conditions) has.calls has.conditions) has.result) has.ports)
+    (and_from (list_all (call_fits ks has.widths) e.calls && list_all (condition_fits has.widths) e.conditions && result_fits has.widths (gives_value e.role) e.result) (list_all port_fits e.arguments)
+    (and_from (list_all (call_fits ks has.widths) e.calls && list_all (condition_fits has.widths) e.conditions) (result_fits has.widths (gives_value e.role) e.result)
+    (and_from (list_all (call_fits ks has.widths) e.calls) (list_all (condition_fits has.widths) e.conditions) has.calls has.conditions) has.result) has.ports)
 
 pub when_found : (ks : List Kind) (e : Element) (ws : List ℕ) (b : Bool) → Some ws ≡ widths_from e.arguments ks e.calls [] e.nodes → b ≡ fits ks e ws
     → (b ≡ true) ↔ HasWidths ks e

@@ -1,6 +1,7 @@
 -- A rule that building carries out stays accepted; a method changes no rule.
 use Rattle.std.proofs.Common.{◌≡◌, ◌∙◌, ℕ, ◌+◌, List, length, Option, Some, None, refl, sym, subst}
 use Rattle.std.specs.Prelude.{nat_lt, slice_get}
+use Rattle.std.proofs.lemmas.Option.{same_Some}
 use Rattle.bsv_types.specs.declared.modules.Method.{Method}
 use Rattle.bsv_types.specs.declared.modules.Module.{Module}
 use Rattle.bsv_types.specs.declared.modules.Rule.{Rule}
@@ -12,7 +13,7 @@ use Rattle.bsv_elab.specs.Names.{new_name, take_name}
 use Rattle.bsv_elab.specs.Statics.{Here, site, count, countable}
 use Rattle.bsv_elab.specs.Elements.{most_elements, rules_of, methods_of, here_module, built_rule, with_rule, named_rule, weight_of, rule_from, rule, method_from, method}
 use Rattle.bsv_elab.proofs.accepted.Gives.{Gives, gives_then, anything, gives_if, accepted_gives}
-use Rattle.bsv_elab.proofs.accepted.Rules.{some_same, extends_same, RuleGoes, RuleAccepted, rule_lighter, each_after}
+use Rattle.bsv_elab.proofs.accepted.Rules.{extends_same, RuleGoes, RuleAccepted, rule_lighter, each_after}
 use Rattle.bsv_elab.proofs.accepted.States.{Went, went_then, went_still, GoodRun}
 
 module _ (here : Here) where
@@ -26,7 +27,7 @@ module _ (here : Here) where
       → RuleAccepted here s.grown.instances here.within (built_rule name number position s)
   accepted_here number r is name position s h m at source there =
       let found : slice_get m.rules number ≡ Some r = subst (λ (o : Option Module). slice_get (rules_of o) number ≡ Some r) at is in
-      subst (λ x. RuleGoes here s.grown.instances here.within s.scope.bindings x) (some_same r source (sym found ∙ there))
+      subst (λ x. RuleGoes here s.grown.instances here.within s.scope.bindings x) (same_Some r source (sym found ∙ there))
       (rule_lighter here s.grown.instances here.within s.scope.bindings r s.grown.weight h)
 
   rule_made : (number : ℕ) (r : Rule) → slice_get (rules_of (here_module here)) number ≡ Some r → (name : List ℕ) (position weight : ℕ) (s : State)

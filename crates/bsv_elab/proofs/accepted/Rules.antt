@@ -1,8 +1,9 @@
 -- Rules that were carried out without a refusal, rule by rule and instance by instance: they stay accepted while the tree grows.
-use Rattle.std.proofs.Common.{◌≡◌, ◌∙◌, ℕ, zero, suc, ◌+◌, ◌<◌, Bool, true, false, List, [], ◌∷◌, ◌++◌, length, Option, Some, None, refl, sym, ap, subst, arith, append_assoc, append-nil, length-append}
+use Rattle.std.proofs.Common.{◌≡◌, ◌∙◌, ℕ, zero, suc, ◌+◌, ◌<◌, List, [], ◌∷◌, ◌++◌, length, Option, Some, None, sym, ap, subst, arith, append_assoc, append-nil, length-append}
 use Rattle.std.specs.Prelude.{nat_lt, slice_get, slice_set, if◌then◌else◌}
-use Rattle.std.proofs.lemmas.Bool.{lt-ltb}
+use Rattle.std.proofs.lemmas.Bool.{lt-ltb, cond-true}
 use Rattle.std.proofs.lemmas.List.{set_at}
+use Rattle.std.proofs.lemmas.Option.{same_Some}
 use Rattle.bsv_types.specs.declared.modules.Method.{Method}
 use Rattle.bsv_types.specs.declared.modules.Module.{Module}
 use Rattle.bsv_types.specs.declared.modules.Rule.{Rule}
@@ -18,9 +19,6 @@ use Rattle.bsv_carry.specs.StaysAccepted.{Grows, weighing}
 use Rattle.bsv_carry.proofs.StaysAccepted.{stays_accepted, grows_same}
 use Rattle.bsv_elab.specs.Statics.{Here, put_at}
 
-pub some_same : {A : Type 0} (x y : A) → Some x ≡ Some y → x ≡ y
-some_same x y e = cc
-
 -- ---- lists of instances that go on
 
 pub record Extends (xs ys : List Instance) : Type 0 where
@@ -34,17 +32,13 @@ pub extends_then : (xs ys zs : List Instance) → Extends xs ys → Extends ys z
 extends_then xs ys zs h k =
     record { more = h.more ++ k.more; is = k.is ∙ ap (λ (l : List Instance). l ++ k.more) h.is ∙ append_assoc xs h.more k.more }
 
-if_true_is : {A : Type 0} (b : Bool) (x y : A) → b ≡ true → (if b then x else y) ≡ x
-if_true_is true x y e = refl
-if_true_is false x y e = absurd cc
-
 pub put_is : (xs more l : List Instance) (u i : Instance) (n : ℕ) → n ≡ length xs → l ≡ xs ++ u ∷ more → put_at n i l ≡ xs ++ i ∷ more
 unfolding put_at
 put_is xs more l u i n number is =
     let many : length (xs ++ u ∷ more) ≡ length xs + length (u ∷ more) = length-append xs (u ∷ more) in
     let below : n < length (xs ++ u ∷ more) = omega arith in
     subst (λ z. (if nat_lt n (length z) then slice_set z n i else z) ≡ xs ++ i ∷ more) (sym is)
-    (if_true_is (nat_lt n (length (xs ++ u ∷ more))) (slice_set (xs ++ u ∷ more) n i) (xs ++ u ∷ more)
+    (cond-true (nat_lt n (length (xs ++ u ∷ more))) (slice_set (xs ++ u ∷ more) n i) (xs ++ u ∷ more)
     (lt-ltb n (length (xs ++ u ∷ more)) below) ∙ set_at xs u more i n (sym number))
 
 -- ---- accepted
@@ -122,7 +116,7 @@ module _ (here : Here) where
   pub each_at : (is : List Instance) (number : ℕ) (rs : List BuiltRule) → EachAccepted is number rs → (place : ℕ) (r : BuiltRule)
       → slice_get rs place ≡ Some r → RuleAccepted is number r
   each_at is number [] h place r e = absurd cc
-  each_at is number (x ∷ rs) h zero r e = subst (λ y. RuleAccepted is number y) (some_same x r e) h.0
+  each_at is number (x ∷ rs) h zero r e = subst (λ y. RuleAccepted is number y) (same_Some x r e) h.0
   each_at is number (x ∷ rs) h (suc place) r e = each_at is number rs h.1 place r e
 
   pub tree_after : (is xs : List Instance) (i : Instance) → TreeAccepted is xs → MadeAccepted is (Some i.made) → TreeAccepted is (xs ++ i ∷ [])

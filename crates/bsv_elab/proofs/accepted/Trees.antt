@@ -1,6 +1,7 @@
 -- What is built is accepted: carrying out its rules, and the methods of its top, meets no refusal.
 use Rattle.std.proofs.Common.{◌≡◌, ◌∙◌, ℕ, zero, suc, ◌+◌, List, [], ◌∷◌, take, Option, Some, None, Ok, refl, sym, ap, subst, arith}
 use Rattle.std.specs.Prelude.{nat_lt, slice_get}
+use Rattle.std.proofs.lemmas.Option.{same_Some}
 use Rattle.bsv_types.specs.declared.modules.Method.{Method}
 use Rattle.bsv_types.specs.declared.modules.Module.{Module}
 use Rattle.bsv_types.specs.declared.modules.Rule.{Rule}
@@ -23,7 +24,7 @@ use Rattle.bsv_elab.specs.Elements.{most_elements, here_module, methods_of}
 use Rattle.bsv_elab.specs.Building.{opening, body_of, body_at, most_modules, top_from, first_rule_in, outside, nothing_grown, levels_at, method_at, methods_from, tree, from_top, carried_out, building}
 use Rattle.bsv_elab.proofs.accepted.Gives.{Gives, gives_then, anything, gives_if, gives_more, given, accepted_gives}
 use Rattle.bsv_carry.specs.StaysAccepted.{Grows}
-use Rattle.bsv_elab.proofs.accepted.Rules.{some_same, MadeAccepted, TreeAccepted, each_at, site_at, method_later}
+use Rattle.bsv_elab.proofs.accepted.Rules.{MadeAccepted, TreeAccepted, each_at, site_at, method_later}
 use Rattle.bsv_elab.proofs.accepted.Making.{BodyWent, BodiesGo, placed}
 use Rattle.bsv_elab.proofs.accepted.Modules.{statements_went}
 
@@ -70,7 +71,7 @@ one_more : (here : Here) (d : Done) (first : ℕ) (m : Method) (ms : List Method
     → MethodsDone here d first (m ∷ ms)
 one_more here d first m ms one rest zero x e =
     let here_is : first ≡ first + 0 = omega arith in
-    subst (λ n. MethodDone here d n x) here_is (subst (λ y. MethodDone here d first y) (some_same m x e) one)
+    subst (λ n. MethodDone here d n x) here_is (subst (λ y. MethodDone here d first y) (same_Some m x e) one)
 one_more here d first m ms one rest (suc j) x e =
     let behind_is : first + 1 + j ≡ first + suc j = omega arith in
     subst (λ n. MethodDone here d n x) behind_is (rest j x e)
@@ -89,7 +90,7 @@ methods_done here d (m ∷ ms) weight first =
 
 levels_are : (ns : List ℕ) (number levels : ℕ) → slice_get ns number ≡ Some levels → levels_at ns number ≡ levels
 levels_are [] number levels e = absurd cc
-levels_are (n ∷ ns) zero levels e = some_same n levels e
+levels_are (n ∷ ns) zero levels e = same_Some n levels e
 levels_are (n ∷ ns) (suc number) levels e = levels_are ns number levels e
 
 -- ---- the top

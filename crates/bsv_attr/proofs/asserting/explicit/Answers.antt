@@ -2,10 +2,11 @@ use Rattle.std.proofs.Common.{◌≤◌, ◌<◌, ◌^◌, sym, subst, arith, le
 use Rattle.std.specs.List.{list_all}
 use Rattle.bsv_design.proofs.Named.{calls_named}
 use Rattle.bsv_attr.specs.Calling.{names_method}
-use Rattle.bsv_attr.proofs.Elements.{element_in, few_elements}
 use Rattle.bsv_attr.proofs.Rules.{names_implicit, explicit_here, explicit_unmarked, all_explicit}
 use Rattle.bsv_attr.proofs.asserting.explicit.Goals as goal
 use Rattle.bsv_attr.proofs.asserting.explicit.Goals.{then-is_marked+in_default, else-is_marked}
+use Rattle.bsv_design.proofs.Elements.{element_in}
+use Rattle.bsv_schedule.proofs.DesignLemmas.{few_elements}
 
 pub first_implicit-requires-clause-named : goal.first_implicit-requires-clause-named
 first_implicit-requires-clause-named c =

@@ -1,8 +1,8 @@
 use Rattle.std.proofs.Common.{◌≡◌, ◌∙◌, ◌+◌, drop, ap, sym, cond, Some, false}
 use Rattle.std.specs.Str.{bytes_eq}
+use Rattle.bsv_lemmas.proofs.Places.{drop_one}
 use Rattle.bsv_design.specs.Calls.{number_from}
 use Rattle.bsv_design.specs.MethodNames.{method_names}
-use Rattle.bsv_design.proofs.Numbered.{from_here}
 use Rattle.bsv_design.proofs.interface.number_named.Goals as goal
 
 pub loop-number-preserved : goal.loop-number-preserved
@@ -12,5 +12,5 @@ loop-number-preserved c =
     ∙ ap (λ n. bytes_eq c.as_bytes.result.now n) (sym c.as_bytes-in-loop-number.ensures.value)
     ∙ sym c.eq.ensures ∙ c.if-eq.false in
     c.loop-number.invariant
-    ∙ ap (number_from c.loop-number.number c.args.name.now) (from_here (method_names c.args.kind) c.loop-number.number c.method_name.result.now c.method_name.ensures)
+    ∙ ap (number_from c.loop-number.number c.args.name.now) (drop_one (method_names c.args.kind) c.loop-number.number c.method_name.result.now c.method_name.ensures)
     ∙ ap (λ b. cond b (Some c.loop-number.number) (number_from (c.loop-number.number + 1) c.args.name.now (drop (c.loop-number.number + 1) (method_names c.args.kind)))) differs

@@ -5,8 +5,9 @@ use Rattle.bsv_design.specs.Guards.{needs_of}
 use Rattle.bsv_design.specs.Seen.{blueprint}
 use Rattle.bsv_guard.specs.Lifted.{IsElementLifted, IsElementRefused}
 use Rattle.bsv_guard.specs.Pairs.{AreFree}
-use Rattle.bsv_guard.proofs.Whole.{named_in, few_in, element_in, one_element_more, needs_more, needs_whole, refused, keeps, lifted}
+use Rattle.bsv_guard.proofs.Whole.{named_in, few_in, one_element_more, needs_more, needs_whole, refused, keeps, lifted}
 use Rattle.bsv_guard.proofs.lifting.lift.Goals as goal
+use Rattle.bsv_design.proofs.Elements.{element_in}
 
 pub lift_element-requires-clause-named : goal.lift_element-requires-clause-named
 lift_element-requires-clause-named c =

@@ -14,10 +14,11 @@ use Rattle.bsv_design.specs.Rooms.{HasRoom}
 use Rattle.bsv_serial.specs.Telling.{all_blocked, all_fired, all_given, all_stopped}
 use Rattle.bsv_clock.specs.Events.{Happens}
 use Rattle.bsv_serial.specs.Placing.{all_placed}
-use Rattle.bsv_serial.proofs.ClockGround.{execution_below, execution_long, few_elements, urgency_long}
+use Rattle.bsv_serial.proofs.ClockGround.{execution_below, execution_long, urgency_long}
 use Rattle.bsv_serial.proofs.ClockWhole.{IsRunTo, run_whole, take_front}
 use Rattle.bsv_serial.proofs.clocks.clock.Goals.{After-as_slice-3, After-as_slice-4}
 use Rattle.bsv_serial.proofs.clocks.clock.Goals as goal
+use Rattle.bsv_schedule.proofs.DesignLemmas.{few_elements}
 
 pub places_in-requires-clause-few : goal.places_in-requires-clause-few
 places_in-requires-clause-few c =

@@ -1,10 +1,11 @@
 use Rattle.std.proofs.Common.{refl, sym, ◌∙◌}
 use Rattle.std.proofs.lemmas.Result.{err_from_is_err_and}
+use Rattle.bsv_lemmas.proofs.Choices.{same_err}
 use Rattle.bsv_flow.specs.declared.scheduling.Compiled.{Compiled}
 use Rattle.bsv_top.specs.declared.stop.Stop.TheVariants as stop
 use Rattle.bsv_top.specs.Products.{product_words}
 use Rattle.bsv_top.proofs.Spelled.{asks_product}
-use Rattle.bsv_top.proofs.Stopped.{fault_stops, fault_unread, same_fault}
+use Rattle.bsv_top.proofs.Stopped.{fault_stops, fault_unread}
 use Rattle.bsv_top.proofs.Printed.{plan_begun, plan_done}
 use Rattle.bsv_top.proofs.planning.plan.Goals as goal
 
@@ -14,7 +15,7 @@ returns-in_err-compiled-clause-stopped g c = λ s h contents told.
     let product = c.args.form.product in
     let file = c.args.form.file.now in
     let top = c.args.form.top.now in
-    fault_stops {A = Compiled} (product_words product file top) file top (asks_product product file top) c.in_err-compiled.field-0.0 s (same_fault s p.0 (sym h ∙ p.1) ∙ p.2)
+    fault_stops {A = Compiled} (product_words product file top) file top (asks_product product file top) c.in_err-compiled.field-0.0 s (same_err s p.0 (sym h ∙ p.1) ∙ p.2)
     contents (g.O.Sink.writing c.args.out.now)
     (λ r e. c.in_err-compiled.ensures.refused r e contents told) (λ name e. c.in_err-compiled.ensures.reached name e contents told)
 
@@ -24,7 +25,7 @@ returns-in_err-compiled-clause-unread g c = λ name h.
     let product = c.args.form.product in
     let file = c.args.form.file.now in
     let top = c.args.form.top.now in
-    fault_unread {A = Compiled} (product_words product file top) file top (asks_product product file top) c.in_err-compiled.field-0.0 (stop.Unread name) (same_fault (stop.Unread name) p.0 (sym h ∙ p.1) ∙ p.2)
+    fault_unread {A = Compiled} (product_words product file top) file top (asks_product product file top) c.in_err-compiled.field-0.0 (stop.Unread name) (same_err (stop.Unread name) p.0 (sym h ∙ p.1) ∙ p.2)
     (g.F.Files.reading c.args.files.now) (g.F.Files.reading c.compile.new.files) (g.O.Sink.writing c.args.out.now) name refl
     c.in_err-compiled.ensures.read_fault c.in_err-compiled.ensures.reached
 

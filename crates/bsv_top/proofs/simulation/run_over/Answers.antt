@@ -1,10 +1,10 @@
 use Rattle.std.proofs.Common.{◌≡◌, ◌∙◌, ℕ, ◌+◌, List, length, Some, Err, refl, sym, ap, subst, arith}
+use Rattle.bsv_lemmas.proofs.Choices.{same_err}
 use Rattle.bsv_top.specs.declared.halt.Halt.TheVariants as halt
 use Rattle.bsv_top.specs.Places.{piece_limit}
 use Rattle.bsv_top.specs.Running.{IsBegunOf, IsDoneOf, IsFaultyOf, its_outlines}
 use Rattle.bsv_top.proofs.Halted.{halted_bad, halted_read, halted_refused, halted_unread, halted_unwritable, halted_written, not_unreadable}
 use Rattle.bsv_top.proofs.Opened.{followed_trace, follows, nothing_begun}
-use Rattle.bsv_top.proofs.Stopped.{same_fault}
 use Rattle.bsv_top.proofs.simulation.run_over.Goals as goal
 
 pub returns-in_err-run-clause-begun : goal.returns-in_err-run-clause-begun
@@ -81,8 +81,8 @@ returns-clause-bad_within g c = λ number h contents told.
 
 pub returns-clause-files_kept : goal.returns-clause-files_kept
 returns-clause-files_kept g c = λ none.
-    c.in-Err.ensures.files_kept (λ e. halted_read c.stop_for.result c.in-Err.halt c.in_ok-blamed.blamed (c.put_report.new.run.lines.done + 1) c.stop_for.ensures none (same_fault c.in-Err.halt halt.Unreadable e))
+    c.in-Err.ensures.files_kept (λ e. halted_read c.stop_for.result c.in-Err.halt c.in_ok-blamed.blamed (c.put_report.new.run.lines.done + 1) c.stop_for.ensures none (same_err c.in-Err.halt halt.Unreadable e))
 
 pub returns-clause-out_kept : goal.returns-clause-out_kept
 returns-clause-out_kept g c = λ none.
-    c.in-Err.ensures.out_kept (λ e. halted_written c.stop_for.result c.in-Err.halt c.in_ok-blamed.blamed (c.put_report.new.run.lines.done + 1) c.stop_for.ensures none (same_fault c.in-Err.halt halt.Unwritable e))
+    c.in-Err.ensures.out_kept (λ e. halted_written c.stop_for.result c.in-Err.halt c.in_ok-blamed.blamed (c.put_report.new.run.lines.done + 1) c.stop_for.ensures none (same_err c.in-Err.halt halt.Unwritable e))

@@ -1,5 +1,6 @@
 use Rattle.std.proofs.Common.{◌∙◌, ℕ, List, Err, refl, sym, ap, subst}
 use Rattle.std.proofs.lemmas.Result.{err_from_is_err_and, on_ok_weaker}
+use Rattle.bsv_lemmas.proofs.Choices.{same_err}
 use Rattle.bsv_io.specs.Faults.{MayFault}
 use Rattle.bsv_flow.specs.declared.scheduling.Compiled.{Compiled}
 use Rattle.bsv_flow.proofs.Planned.{compiled_planned}
@@ -7,7 +8,7 @@ use Rattle.bsv_top.specs.declared.stop.Stop.TheVariants as stop
 use Rattle.bsv_top.specs.Answers.{Asks, sim_words}
 use Rattle.bsv_top.specs.Outcomes as o
 use Rattle.bsv_top.proofs.Simulated.{run_within, simulated_begun, simulated_done, simulated_stop, trace_within}
-use Rattle.bsv_top.proofs.Stopped.{fault_stops, fault_unread, same_fault}
+use Rattle.bsv_top.proofs.Stopped.{fault_stops, fault_unread}
 use Rattle.bsv_top.proofs.simulation.simulate.Goals as goal
 
 pub returns-in_err-compiled-clause-stopped : goal.returns-in_err-compiled-clause-stopped
@@ -16,7 +17,7 @@ returns-in_err-compiled-clause-stopped g c = λ s h contents told.
     let file = c.args.form.file.now in
     let top = c.args.form.top.now in
     let trace = c.args.form.trace.now in
-    fault_stops {A = Compiled} (sim_words file top trace) file top (Asks.sim trace refl) c.in_err-compiled.field-0.0 s (same_fault s p.0 (sym h ∙ p.1) ∙ p.2) contents (g.O.Sink.writing c.args.out.now)
+    fault_stops {A = Compiled} (sim_words file top trace) file top (Asks.sim trace refl) c.in_err-compiled.field-0.0 s (same_err s p.0 (sym h ∙ p.1) ∙ p.2) contents (g.O.Sink.writing c.args.out.now)
     (λ r e. c.in_err-compiled.ensures.refused r e contents told) (λ name e. c.in_err-compiled.ensures.reached name e contents told)
 
 pub returns-in_err-compiled-clause-unread : goal.returns-in_err-compiled-clause-unread
@@ -25,7 +26,7 @@ returns-in_err-compiled-clause-unread g c = λ name h.
     let file = c.args.form.file.now in
     let top = c.args.form.top.now in
     let trace = c.args.form.trace.now in
-    fault_unread {A = Compiled} (sim_words file top trace) file top (Asks.sim trace refl) c.in_err-compiled.field-0.0 (stop.Unread name) (same_fault (stop.Unread name) p.0 (sym h ∙ p.1) ∙ p.2)
+    fault_unread {A = Compiled} (sim_words file top trace) file top (Asks.sim trace refl) c.in_err-compiled.field-0.0 (stop.Unread name) (same_err (stop.Unread name) p.0 (sym h ∙ p.1) ∙ p.2)
     (g.F.Files.reading c.args.files.now) (g.F.Files.reading c.compile.new.files) (g.O.Sink.writing c.args.out.now) name refl
     c.in_err-compiled.ensures.read_fault c.in_err-compiled.ensures.reached
 

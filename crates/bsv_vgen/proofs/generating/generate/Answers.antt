@@ -4,8 +4,9 @@ use Rattle.bsv_net.specs.AtHand.{circuit}
 use Rattle.bsv_vtext.specs.AtHand.{contents}
 use Rattle.bsv_vgen.specs.AtHand as hand
 use Rattle.bsv_vgen.specs.Modules.{module_of}
-use Rattle.bsv_vgen.proofs.Promise.{is_module, is_its_module, carries_too, runs_too, begins, resets_too, same_parts}
+use Rattle.bsv_vgen.proofs.Promise.{is_module, is_its_module, carries_too, runs_too, begins, resets_too}
 use Rattle.bsv_vgen.proofs.generating.generate.Goals as goal
+use Rattle.bsv_vtext.proofs.OneText.{same_contents}
 
 pub new-requires : goal.new-requires
 new-requires c =
@@ -15,34 +16,34 @@ new-requires c =
 pub returns-clause-module : goal.returns-clause-module
 returns-clause-module c =
     let is : contents c.new.result ≡ module_of (blueprint c.args.design.now) (circuit c.args.net.now) =
-    same_parts (contents c.new.result) (hand.parts c.in_ok-name.field-0) c.new.ensures.name c.new.ensures.methods c.new.ensures.registers c.new.ensures.wires c.new.ensures.assigns c.new.ensures.nexts
+    same_contents (contents c.new.result) (hand.parts c.in_ok-name.field-0) c.new.ensures.name c.new.ensures.methods c.new.ensures.registers c.new.ensures.wires c.new.ensures.assigns c.new.ensures.nexts
     ∙ c.in_ok-name.ensures.parts in
     is_its_module c.args.design.now c.args.net.now (contents c.new.result) is c.requires.registers c.requires.inputs
 
 pub returns-clause-carries : goal.returns-clause-carries
 returns-clause-carries c =
     let is : contents c.new.result ≡ module_of (blueprint c.args.design.now) (circuit c.args.net.now) =
-    same_parts (contents c.new.result) (hand.parts c.in_ok-name.field-0) c.new.ensures.name c.new.ensures.methods c.new.ensures.registers c.new.ensures.wires c.new.ensures.assigns c.new.ensures.nexts
+    same_contents (contents c.new.result) (hand.parts c.in_ok-name.field-0) c.new.ensures.name c.new.ensures.methods c.new.ensures.registers c.new.ensures.wires c.new.ensures.assigns c.new.ensures.nexts
     ∙ c.in_ok-name.ensures.parts in
     carries_too c.args.design.now c.args.net.now (contents c.new.result) is c.requires.registers c.requires.inputs
 
 pub returns-clause-runs : goal.returns-clause-runs
 returns-clause-runs c =
     let is : contents c.new.result ≡ module_of (blueprint c.args.design.now) (circuit c.args.net.now) =
-    same_parts (contents c.new.result) (hand.parts c.in_ok-name.field-0) c.new.ensures.name c.new.ensures.methods c.new.ensures.registers c.new.ensures.wires c.new.ensures.assigns c.new.ensures.nexts
+    same_contents (contents c.new.result) (hand.parts c.in_ok-name.field-0) c.new.ensures.name c.new.ensures.methods c.new.ensures.registers c.new.ensures.wires c.new.ensures.assigns c.new.ensures.nexts
     ∙ c.in_ok-name.ensures.parts in
     runs_too c.args.design.now c.args.net.now (contents c.new.result) is c.requires.registers c.requires.inputs c.new.result.right
 
 pub returns-clause-begins : goal.returns-clause-begins
 returns-clause-begins c =
     let is : contents c.new.result ≡ module_of (blueprint c.args.design.now) (circuit c.args.net.now) =
-    same_parts (contents c.new.result) (hand.parts c.in_ok-name.field-0) c.new.ensures.name c.new.ensures.methods c.new.ensures.registers c.new.ensures.wires c.new.ensures.assigns c.new.ensures.nexts
+    same_contents (contents c.new.result) (hand.parts c.in_ok-name.field-0) c.new.ensures.name c.new.ensures.methods c.new.ensures.registers c.new.ensures.wires c.new.ensures.assigns c.new.ensures.nexts
     ∙ c.in_ok-name.ensures.parts in
     begins c.args.design.now c.args.net.now (contents c.new.result) is c.requires.registers c.requires.inputs
 
 pub returns-clause-resets : goal.returns-clause-resets
 returns-clause-resets c =
     let is : contents c.new.result ≡ module_of (blueprint c.args.design.now) (circuit c.args.net.now) =
-    same_parts (contents c.new.result) (hand.parts c.in_ok-name.field-0) c.new.ensures.name c.new.ensures.methods c.new.ensures.registers c.new.ensures.wires c.new.ensures.assigns c.new.ensures.nexts
+    same_contents (contents c.new.result) (hand.parts c.in_ok-name.field-0) c.new.ensures.name c.new.ensures.methods c.new.ensures.registers c.new.ensures.wires c.new.ensures.assigns c.new.ensures.nexts
     ∙ c.in_ok-name.ensures.parts in
     resets_too c.args.design.now c.args.net.now (contents c.new.result) is c.requires.registers c.requires.inputs

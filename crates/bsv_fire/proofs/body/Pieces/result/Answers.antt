@@ -1,7 +1,7 @@
 use Rattle.std.proofs.Common.{◌≡◌, ◌∙◌, IfOk, OnOk, sym, ap₂, subst, arith}
+use Rattle.bsv_lemmas.proofs.Places.{mapped_at}
 use Rattle.bsv_prim.specs.Shape.{Shape}
 use Rattle.bsv_design.specs.declared.design.NamedPart.{NamedPart}
-use Rattle.bsv_guard.proofs.Lists.{mapped_at}
 use Rattle.bsv_net.specs.Placing.{Placed, Wires, piece}
 use Rattle.bsv_fire.specs.AtHand as hand
 use Rattle.bsv_fire.proofs.Pieces.{result_there}

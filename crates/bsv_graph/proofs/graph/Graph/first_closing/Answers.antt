@@ -1,6 +1,7 @@
 use Rattle.std.proofs.Common.{arith, refl, ◌++◌}
 use Rattle.std.proofs.lemmas.List.{take_all}
-use Rattle.bsv_graph.proofs.WalkLemmas.{marks_take, closes_first, none_first, none_more, none_acyclic, false_not}
+use Rattle.std.proofs.lemmas.Bool.{both_ways}
+use Rattle.bsv_graph.proofs.WalkLemmas.{marks_take, closes_first, none_first, none_more, none_acyclic}
 use Rattle.bsv_graph.proofs.graph.Graph.first_closing.Goals as goal
 
 pub loop-k-init : goal.loop-k-init
@@ -17,7 +18,7 @@ loop-k-preserved c = (
   λ es m. let i = c.loop-k.invariant.1 es m in (
     marks_take c.args.edges.now es c.loop-k.k _ c.join.new.self.reach c.loop-k-test.true (c.join.ensures.gains _ i.0),
     none_more es c.args.edges.now c.loop-k.k _ c.loop-k-test.true i.1
-        (λ h. false_not c.closes.result c.if-closes.false ((c.closes.ensures _ i.0).1 h)),
+        (λ h. both_ways c.closes.result c.if-closes.false ((c.closes.ensures _ i.0).1 h)),
   ),
 )
 

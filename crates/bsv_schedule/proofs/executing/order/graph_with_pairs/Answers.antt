@@ -1,7 +1,7 @@
 use Rattle.std.proofs.Common.{◌∙◌, Some, sym, ap}
 use Rattle.std.specs.Prelude.{slice_get}
+use Rattle.std.proofs.lemmas.Option.{slice_get-get_or}
 use Rattle.bsv_graph.proofs.WalkLemmas.{none_acyclic}
-use Rattle.bsv_schedule.proofs.StageLemmas.{edge_read_some}
 use Rattle.bsv_schedule.proofs.executing.order.graph_with_pairs.Goals as goal
 
 pub returns-in-Some-clause-err : goal.returns-in-Some-clause-err
@@ -13,7 +13,7 @@ returns-in-Some-clause-err c =
       record {
         attribute = c.ordering_pair.ensures.attribute;
         edge = ap (λ es. slice_get es c.in-Some.k) (sym e)
-            ∙ (edge_read_some c.ordering-pairs.result.now c.in-Some.k _ c.in-Some.ensures.within ∙ ap Some (sym c.ordering_pair.ensures.edge));
+            ∙ (slice_get-get_or c.ordering-pairs.result.now c.in-Some.k _ c.in-Some.ensures.within ∙ ap Some (sym c.ordering_pair.ensures.edge));
       },
     )
 

@@ -1,8 +1,8 @@
 use Rattle.std.proofs.Common.{inl, inr, sym, ◌∙◌}
+use Rattle.std.proofs.lemmas.Bool.{both_ways}
 use Rattle.bsv_schedule.specs.relating.Relating.{feed_edges}
 use Rattle.bsv_schedule.specs.relating.Relations.{relating_of}
 use Rattle.bsv_schedule.proofs.StageLemmas.{graph_more, graph_other, acyclic_more, cycle_more}
-use Rattle.bsv_graph.proofs.WalkLemmas.{false_not}
 use Rattle.bsv_schedule.proofs.executing.values.clashes.Goals as goal
 
 pub returns-then-not-is_value-clause-gains : goal.returns-then-not-is_value-clause-gains
@@ -20,7 +20,7 @@ returns-in-None-clause-none c = λ h k.
     let t = sym c.is_value.ensures ∙ c.if-not-is_value.false in
     let m = c.join_value.ensures.gains _ c.requires.before in
     elim k.1 [
-      | inl n ↦ false_not c.has_neither.result c.if-has_neither.false (c.has_neither.ensures.1 n)
+      | inl n ↦ both_ways c.has_neither.result c.if-has_neither.false (c.has_neither.ensures.1 n)
       | inr w ↦ acyclic_more (relating_of c.args.relations.now) c.args.v t c.requires.element (feed_edges (relating_of c.args.relations.now)) (c.in-None.ensures.none _ m) w.0 w.1
     ]
 

@@ -7,8 +7,9 @@ use Rattle.bsv_design.specs.Schemes.{result_of}
 use Rattle.bsv_guard.specs.Fitting.{IsFitCall}
 use Rattle.bsv_serial.specs.AtHand as hand
 use Rattle.bsv_serial.proofs.Lists.{read_at}
-use Rattle.bsv_serial.proofs.Operands.{result_within, answered, open_answer}
+use Rattle.bsv_serial.proofs.Operands.{result_within, answered}
 use Rattle.bsv_serial.proofs.body.Body.result.Goals as goal
+use Rattle.bsv_guard.proofs.Extends.{answer_open}
 
 pub result-requires-clause-look : goal.result-requires-clause-look
 result-requires-clause-look c =
@@ -47,6 +48,6 @@ returns c =
     let look = hand.look s.looks in
     let gives = λ (w : Bits) (e : w ≡ result_of (slice_get (hand.body_kinds s) call.part) call.method (look t) c.as_slice-3.result.now).
     e ∙ ap (result_of (slice_get (hand.body_kinds s) call.part) call.method (look t)) same
-    ∙ sym (open_answer (hand.body_kinds s) look c.args.number t (map (at words) call.args) (c.requires.are_open c.args.number call here))
+    ∙ sym (answer_open (hand.body_kinds s) look c.args.number t (map (at words) call.args) (c.requires.are_open c.args.number call here))
     ∙ ap (answer (hand.body_answers s) c.args.number words) (sym here) in
     IfOk-weaker c.result.result _ _ gives c.result.ensures

@@ -1,13 +1,14 @@
 use Rattle.std.proofs.Common.{◌+◌, refl, ap, rules}
 use Rattle.std.proofs.lemmas.Result.{on_ok_weaker}
+use Rattle.std.proofs.lemmas.List.{nil_from_length}
 use Rattle.bsv_top.specs.declared.halt.Halt.TheVariants as halt
 use Rattle.bsv_top.specs.declared.lines.Lines.{Lines}
-use Rattle.bsv_top.proofs.Stepping.{at_fault, bad_last, begun_whole, done_here, done_last, no_items, stepped, stepped_last}
+use Rattle.bsv_top.proofs.Stepping.{at_fault, bad_last, begun_whole, done_here, done_last, stepped, stepped_last}
 use Rattle.bsv_top.proofs.clocks.Run.run_last.Goals as goal
 
 pub returns-then-is_empty-clause-done : goal.returns-then-is_empty-clause-done
 returns-then-is_empty-clause-done g c = λ start trace run.
-    done_here c.args.compiled.now start trace c.args.self.now (g.O.Sink.writing c.args.out.now) run (no_items c.args.self.now.lines.held.items (search rules))
+    done_here c.args.compiled.now start trace c.args.self.now (g.O.Sink.writing c.args.out.now) run (nil_from_length c.args.self.now.lines.held.items (search rules))
 
 pub returns-then-is_empty-clause-begun : goal.returns-then-is_empty-clause-begun
 returns-then-is_empty-clause-begun g c = λ start trace run.
