@@ -1,5 +1,5 @@
 -- Names byte by byte: a Lower name is made of letters, digits and `_`, so that it has no dot and no `$`, and it begins with no
--- capital letter. A text with a mark that no keyword has is no keyword. The digits of a number may stand in a name.
+-- capital letter. A text with a mark that no keyword has is no keyword. The digits of a number may be in a name.
 use Rattle.std.proofs.Common.{◌≡◌, ℕ, ◌+◌, ◌%◌, ◌^◌, ◌<◌, Bool, true, false, ◌&&◌, ◌||◌, not, List, [], ◌∷◌, ◌++◌, refl, sym, subst, arith}
 use Rattle.std.specs.Prelude.{◌==◌, decimal}
 use Rattle.std.specs.Char.{is_ascii_digit, is_ascii_uppercase}

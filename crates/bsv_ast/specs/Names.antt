@@ -6,7 +6,7 @@ use Rattle.std.specs.List.{list_all}
 use Rattle.std.specs.Char.{is_ascii_alphabetic, is_ascii_alphanumeric, is_ascii_uppercase}
 use Rattle.std.specs.Str.{bytes_eq}
 
--- the keywords that stand in a production
+-- the keywords that are in a production
 unfoldable pub grammar_words : List (List ℕ)
 grammar_words =
     codes "package" ∷ codes "endpackage" ∷ codes "import" ∷ codes "typedef" ∷ codes "enum" ∷
@@ -16,7 +16,7 @@ grammar_words =
     codes "case" ∷ codes "matches" ∷ codes "tagged" ∷ codes "default" ∷ codes "endcase" ∷ codes "for" ∷
     codes "begin" ∷ codes "end" ∷ codes "noAction" ∷ codes "int" ∷ []
 
--- the keywords that stand in none
+-- the keywords that are in none
 unfoldable pub reserved_words : List (List ℕ)
 reserved_words =
     codes "action" ∷ codes "endaction" ∷ codes "actionvalue" ∷ codes "endactionvalue" ∷ codes "rules" ∷

@@ -4,7 +4,7 @@ ghost use Rattle.bsv_ast.specs.Spans.{expr_span, suffix_span};
 use crate::text::{Ident, Literal, Span};
 use sqlite_items::{Boxed, Items};
 
-/// The operators that stand in front of one operand.
+/// The operators that come before one operand.
 #[derive(Clone, Copy, Debug, PartialEq, Eq)]
 pub enum UnaryOperator {
     /// `!`
@@ -40,7 +40,7 @@ pub enum Level {
     Either,
 }
 
-/// The operators that stand between two operands, level by level.
+/// The operators that are between two operands, level by level.
 #[derive(Clone, Copy, Debug, PartialEq, Eq)]
 pub enum Operator {
     /// `*`
@@ -119,7 +119,7 @@ pub struct FieldValue {
     pub value: Expr,
 }
 
-/// What stands behind a primary.
+/// What comes after a primary.
 #[cycle(expressions)]
 #[derive(Drop)]
 pub enum Suffix {

@@ -2,7 +2,7 @@
 //! which are built and dropped, and which tell where they stand.
 //!
 //! Modules in reading order: `text` (places, names, numbers, and the bytes of names), `types`, `expressions`,
-//! `statements` (of rules, methods and functions), `modules` (what stands in a module), `package`
+//! `statements` (of rules, methods and functions), `modules` (what is in a module), `package`
 //! (a file and its definitions).
 //!
 //! Contracts see a tree by value: a `Boxed<T>` as a `T`, an `Items<T>` as the list of its items, a
@@ -21,7 +21,7 @@
 //! | `make` | `Make` |
 //! | `mif`, `mfor` | `ModuleStmt::If` with `ModuleBranch`es, `ModuleStmt::For` |
 //! | `head` | `Head` |
-//! | `rule`, `method` | `Rule`, `Method`; what stands behind the head of a method or a function is a `Body` |
+//! | `rule`, `method` | `Rule`, `Method`; what comes after the head of a method or a function is a `Body` |
 //! | `attrs`, `attr` | `AttributeGroup`, `Attribute` |
 //! | `stmt`, `simple`, `arm`, `block` | `Stmt`, a variant for each form |
 //! | `decl`, `place`, `call` | `Declaration` with its `DeclaredType`, `Place`, `Call` |
@@ -32,7 +32,7 @@
 //! | `postfix` | `Expr::Postfix` with `Suffix`es |
 //! | `primary` | `Expr`, a variant for each form; brackets that only group are an `Expr::Group` |
 //!
-//! A name behind an `end` word equals the one that it ends, so the tree has it once.
+//! A name after an `end` word equals the one that it ends, so the tree has it once.
 #![tactic(auto)]
 
 mod expressions;

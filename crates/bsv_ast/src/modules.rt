@@ -86,7 +86,7 @@ pub enum ModuleStmt {
     Assign(Span, Ident, Expr),
     /// `"begin" { mstmt } "end"`
     Block(Span, Items<ModuleStmt>),
-    /// The arms of an `if`, one or more, and the arm behind a last `else`.
+    /// The arms of an `if`, one or more, and the arm after a last `else`.
     If(Span, Items<ModuleBranch>, Option<Boxed<ModuleStmt>>),
     /// `head ( marm | mif | head ( marm | mif ) )`
     For(Span, Head, Boxed<ModuleStmt>),

@@ -60,7 +60,7 @@ pub struct Function {
     pub body: Body,
 }
 
-/// What stands in a package.
+/// What is in a package.
 #[derive(Drop)]
 pub enum Item {
     /// `import`

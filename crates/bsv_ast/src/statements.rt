@@ -82,11 +82,11 @@ pub enum Stmt {
     NoAction(Span),
     /// `"begin" { stmt } "end"`
     Block(Span, Items<Stmt>),
-    /// The arms of an `if`, one or more, and the arm behind a last `else`.
+    /// The arms of an `if`, one or more, and the arm after a last `else`.
     If(Span, Items<Branch>, Option<Boxed<Stmt>>),
     /// `head ( arm | if | head ( arm | if ) )`
     For(Span, Head, Boxed<Stmt>),
-    /// The subject, the arms, and the arm behind `default`.
+    /// The subject, the arms, and the arm after `default`.
     Case(Span, Expr, Items<CaseArm>, Option<Boxed<Stmt>>),
 }
 

@@ -16,7 +16,7 @@ pub enum WrittenType {
     Int(Span),
 }
 
-/// What stands in the brackets of a type.
+/// What is in the brackets of a type.
 #[cycle(types)]
 #[derive(Drop)]
 pub enum TypeArgument {

@@ -3,13 +3,13 @@ use Rattle.std.proofs.Common.{◌≡◌, ◌∙◌, ℕ, Bool, true, false, ◌&
 use Rattle.std.specs.Prelude.{◌↔◌, IsFalse, slice_get}
 use Rattle.bsv_design.specs.declared.schedule.Schedule.{Schedule}
 use Rattle.bsv_design.specs.declared.tree.Attribute.{Attribute}
-use Rattle.bsv_design.specs.Relations.{goes, for_all, may_precede, no_answers}
-use Rattle.bsv_design.specs.Schemes.{Scheme, Asking, Look, AreAlike, answers, filled, given, ports_of, ready, seen, all_hold, all_open}
-use Rattle.bsv_design.specs.Traces.{Trace}
+use Rattle.bsv_design.specs.scheme.Relations.{goes, for_all, may_precede, no_answers}
+use Rattle.bsv_design.specs.scheme.Schemes.{Scheme, Asking, Look, AreAlike, answers, filled, given, ports_of, ready, seen, all_hold, all_open}
+use Rattle.bsv_design.specs.scheme.Traces.{Trace}
 use Rattle.bsv_schedule.specs.relating.Relating.{Relating}
 use Rattle.bsv_schedule.specs.stopping.Stops.{Stops}
 use Rattle.bsv_attr.specs.Asserting.{IsExplicit, IsUnstopped, IsAccepted, NamesImplicit, NamesStopper}
-use Rattle.bsv_design.specs.Traces.{has_name}
+use Rattle.bsv_design.specs.scheme.Traces.{has_name}
 use Rattle.bsv_attr.specs.Implicit.{are_implicit, has_guard, IsFirstTrue, NoneTrue}
 use Rattle.bsv_schedule.specs.relating.Marks.{IsMarked, IsPaired}
 use Rattle.bsv_clock.specs.Obeying.{own, Obeys}

@@ -5,7 +5,7 @@ use Rattle.std.proofs.lemmas.Bool.{cases_eq, cases_lt}
 use Rattle.std.proofs.lemmas.Option.{same_Some}
 use Rattle.bsv_design.specs.declared.schedule.Schedule.{Schedule}
 use Rattle.bsv_design.specs.declared.tree.Assert.{Assert}
-use Rattle.bsv_design.specs.Schemes.{Scheme}
+use Rattle.bsv_design.specs.scheme.Schemes.{Scheme}
 use Rattle.bsv_graph.specs.Orders.{In}
 use Rattle.bsv_graph.proofs.Deciding.{Decided, first_with}
 use Rattle.bsv_attr.specs.declared.fault.AttrFault.{AttrFault}
@@ -13,7 +13,7 @@ use Rattle.bsv_attr.specs.declared.fault.AttrFault.TheVariants.{NoImplicit, Fire
 use Rattle.bsv_attr.specs.Asserting.{IsExplicit, IsUnstopped, AreExplicit, AreUnstopped, NamesImplicit, NamesStopped, IsAnswer}
 use Rattle.bsv_attr.specs.Implicit.{are_implicit, NoneTrue, IsFirstTrue}
 use Rattle.bsv_schedule.specs.relating.Marks.{IsMarkOf, IsMarked}
-use Rattle.bsv_attr.specs.Stopping.{ListStops, NoneStops, IsFirstStopper}
+use Rattle.bsv_attr.specs.Stopping.{ListStops, NoneStops, IsFirstListed}
 use Rattle.bsv_attr.proofs.Asserted.{implicit_never, stopped_never, implicit_one, stopped_one}
 use Rattle.bsv_attr.proofs.Stoppers.{stopper_in}
 use Rattle.bsv_graph.proofs.Fronts.{is_or_not}
@@ -35,10 +35,10 @@ decide_mark fires n mark = elim (cases_eq mark.rule n) [
   | inr e ↦ inr (λ h. e h.rule)
 ]
 
-marked_behind : (marks : List Assert) (mark : Assert) (fires : Bool) (n : ℕ) → IsMarked marks fires n → IsMarked (mark ∷ marks) fires n
-marked_behind marks mark fires n h = record { place = suc h.place; mark = h.mark; at = h.at; is = h.is }
+marked_after : (marks : List Assert) (mark : Assert) (fires : Bool) (n : ℕ) → IsMarked marks fires n → IsMarked (mark ∷ marks) fires n
+marked_after marks mark fires n h = record { place = suc h.place; mark = h.mark; at = h.at; is = h.is }
 
--- an element that is marked has the first mark, or one behind it
+-- an element that is marked has the first mark, or one after it
 marked_where : (marks : List Assert) (mark : Assert) (fires : Bool) (n : ℕ) → IsMarked (mark ∷ marks) fires n
     → IsMarkOf fires n mark ⊎ IsMarked marks fires n
 marked_where marks mark fires n h = by h.place h.at where
@@ -51,7 +51,7 @@ decide_marked [] fires n = inr (λ h. let e = h.at in cc)
 decide_marked (mark ∷ marks) fires n = elim (decide_mark fires n mark) [
   | inl h ↦ inl (record { place = 0; mark = mark; at = refl; is = h })
   | inr f ↦ elim (decide_marked marks fires n) [
-    | inl h ↦ inl (marked_behind marks mark fires n h)
+    | inl h ↦ inl (marked_after marks mark fires n h)
     | inr g ↦ inr (λ h. elim (marked_where marks mark fires n h) [ inl k ↦ f k | inr k ↦ g k ])
   ]
 ]
@@ -73,13 +73,13 @@ marked_below (mark ∷ marks) =
 first_true : (truths : List Bool) → NoneTrue truths ⊎ ((k : ℕ) × IsFirstTrue truths k)
 first_true [] = inl (λ j e. cc)
 first_true (true ∷ truths) = inr (0, record { at = refl; first = λ j less e. omega (arith, less) })
-first_true (false ∷ truths) = elim (first_true truths) [ inl none ↦ inl (none_behind none) | inr f ↦ inr (suc f.0, first_behind f.0 f.1) ] where
-  none_behind : NoneTrue truths → NoneTrue (false ∷ truths)
-  none_behind none zero e = cc
-  none_behind none (suc j) e = none j e
+first_true (false ∷ truths) = elim (first_true truths) [ inl none ↦ inl (none_after none) | inr f ↦ inr (suc f.0, first_after f.0 f.1) ] where
+  none_after : NoneTrue truths → NoneTrue (false ∷ truths)
+  none_after none zero e = cc
+  none_after none (suc j) e = none j e
 
-  first_behind : (k : ℕ) → IsFirstTrue truths k → IsFirstTrue (false ∷ truths) (suc k)
-  first_behind k f = record { at = f.at; first = before } where
+  first_after : (k : ℕ) → IsFirstTrue truths k → IsFirstTrue (false ∷ truths) (suc k)
+  first_after k f = record { at = f.at; first = before } where
     before : (j : ℕ) → j < suc k → slice_get (false ∷ truths) j ≡ Some true → ⊥
     before zero less e = cc
     before (suc j) less e = f.first j (omega (arith, less)) e
@@ -97,7 +97,7 @@ decide_stops (xs ∷ lists) (suc f) r = elim (decide_stops lists f r) [
   | inr n ↦ inr (λ h. n (record { stopped = h.stopped; at = h.at; has = h.has }))
 ]
 
-first_stopper : (urgency : List ℕ) (lists : List (List ℕ)) (r : ℕ) → NoneStops urgency lists r ⊎ ((f : ℕ) × IsFirstStopper urgency lists r f)
+first_stopper : (urgency : List ℕ) (lists : List (List ℕ)) (r : ℕ) → NoneStops urgency lists r ⊎ ((f : ℕ) × IsFirstListed urgency lists r f)
 first_stopper [] lists r = inl (λ f i h. i)
 first_stopper (u ∷ urgency) lists r = elim (decide_stops lists u r) [
   | inl h ↦ inr (u, record { before = []; behind = urgency; split = refl; stops = h; first = λ g i k. i })
@@ -147,7 +147,7 @@ module _ (S : Scheme) (s : Schedule) where
       ]
 
   abbrev IsStopped : ℕ → Type 0
-  IsStopped n = IsMarked S.asserts true n × ((f : ℕ) × IsFirstStopper s.urgency s.stops n f)
+  IsStopped n = IsMarked S.asserts true n × ((f : ℕ) × IsFirstListed s.urgency s.stops n f)
 
   decide_stopped : (n : ℕ) → Decided (IsStopped n)
   decide_stopped n = elim (decide_marked S.asserts true n) [
@@ -157,7 +157,7 @@ module _ (S : Scheme) (s : Schedule) where
     ]
     | inr f ↦ inr (λ h. f h.0)
   ] where
-    stops_not : NoneStops s.urgency s.stops n → (f : ℕ) → IsFirstStopper s.urgency s.stops n f → ⊥
+    stops_not : NoneStops s.urgency s.stops n → (f : ℕ) → IsFirstListed s.urgency s.stops n f → ⊥
     stops_not none f h = none f (stopper_in s.urgency s.stops n f h) h.stops
 
   unstopped_unless : (n : ℕ) → ¬ IsStopped n → IsUnstopped S s n

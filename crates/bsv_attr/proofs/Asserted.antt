@@ -3,12 +3,12 @@ use Rattle.std.proofs.Common.{◌≡◌, ℕ, ◌<◌, refl, ap, subst, ◌⊎�
 use Rattle.std.specs.Prelude.{◌↔◌, Result, Ok, Err, IsOk, MatchResult}
 use Rattle.std.proofs.lemmas.Bool.{cases_order}
 use Rattle.bsv_design.specs.declared.schedule.Schedule.{Schedule}
-use Rattle.bsv_design.specs.Schemes.{Scheme}
+use Rattle.bsv_design.specs.scheme.Schemes.{Scheme}
 use Rattle.bsv_attr.specs.declared.fault.AttrFault.{AttrFault}
 use Rattle.bsv_attr.specs.declared.fault.AttrFault.TheVariants.{NoImplicit, FireWhenEnabled}
 use Rattle.bsv_attr.specs.Asserting.{AreExplicit, AreUnstopped, IsAccepted, NamesImplicit, NamesStopped, NamesStopper, TellsStopper}
 use Rattle.bsv_attr.specs.Implicit.{are_implicit, IsFirstTrue}
-use Rattle.bsv_attr.specs.Stopping.{IsFirstStopper}
+use Rattle.bsv_attr.specs.Stopping.{IsFirstListed}
 use Rattle.bsv_attr.proofs.Stoppers.{stopper_in, stopper_one}
 use Rattle.bsv_attr.proofs.Truths.{first_one}
 
@@ -34,7 +34,7 @@ pub stopped_one : (S : Scheme) (s : Schedule) (r f q g : ℕ) → NamesStopped S
 stopped_one S s r f q g h k = of (cases_order r q) where
   of : (r ≡ q) ⊎ ((r < q) ⊎ (q < r)) → FireWhenEnabled r f ≡ FireWhenEnabled q g
   of (inl e) =
-      let same : f ≡ g = stopper_one s.urgency s.stops q f g (subst (λ n. IsFirstStopper s.urgency s.stops n f) e h.stopper) k.stopper in
+      let same : f ≡ g = stopper_one s.urgency s.stops q f g (subst (λ n. IsFirstListed s.urgency s.stops n f) e h.stopper) k.stopper in
       cc
   of (inr (inl less)) = absurd (k.earlier r less h.marked f (stopper_in s.urgency s.stops r f h.stopper) h.stopper.stops)
   of (inr (inr more)) = absurd (h.earlier q more k.marked g (stopper_in s.urgency s.stops q g k.stopper) k.stopper.stops)

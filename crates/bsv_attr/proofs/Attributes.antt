@@ -15,15 +15,15 @@ use Rattle.bsv_design.specs.declared.schedule.Schedule.{Schedule}
 use Rattle.bsv_design.specs.declared.tree.Attribute.{Attribute}
 use Rattle.bsv_design.specs.declared.tree.Attribute.TheVariants as attribute
 use Rattle.bsv_design.specs.declared.tree.Pair.{Pair}
-use Rattle.bsv_design.specs.Bodies.{target, words}
-use Rattle.bsv_design.specs.Designs.{Blueprint}
-use Rattle.bsv_design.specs.Schemes.{Scheme, Look, Asking, design_scheme, kinds_of, trace_of, answers, given, seen, ready, is_open, required, all_hold, all_open}
-use Rattle.bsv_design.specs.Traces.{Trace, kind_at, site_at, demand_at, body_trace}
-use Rattle.bsv_schedule.specs.executing.Orders.{ExecutionOrder}
-use Rattle.bsv_graph.specs.Orders.{In, StandsBefore}
+use Rattle.bsv_design.specs.design.Bodies.{target, words}
+use Rattle.bsv_design.specs.design.Designs.{DesignData}
+use Rattle.bsv_design.specs.scheme.Schemes.{Scheme, Look, Asking, design_scheme, kinds_of, trace_of, answers, given, seen, ready, is_open, required, all_hold, all_open}
+use Rattle.bsv_design.specs.scheme.Traces.{Trace, kind_at, site_at, demand_at, body_trace}
+use Rattle.bsv_schedule.specs.execution_order.Orders.{ExecutionOrder}
+use Rattle.bsv_graph.specs.Orders.{In, IsBefore}
 use Rattle.bsv_schedule.specs.relating.Relating.{Relating, Agrees}
 use Rattle.bsv_schedule.specs.stopping.Stops.{Stops, Picks, AreStops}
-use Rattle.bsv_schedule.specs.urging.Orders.{UrgencyOrder}
+use Rattle.bsv_schedule.specs.urgency_order.Orders.{UrgencyOrder}
 use Rattle.bsv_graph.specs.Walks.{HasEdge}
 use Rattle.bsv_attr.specs.Asserting.{IsAccepted}
 use Rattle.bsv_attr.specs.Calling.{condition_named, call_guarded, implicit_places}
@@ -88,9 +88,9 @@ paired_preempting S a b p = paired_edge is_urging S.pairs attribute.Preempts a b
 
 -- what bsv_graph promises of the pairs
 abbrev pub Urged : Type 0
-Urged = (r : Relating) (xs : List ℕ) (a b : ℕ) → Agrees r → UrgencyOrder r xs → HasEdge r.urging a b → StandsBefore xs a b
+Urged = (r : Relating) (xs : List ℕ) (a b : ℕ) → Agrees r → UrgencyOrder r xs → HasEdge r.urging a b → IsBefore xs a b
 
-stops_before : (R : Relating) (execution urgency : List ℕ) (f r : ℕ) → Urged → Agrees R → UrgencyOrder R urgency → Stops R execution urgency f r → StandsBefore urgency f r
+stops_before : (R : Relating) (execution urgency : List ℕ) (f r : ℕ) → Urged → Agrees R → UrgencyOrder R urgency → Stops R execution urgency f r → IsBefore urgency f r
 stops_before R execution urgency f r law g u (inl h) = h.0
 stops_before R execution urgency f r law g u (inr h) = law R urgency f r g u (g.preempts f r h)
 
@@ -161,7 +161,7 @@ body_explicit aggressive ps e look ws none =
     ∙ (and-true (all_hold aggressive (map (demand_at vs) e.conditions))
     ∙ sym (ap (all_hold aggressive) (all_own vs e.conditions (none_left _ (map (call_guarded ps) e.calls) none))))
 
-explicit_ready : (b : Blueprint) (n : ℕ) (o : Option Element) → slice_get b.elements n ≡ o → NoneTrue (are_implicit (design_scheme b) n)
+explicit_ready : (b : DesignData) (n : ℕ) (o : Option Element) → slice_get b.elements n ≡ o → NoneTrue (are_implicit (design_scheme b) n)
     → (aggressive : Bool) (q : Asking) (look : Look) → ready aggressive (design_scheme b) q n look ≡ all_hold aggressive (own (seen (design_scheme b) q n look).demands)
 unfolding design_scheme ready seen
 explicit_ready b n None at none aggressive q look =
@@ -177,9 +177,9 @@ explicit_ready b n (Some e) at none aggressive q look =
 -- ---- the whole
 
 abbrev pub Ordering : Type 0
-Ordering = (r : Relating) (xs : List ℕ) (a b : ℕ) → Agrees r → ExecutionOrder r xs → HasEdge r.ordering a b → StandsBefore xs a b
+Ordering = (r : Relating) (xs : List ℕ) (a b : ℕ) → Agrees r → ExecutionOrder r xs → HasEdge r.ordering a b → IsBefore xs a b
 
-pub obeys : Ordering → Urged → (b : Blueprint) (s : Schedule) → Agrees (relating (design_scheme b))
+pub obeys : Ordering → Urged → (b : DesignData) (s : Schedule) → Agrees (relating (design_scheme b))
     → ExecutionOrder (relating (design_scheme b)) s.execution → UrgencyOrder (relating (design_scheme b)) s.urgency
     → AreStops (relating (design_scheme b)) s.execution s.urgency s.stops → IsAccepted (design_scheme b) s → Obeys (design_scheme b) s
 obeys ordering urged b s g x u are accepted =

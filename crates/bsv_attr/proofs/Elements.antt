@@ -11,14 +11,14 @@ use Rattle.bsv_bits.specs.Words.{Bits}
 use Rattle.bsv_design.specs.declared.design.Design.{Design}
 use Rattle.bsv_design.specs.declared.design.NamedPart.{NamedPart}
 use Rattle.bsv_design.specs.declared.element.Element.{Element}
-use Rattle.bsv_design.specs.Bodies.{words}
-use Rattle.bsv_design.specs.Designs.{Blueprint, IsDesign, IsRuleIn}
-use Rattle.bsv_design.specs.Relations.{no_answers}
-use Rattle.bsv_design.specs.Schemes.{design_scheme, kinds_of, trace_of, ports_of, filled}
-use Rattle.bsv_design.specs.Seen.{blueprint}
-use Rattle.bsv_design.specs.Traces.{Trace, body_trace, site_at, demand_at}
+use Rattle.bsv_design.specs.design.Bodies.{words}
+use Rattle.bsv_design.specs.design.Designs.{DesignData, IsDesign, IsRuleIn}
+use Rattle.bsv_design.specs.scheme.Relations.{no_answers}
+use Rattle.bsv_design.specs.scheme.Schemes.{design_scheme, kinds_of, trace_of, ports_of, filled}
+use Rattle.bsv_design.specs.tree.Seen.{design_data}
+use Rattle.bsv_design.specs.scheme.Traces.{Trace, body_trace, site_at, demand_at}
 use Rattle.bsv_attr.specs.Calling.{is_countable, condition_named, implicit_places}
-use Rattle.bsv_design.specs.Traces.{has_name}
+use Rattle.bsv_design.specs.scheme.Traces.{has_name}
 use Rattle.bsv_attr.specs.Implicit.{are_implicit, has_guard}
 use Rattle.bsv_schedule.specs.relating.Marks.{IsMarked}
 
@@ -31,7 +31,7 @@ rule_within es n r = lt-ltb n (length es) (slice_get_within es n r.element r.at)
 pub marked_within : (d : Design) (fires : Bool) (n : ℕ) → IsMarked d.asserts fires n → n < length d.elements
 marked_within d fires n m =
     let within : nat_lt n (length d.elements) ≡ true =
-    ∥∥₁_elim d.right (Bool-set _ _) (λ (right : IsDesign (blueprint d)). rule_within d.elements n (subst (IsRuleIn d.elements) m.is.rule (right.asserts m.place m.mark m.at))) in
+    ∥∥₁_elim d.right (Bool-set _ _) (λ (right : IsDesign (design_data d)). rule_within d.elements n (subst (IsRuleIn d.elements) m.is.rule (right.asserts m.place m.mark m.at))) in
     ltb-true _ _ within
 
 few_at : (es : List Element) (n : ℕ) (e : Element) → list_all is_countable es ≡ true → slice_get es n ≡ Some e → is_countable e ≡ true
@@ -55,7 +55,7 @@ of_body ps e ws =
     ap (λ xs. xs ++ map (has_guard ks) (map (site_at ks ws) e.calls)) (map_both has_name (demand_at ws) e.conditions)
     ∙ ap (λ xs. map condition_named e.conditions ++ xs) (map_both (has_guard ks) (site_at ks ws) e.calls)
 
-pub implicit_is : (b : Blueprint) (n : ℕ) (e : Element) → slice_get b.elements n ≡ Some e → are_implicit (design_scheme b) n ≡ implicit_places b.parts e
+pub implicit_is : (b : DesignData) (n : ℕ) (e : Element) → slice_get b.elements n ≡ Some e → are_implicit (design_scheme b) n ≡ implicit_places b.parts e
 unfolding are_implicit design_scheme body_trace
 implicit_is b n e at =
     let ks = kinds_of b in

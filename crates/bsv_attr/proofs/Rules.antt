@@ -6,17 +6,17 @@ use Rattle.bsv_design.specs.declared.design.NamedPart.{NamedPart}
 use Rattle.bsv_design.specs.declared.element.Element.{Element}
 use Rattle.bsv_design.specs.declared.schedule.Schedule.{Schedule}
 use Rattle.bsv_design.specs.declared.tree.Assert.{Assert}
-use Rattle.bsv_design.specs.Schemes.{Scheme, design_scheme}
-use Rattle.bsv_design.specs.Seen.{blueprint}
+use Rattle.bsv_design.specs.scheme.Schemes.{Scheme, design_scheme}
+use Rattle.bsv_design.specs.tree.Seen.{design_data}
 use Rattle.bsv_attr.specs.Asserting.{IsExplicit, IsUnstopped, AreExplicit, AreUnstopped, NamesImplicit, NamesStopped}
 use Rattle.bsv_attr.specs.Calling.{implicit_places}
 use Rattle.bsv_attr.specs.Implicit.{IsFirstTrue, NoneTrue}
 use Rattle.bsv_schedule.specs.relating.Marks.{IsMarked}
-use Rattle.bsv_attr.specs.Stopping.{IsFirstStopper}
+use Rattle.bsv_attr.specs.Stopping.{IsFirstListed}
 use Rattle.bsv_attr.proofs.Elements.{implicit_is, marked_within}
 
 abbrev pub scheme : Design → Scheme
-scheme d = design_scheme (blueprint d)
+scheme d = design_scheme (design_data d)
 
 pub marks_are : (d : Design) → (scheme d).asserts ≡ d.asserts
 unfolding design_scheme
@@ -35,14 +35,14 @@ pub names_implicit : (d : Design) (n place : ℕ) (e : Element) (marks : List As
     → NamesImplicit (scheme d) n place
 names_implicit d n place e marks ps are parts at m f before = record {
   marked = is_marked d marks false n are m;
-  implicit = subst (λ bs. IsFirstTrue bs place) (sym (implicit_is (blueprint d) n e at)) (subst (λ qs. IsFirstTrue (implicit_places qs e) place) parts f);
+  implicit = subst (λ bs. IsFirstTrue bs place) (sym (implicit_is (design_data d) n e at)) (subst (λ qs. IsFirstTrue (implicit_places qs e) place) parts f);
   earlier = before;
 }
 
 pub explicit_here : (d : Design) (n : ℕ) (e : Element) (ps : List NamedPart) → ps ≡ d.parts → slice_get d.elements n ≡ Some e → NoneTrue (implicit_places ps e)
     → IsExplicit (scheme d) n
 explicit_here d n e ps parts at none m =
-    subst NoneTrue (sym (implicit_is (blueprint d) n e at)) (subst (λ qs. NoneTrue (implicit_places qs e)) parts none)
+    subst NoneTrue (sym (implicit_is (design_data d) n e at)) (subst (λ qs. NoneTrue (implicit_places qs e)) parts none)
 
 pub explicit_unmarked : (d : Design) (n : ℕ) (marks : List Assert) → marks ≡ d.asserts → ¬ IsMarked marks false n → IsExplicit (scheme d) n
 explicit_unmarked d n marks are h m = absurd (unmarked d marks false n are h m)
@@ -54,7 +54,7 @@ all_explicit d k long before n m =
 
 -- ---- stopped rules
 
-pub names_stopped : (d : Design) (s : Schedule) (n f : ℕ) (marks : List Assert) → marks ≡ d.asserts → IsMarked marks true n → IsFirstStopper s.urgency s.stops n f
+pub names_stopped : (d : Design) (s : Schedule) (n f : ℕ) (marks : List Assert) → marks ≡ d.asserts → IsMarked marks true n → IsFirstListed s.urgency s.stops n f
     → ((m : ℕ) → m < n → IsUnstopped (scheme d) s m) → NamesStopped (scheme d) s n f
 names_stopped d s n f marks are m h before = record { marked = is_marked d marks true n are m; stopper = h; earlier = before }
 

@@ -7,7 +7,7 @@ use Rattle.std.proofs.lemmas.Option.{same_Some}
 use Rattle.std.proofs.lemmas.Bool.Decides.{nat_tests}
 use Rattle.std.proofs.Math.Bool.{or-true}
 use Rattle.bsv_graph.specs.Orders.{In}
-use Rattle.bsv_attr.specs.Stopping.{ListStops, NoneStops, IsFirstStopper}
+use Rattle.bsv_attr.specs.Stopping.{ListStops, NoneStops, IsFirstListed}
 use Rattle.bsv_graph.proofs.LeastLemmas.{in_right, in_parts}
 
 -- ---- members
@@ -46,7 +46,7 @@ split_at (u ∷ us) zero h = refl
 split_at (u ∷ us) (suc n) h = ap (λ xs. u ∷ xs) (split_at us n (omega arith))
 
 pub first_stopper : (us : List ℕ) (lists : List (List ℕ)) (r n : ℕ) → NoneStops (take n us) lists r → n < length us → ListStops lists (get_or us n 0) r
-    → IsFirstStopper us lists r (get_or us n 0)
+    → IsFirstListed us lists r (get_or us n 0)
 first_stopper us lists r n before within h = record {
   before = take n us;
   behind = drop (suc n) us;
@@ -64,7 +64,7 @@ none_stops_more us lists r n before within never f i h =
     ]
 
 -- it is one of the list, and there is one alone
-pub stopper_in : (us : List ℕ) (lists : List (List ℕ)) (r f : ℕ) → IsFirstStopper us lists r f → In us f
+pub stopper_in : (us : List ℕ) (lists : List (List ℕ)) (r f : ℕ) → IsFirstListed us lists r f → In us f
 stopper_in us lists r f h = subst (λ xs. In xs f) (sym h.split) (in_right h.before (f ∷ h.behind) f (inl refl))
 
 two_splits : (es bs cs ds : List ℕ) (f g : ℕ) → es ++ (f ∷ bs) ≡ cs ++ (g ∷ ds) → (f ≡ g) ⊎ (In cs f ⊎ In es g)
@@ -76,7 +76,7 @@ two_splits (a ∷ es) bs (c ∷ cs) ds f g h = elim (two_splits es bs cs ds f g 
   | inr k ↦ elim k [ inl i ↦ inr (inl (inr i)) | inr i ↦ inr (inr (inr i)) ]
 ]
 
-pub stopper_one : (us : List ℕ) (lists : List (List ℕ)) (r f g : ℕ) → IsFirstStopper us lists r f → IsFirstStopper us lists r g → f ≡ g
+pub stopper_one : (us : List ℕ) (lists : List (List ℕ)) (r f g : ℕ) → IsFirstListed us lists r f → IsFirstListed us lists r g → f ≡ g
 stopper_one us lists r f g h k = elim (two_splits h.before h.behind k.before k.behind f g (sym h.split ∙ k.split)) [
   | inl e ↦ e
   | inr o ↦ elim o [ inl i ↦ absurd (k.first f i h.stops) | inr i ↦ absurd (h.first g i k.stops) ]

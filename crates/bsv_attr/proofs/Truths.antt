@@ -31,7 +31,7 @@ none_all f xs n before long j h =
 
 -- ---- of two lists
 
--- the truth stands in the first list, or behind it
+-- the truth is in the first list, or after it
 cut : (fs gs : List Bool) (j : ℕ) → slice_get (fs ++ gs) j ≡ Some true
     → (slice_get fs j ≡ Some true) ⊎ ((i : ℕ) × (j ≡ length fs + i) × (slice_get gs i ≡ Some true))
 cut [] gs j h = inr (j, omega arith, h)

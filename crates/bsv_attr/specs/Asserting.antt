@@ -1,12 +1,12 @@
 -- What the asserting attributes refuse (Bluespec reference guide, "no_implicit_conditions", "fire_when_enabled").
 use Rattle.std.specs.Prelude.{ℕ, ◌<◌, true, false, Result, Ok, Err}
 use Rattle.bsv_design.specs.declared.schedule.Schedule.{Schedule}
-use Rattle.bsv_design.specs.Schemes.{Scheme}
+use Rattle.bsv_design.specs.scheme.Schemes.{Scheme}
 use Rattle.bsv_attr.specs.declared.fault.AttrFault.{AttrFault}
 use Rattle.bsv_attr.specs.declared.fault.AttrFault.TheVariants.{NoImplicit, FireWhenEnabled}
 use Rattle.bsv_attr.specs.Implicit.{are_implicit, IsFirstTrue, NoneTrue}
 use Rattle.bsv_schedule.specs.relating.Marks.{IsMarked}
-use Rattle.bsv_attr.specs.Stopping.{NoneStops, IsFirstStopper}
+use Rattle.bsv_attr.specs.Stopping.{NoneStops, IsFirstListed}
 
 -- where n is marked with `no_implicit_conditions`, nothing of it is implicit
 abbrev pub IsExplicit : Scheme → ℕ → Type 0
@@ -36,7 +36,7 @@ pub record NamesImplicit (S : Scheme) (r place : ℕ) : Type 0 where
 -- r is the first rule that is marked with `fire_when_enabled` and stopped, and f the first one in urgency that stops it
 pub record NamesStopped (S : Scheme) (s : Schedule) (r f : ℕ) : Type 0 where
   pub marked : IsMarked S.asserts true r
-  pub stopper : IsFirstStopper s.urgency s.stops r f
+  pub stopper : IsFirstListed s.urgency s.stops r f
   pub earlier : (n : ℕ) → n < r → IsUnstopped S s n
 
 -- it is told where no implicit condition is refused

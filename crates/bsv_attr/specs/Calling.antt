@@ -5,8 +5,8 @@ use Rattle.bsv_design.specs.declared.design.NamedPart.{NamedPart}
 use Rattle.bsv_design.specs.declared.element.Call.{Call}
 use Rattle.bsv_design.specs.declared.element.Condition.{Condition}
 use Rattle.bsv_design.specs.declared.element.Element.{Element}
-use Rattle.bsv_design.specs.Guards.{is_guarded}
-use Rattle.bsv_design.specs.Widths.{call_named}
+use Rattle.bsv_design.specs.design.Guards.{is_guarded}
+use Rattle.bsv_design.specs.design.Widths.{call_named}
 
 -- conditions and calls together are fewer than 2 ^ 32
 abbrev pub is_countable : Element → Bool

@@ -13,7 +13,7 @@ abbrev pub NoneStops : List ℕ → List (List ℕ) → ℕ → Type 0
 NoneStops urgency lists r = (f : ℕ) → In urgency f → ¬ ListStops lists f r
 
 -- f is the first one in urgency that stops r
-pub record IsFirstStopper (urgency : List ℕ) (lists : List (List ℕ)) (r f : ℕ) : Type 0 where
+pub record IsFirstListed (urgency : List ℕ) (lists : List (List ℕ)) (r f : ℕ) : Type 0 where
   pub before : List ℕ
   pub behind : List ℕ
   pub split : urgency ≡ before ++ (f ∷ behind)

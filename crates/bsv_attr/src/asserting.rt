@@ -4,8 +4,8 @@ ghost use Rattle.bsv_attr.specs.declared.fault.AttrFault.TheVariants as told;
 ghost use Rattle.bsv_attr.specs.Asserting.{AreExplicit, AreUnstopped, IsAccepted, NamesImplicit};
 ghost use Rattle.bsv_attr.specs.Asserting.{NamesStopper, TellsImplicit, TellsStopper};
 ghost use Rattle.bsv_attr.specs.Calling as calling;
-ghost use Rattle.bsv_design.specs.Schemes.{design_scheme};
-ghost use Rattle.bsv_design.specs.Seen.{blueprint};
+ghost use Rattle.bsv_design.specs.scheme.Schemes.{design_scheme};
+ghost use Rattle.bsv_design.specs.tree.Seen.{design_data};
 
 use crate::fault::AttrFault;
 use crate::implicit::first_implicit;
@@ -35,8 +35,8 @@ pub fn is_countable(design: &Design) -> bool
 /// Whether no rule that is marked with `no_implicit_conditions` has one, or the first that has.
 fn explicit(design: &Design) -> Result<(), AttrFault>
     requires { IsTrue (list_all calling.is_countable design.now.elements) }
-    ensures { MatchResult result (λ _. AreExplicit (design_scheme (blueprint design.now)))
-        (TellsImplicit (design_scheme (blueprint design.now))) }
+    ensures { MatchResult result (λ _. AreExplicit (design_scheme (design_data design.now)))
+        (TellsImplicit (design_scheme (design_data design.now))) }
 {
     let marks = design.asserts.as_slice();
     for (rule, element) in design.elements.as_slice().iter().enumerate() {
@@ -52,8 +52,8 @@ fn explicit(design: &Design) -> Result<(), AttrFault>
 /// Whether no rule that is marked with `fire_when_enabled` is stopped, or the first that is.
 fn unstopped(design: &Design, schedule: &Schedule) -> Result<(), AttrFault>
     ensures { MatchResult result
-        (λ _. AreUnstopped (design_scheme (blueprint design.now)) schedule.now)
-        (TellsStopper (design_scheme (blueprint design.now)) schedule.now) }
+        (λ _. AreUnstopped (design_scheme (design_data design.now)) schedule.now)
+        (TellsStopper (design_scheme (design_data design.now)) schedule.now) }
 {
     let marks = design.asserts.as_slice();
     for rule in 0..design.elements.len() as u32 {
@@ -71,11 +71,11 @@ fn unstopped(design: &Design, schedule: &Schedule) -> Result<(), AttrFault>
 pub fn asserts(design: &Design, schedule: &Schedule) -> Result<(), AttrFault>
     requires { IsTrue (list_all calling.is_countable design.now.elements) }
     ensures accepted { IsOk result
-        ↔ IsAccepted (design_scheme (blueprint design.now)) schedule.now }
+        ↔ IsAccepted (design_scheme (design_data design.now)) schedule.now }
     ensures no_implicit { (r place : ℕ) → (result ≡ Err (told.NoImplicit r place))
-        ↔ NamesImplicit (design_scheme (blueprint design.now)) r place }
+        ↔ NamesImplicit (design_scheme (design_data design.now)) r place }
     ensures fires { (r f : ℕ) → (result ≡ Err (told.FireWhenEnabled r f))
-        ↔ NamesStopper (design_scheme (blueprint design.now)) schedule.now r f }
+        ↔ NamesStopper (design_scheme (design_data design.now)) schedule.now r f }
 {
     explicit(design)?;
     unstopped(design, schedule)

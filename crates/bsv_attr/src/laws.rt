@@ -5,13 +5,13 @@ ghost use Rattle.bsv_clock.specs.Obeying.{Obeys};
 ghost use Rattle.bsv_schedule.specs.relating.Elements.{relating};
 ghost use Rattle.bsv_attr.specs.Stopping.{ListStops};
 ghost use Rattle.bsv_design.specs.declared.schedule.Schedule.{Schedule};
-ghost use Rattle.bsv_design.specs.Designs.{Blueprint};
-ghost use Rattle.bsv_design.specs.Schemes.{Scheme, AreAlike, design_scheme};
-ghost use Rattle.bsv_schedule.specs.executing.Orders.{ExecutionOrder};
+ghost use Rattle.bsv_design.specs.design.Designs.{DesignData};
+ghost use Rattle.bsv_design.specs.scheme.Schemes.{Scheme, AreAlike, design_scheme};
+ghost use Rattle.bsv_schedule.specs.execution_order.Orders.{ExecutionOrder};
 ghost use Rattle.bsv_graph.specs.Orders.{In};
 ghost use Rattle.bsv_schedule.specs.relating.Relating.{Relating, Agrees};
 ghost use Rattle.bsv_schedule.specs.stopping.Stops.{Stops, AreStops};
-ghost use Rattle.bsv_schedule.specs.urging.Orders.{UrgencyOrder};
+ghost use Rattle.bsv_schedule.specs.urgency_order.Orders.{UrgencyOrder};
 
 use bsv_schedule::obeyed as pairs_obeyed;
 
@@ -36,7 +36,7 @@ pub fn listed()
 /// The schedule of a design obeys the attributes, where both orders are the design's, its lists have what each element
 /// stops, and the asserting attributes are accepted.
 pub fn obeyed()
-    ensures { (b : Blueprint) (s : Schedule) → Agrees (relating (design_scheme b))
+    ensures { (b : DesignData) (s : Schedule) → Agrees (relating (design_scheme b))
         → ExecutionOrder (relating (design_scheme b)) s.execution
         → UrgencyOrder (relating (design_scheme b)) s.urgency
         → AreStops (relating (design_scheme b)) s.execution s.urgency s.stops

@@ -12,7 +12,7 @@ div-pow_suc number count = div-div-eq-div-mul number 16 (16 ^ count) ∙ ap (λ 
 pub div-pow_suc_last : (number count : ℕ) → number / 16 ^ count / 16 ≡ number / 16 ^ (count + 1)
 div-pow_suc_last number count = div-div-eq-div-mul number (16 ^ count) 16 ∙ ap (λ k. number / k) (sym (pow-suc 16 count) ∙ ap (λ k. 16 ^ k) (sym (add-one count)))
 
--- one digit more stands in front
+-- one digit more is in front
 pub hex_digits-more : (count number : ℕ) → hex_digits (suc count) number ≡ hex_glyph (number / 16 ^ count % 16) ∷ hex_digits count number
 hex_digits-more zero number = ap (λ k. hex_glyph (k % 16) ∷ []) (sym (div-one number))
 hex_digits-more (suc count) number =
@@ -31,8 +31,8 @@ pub length-hex_digits : (count number : ℕ) → length (hex_digits count number
 length-hex_digits zero number = refl
 length-hex_digits (suc count) number = length-append (hex_digits count (number / 16)) _ ∙ omega (arith, length-hex_digits count (number / 16))
 
--- where two buffers are the same behind one place, they are behind each later one
-pub same_behind : (xs ys : List ℕ) (m n : ℕ) → drop m xs ≡ drop m ys → m ≤ n → drop n xs ≡ drop n ys
-same_behind xs ys m n same below =
+-- where two buffers are the same after one place, they are after each later one
+pub same_after : (xs ys : List ℕ) (m n : ℕ) → drop m xs ≡ drop m ys → m ≤ n → drop n xs ≡ drop n ys
+same_after xs ys m n same below =
     let sum : m + (n - m) ≡ n = omega arith in
     subst (λ (k : ℕ). drop k xs ≡ drop k ys) sum (sym (drop-drop (n - m) m xs) ∙ ap (drop (n - m)) same ∙ drop-drop (n - m) m ys)

@@ -28,7 +28,7 @@ fn write_digits(number: u128, out: &mut [u8])
     }
 }
 
-/// Puts bytes into the buffer at a place, and answers the place behind them.
+/// Puts bytes into the buffer at a place, and answers the place after them.
 fn put(out: &mut [u8], at: usize, bytes: &[u8]) -> usize
     requires { at + length bytes.now ≤ length out.old }
     ensures end { result ≡ at + length bytes.now }
@@ -41,7 +41,7 @@ fn put(out: &mut [u8], at: usize, bytes: &[u8]) -> usize
 }
 
 /// Puts the last so many digits of a number into the buffer at a place, and answers the place
-/// behind them.
+/// after them.
 fn put_digits(out: &mut [u8], at: usize, number: u128, count: usize) -> usize
     requires { at + count ≤ length out.old }
     ensures end { result ≡ at + count }

@@ -27,14 +27,14 @@ use Rattle.bsv_blocks.specs.Types.{type_first}
 use Rattle.bsv_blocks.specs.Holes.{Hole, Filled, Inner, inner}
 use Rattle.bsv_blocks.proofs.TypeKnot.{type_more, written_sound, type_laws_at, written_balanced, written_deep, written_agrees}
 
--- the words with which what stands at a place begins
+-- the words with which what is at a place begins
 abbrev pub hole_begins : Hole → List Terminal
 hole_begins Hole.expression = expression_first
 hole_begins Hole.expressions = expression_first
 hole_begins Hole.arguments = word.OpenParen ∷ []
 hole_begins Hole.written = type_first
 
--- the words that go on behind it
+-- the words that go on after it
 abbrev pub hole_goes_on : Hole → List Terminal
 hole_goes_on Hole.expression = expression_more
 hole_goes_on Hole.expressions = word.Comma ∷ expression_more
@@ -45,7 +45,7 @@ module _ (source : List ℕ) (n : ℕ) where
   part_sound : {A : Type 0} (g : grammar.Of A) (ts : List Lexeme) (x : A) (rest : List Lexeme) → read source (λ h. expr source n false) false g ts ≡ Ok (x, rest) → Means source (λ h. IsExpr source n) g x ts rest
   part_sound g ts x rest e = sound source (λ h. expr source n false) (λ h. IsExpr source n) (λ h us y vs d. expr_sound source n false us y vs d) g false ts x rest e
 
-  -- what is read at a place stands there
+  -- what is read at a place is there
   pub inner_sound : (h : Hole) (ts : List Lexeme) (x : Filled h) (rest : List Lexeme) → inner source n h ts ≡ Ok (x, rest) → Inner source n h x ts rest
   unfolding inner Inner
   inner_sound Hole.expression ts x rest e = expr_sound source n false ts x rest e
@@ -72,7 +72,7 @@ module _ (source : List ℕ) (n : ℕ) where
   unfolding more grammar.arguments
   arguments_complete x ts rest d stop = arguments_good.completes false x ts rest d stop
 
-  -- the reader at a place reads what stands there
+  -- the reader at a place reads what is there
   pub inner_completes : (h : Hole) (x : Filled h) (ts rest : List Lexeme) → Inner source n h x ts rest → starts (hole_goes_on h) rest ≡ false → inner source n h ts ≡ Ok (x, rest)
   unfolding inner Inner
   inner_completes Hole.expression x ts rest d stop = (laws_at source n).completes x ts rest d stop
@@ -96,7 +96,7 @@ module _ (source : List ℕ) (n : ℕ) where
         | inr e ↦ let never : false ≡ true = e.0 in absurd cc
       ]
 
-  -- what stands at a place begins with one of its words
+  -- what is at a place begins with one of its words
   pub inner_begins : (h : Hole) (x : Filled h) (ts rest : List Lexeme) → Inner source n h x ts rest → starts (hole_begins h) ts ≡ true
   unfolding Inner
   inner_begins Hole.expression x ts rest d = (laws_at source n).begins x ts rest d

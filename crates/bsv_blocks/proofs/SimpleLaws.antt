@@ -29,12 +29,12 @@ use Rattle.bsv_blocks.specs.Simple.{simple, condition, head}
 use Rattle.bsv_blocks.proofs.TypeKnot.{type_more}
 use Rattle.bsv_blocks.proofs.HoleLaws.{hole_begins, hole_goes_on, inner_sound, inner_completes, inner_begins, inner_shorter, inner_balanced, inner_deep, inner_agrees}
 
--- each place counts as if it stood in a bracket
+-- each place counts as if it was in a bracket
 abbrev pub anywhere : Hole → Bool
 anywhere h = true
 
 -- what a grammar over these places owes to what holds it: its reader reads it where none of the last words stands
--- behind it, it begins with one of the first words, and it takes a token
+-- after it, it begins with one of the first words, and it takes a token
 pub record SaysLaws {A : Type 0} (source : List ℕ) (n : ℕ) (g : Of A) (fs ms : List Terminal) : Type 0 where
   pub completes : (x : A) (ts rest : List Lexeme) → Says source n g x ts rest → starts ms rest ≡ false → part source n g ts ≡ Ok (x, rest)
   pub begins : (x : A) (ts rest : List Lexeme) → Says source n g x ts rest → starts fs ts ≡ true
@@ -93,11 +93,11 @@ says_agrees source n m le g ts = agrees source (inner source n) (inner source m)
 unfoldable pub simple_first : List Terminal
 simple_first = word.Lower ∷ word.Return ∷ word.NoAction ∷ word.Let ∷ type_first
 
--- the words that the test allows behind one: it counts the index that may go on behind a name
+-- the words that the test allows after one: it counts the index that may go on after a name
 unfoldable pub simple_more : List Terminal
 simple_more = word.OpenBracket ∷ []
 
--- the words that go on behind a condition
+-- the words that go on after a condition
 unfoldable pub condition_more : List Terminal
 condition_more = word.Matches ∷ expression_more
 
@@ -141,7 +141,7 @@ module _ (source : List ℕ) (n : ℕ) where
   unfolding test first more nullable Names condition grammar.matched expression_first expression_more more_of levels words_of same_terminal
   condition_good = says_good source n condition refl (tt, (tt, (tt, (tt, (tt, tt)))))
 
-  -- the laws of a condition: behind a whole one, `matches` or what goes on with an expression may go on
+  -- the laws of a condition: after a whole one, `matches` or what goes on with an expression may go on
   pub condition_laws : SaysLaws source n condition expression_first condition_more
   unfolding first more nullable condition grammar.matched expression_first expression_more more_of levels words_of condition_more same_terminal
   condition_laws = says_laws source n condition expression_first condition_more condition_good refl refl refl
@@ -150,7 +150,7 @@ module _ (source : List ℕ) (n : ℕ) where
   unfolding test first more nullable Names head grammar.heading grammar.assignment expression_first expression_more more_of levels words_of same_terminal
   head_good = says_good source n head refl (tt, (tt, ((tt, (tt, tt)), (tt, (tt, (tt, (tt, (tt, tt))))))))
 
-  -- the laws of the head of a loop: nothing goes on behind one
+  -- the laws of the head of a loop: nothing goes on after one
   pub head_laws : SaysLaws source n head (word.For ∷ []) []
   unfolding first more nullable head grammar.heading grammar.assignment same_terminal
   head_laws = says_laws source n head (word.For ∷ []) [] head_good refl refl refl

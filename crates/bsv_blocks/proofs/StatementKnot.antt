@@ -25,11 +25,11 @@ use Rattle.bsv_blocks.specs.Statements as grammar
 use Rattle.bsv_blocks.specs.Statements.{Nested, Filled, Of, Inner, inner, IsStmt, stmt, within, stmt_first, stmts, stmt_body}
 use Rattle.bsv_blocks.proofs.SimpleLaws.{says_sound, says_balanced, says_deep, says_agrees, simple_first, simple_more, condition_more, simple_laws, condition_laws, head_laws, labels_laws, subject_laws, simple_tame, simple_guarded, condition_tame, condition_guarded, head_tame, head_guarded, place_tame, place_guarded}
 
--- the words that go on behind a statement
+-- the words that go on after a statement
 unfoldable pub stmt_more : List Terminal
 stmt_more = word.Else ∷ simple_more
 
--- the words with which what stands at a place begins
+-- the words with which what is at a place begins
 abbrev pub place_begins : Nested → List Terminal
 place_begins Nested.simple = simple_first
 place_begins Nested.condition = expression_first
@@ -38,7 +38,7 @@ place_begins Nested.labels = expression_first
 place_begins Nested.subject = expression_first
 place_begins Nested.statement = stmt_first
 
--- the words that go on behind it
+-- the words that go on after it
 abbrev pub place_goes_on : Nested → List Terminal
 place_goes_on Nested.simple = simple_more
 place_goes_on Nested.condition = condition_more
@@ -47,7 +47,7 @@ place_goes_on Nested.labels = word.Comma ∷ expression_more
 place_goes_on Nested.subject = expression_more
 place_goes_on Nested.statement = stmt_more
 
--- each place but that of a statement in a block counts as if it stood in a bracket
+-- each place but that of a statement in a block counts as if it was in a bracket
 abbrev pub outside : Nested → Bool
 outside Nested.simple = true
 outside Nested.condition = true
@@ -56,7 +56,7 @@ outside Nested.labels = true
 outside Nested.subject = true
 outside Nested.statement = false
 
--- what is read at a place stands there
+-- what is read at a place is there
 pub place_sound : (source : List ℕ) (n : ℕ) (Block : Phrase Stmt) (blocks : List Lexeme → Read Stmt) → ((ts : List Lexeme) (x : Stmt) (rest : List Lexeme) → blocks ts ≡ Ok (x, rest) → Block x ts rest)
     → (h : Nested) (ts : List Lexeme) (x : Filled h) (rest : List Lexeme) → inner source n blocks h ts ≡ Ok (x, rest) → Inner source n Block h x ts rest
 unfolding inner Inner
@@ -85,7 +85,7 @@ abbrev pub Part : {A : Type 0} → List ℕ → ℕ → Of A → Phrase A
 Part source n g = Means source (Inner source n (IsStmt source n)) g
 
 module _ (source : List ℕ) (n : ℕ) (laws : StmtLaws source n) where
-  -- the reader at a place reads what stands there
+  -- the reader at a place reads what is there
   pub place_completes : (h : Nested) (x : Filled h) (ts rest : List Lexeme) → Inner source n (IsStmt source n) h x ts rest → starts (place_goes_on h) rest ≡ false → inner source n (stmt source n) h ts ≡ Ok (x, rest)
   unfolding inner Inner
   place_completes Nested.simple x ts rest d stop = (simple_laws source n).completes x ts rest d stop
@@ -95,7 +95,7 @@ module _ (source : List ℕ) (n : ℕ) (laws : StmtLaws source n) where
   place_completes Nested.subject x ts rest d stop = (subject_laws source n).completes x ts rest d stop
   place_completes Nested.statement x ts rest d stop = laws.completes x ts rest d stop
 
-  -- what stands at a place begins with one of its words
+  -- what is at a place begins with one of its words
   pub place_starts : (h : Nested) (x : Filled h) (ts rest : List Lexeme) → Inner source n (IsStmt source n) h x ts rest → starts (place_begins h) ts ≡ true
   unfolding Inner
   place_starts Nested.simple x ts rest d = (simple_laws source n).begins x ts rest d
@@ -227,12 +227,12 @@ pub stmt_body_tame : Tamed stmt_body
 unfolding Tame stmt_body
 stmt_body_tame = (if_tame, (for_tame, (case_tame, arm_tame)))
 
--- a statement in a block stands between `begin` and `end`
+-- a statement in a block is between `begin` and `end`
 pub stmt_body_guarded : guarded outside stmt_body ≡ true
 unfolding guarded stmts grammar.block grammar.arm grammar.branch grammar.else_part grammar.branches grammar.if_stmt grammar.arm_or_if grammar.inner_for grammar.for_body grammar.for_stmt grammar.case_arm grammar.case_arms grammar.default_arm grammar.case_inside grammar.case_stmt stmt_body
 stmt_body_guarded = refl
 
--- what stands at a place closes each bracket that it opens
+-- what is at a place closes each bracket that it opens
 pub place_balanced : (source : List ℕ) (n : ℕ) (Block : Phrase Stmt) → Balanced Block → (h : Nested) → Balanced (Inner source n Block h)
 unfolding Inner
 place_balanced source n Block below Nested.simple x ts rest d l k r = says_balanced source n simple_grammar.simple simple_tame x ts rest d l k r
@@ -259,14 +259,14 @@ place_deep source p blocks below Nested.labels ts e k = lower_limit (suc p + k) 
 place_deep source p blocks below Nested.subject ts e k = lower_limit (suc p + k) (p + 1 + k) k ts (omega arith) (says_deep source (suc p) (Grammar.hole Hole.expression) (place_tame Hole.expression) (place_guarded Hole.expression) ts e k)
 place_deep source p blocks below Nested.statement ts e k = lower_limit (p + k) (p + 0 + k) k ts (omega arith) (below ts e k)
 
--- where the reader of a part was given too few brackets, so many are open, and one more if each block in it stands in a bracket
+-- where the reader of a part was given too few brackets, so many are open, and one more if each block in it is in a bracket
 pub within_deep : {A : Type 0} (source : List ℕ) (p : ℕ) → ((ts : List Lexeme) → stmt source (suc p) ts ≡ Err fault.TooDeep → (k : ℕ) → Reaches (p + k) k ts)
     → (g : Of A) → Tamed g → (ts : List Lexeme) → within source (suc p) g ts ≡ Err fault.TooDeep → (k : ℕ) → Reaches (p + bonus (guarded outside g) + k) k ts
 within_deep source p below g tame ts e k =
     deep source (inner source (suc p) (stmt source (suc p))) (Inner source (suc p) (IsStmt source (suc p))) (place_sound source (suc p) (IsStmt source (suc p)) (stmt source (suc p)) (stmt_sound source (suc p)))
     outside (place_balanced source (suc p) (IsStmt source (suc p)) (stmt_balanced source (suc p))) p (place_deep source p (stmt source (suc p)) below) g tame false ts e k
 
--- where the reader was given too few brackets and blocks, so many are open but one: the outermost statement stands in no block
+-- where the reader was given too few brackets and blocks, so many are open but one: the outermost statement is in no block
 pub stmt_deep : (source : List ℕ) (n : ℕ) (ts : List Lexeme) → stmt source n ts ≡ Err fault.TooDeep → (k : ℕ) → Reaches (n - 1 + k) k ts
 unfolding stmt
 stmt_deep source zero ts e k = Reaches.here (omega arith)
@@ -298,7 +298,7 @@ stmt_agrees source (suc n) (suc m) le ts =
 pub stmts_sound : (source : List ℕ) (n : ℕ) (ts : List Lexeme) (x : List Stmt) (rest : List Lexeme) → within source n stmts ts ≡ Ok (x, rest) → Part source n stmts x ts rest
 stmts_sound source n ts x rest e = sound source (inner source n (stmt source n)) (Inner source n (IsStmt source n)) (place_sound source n (IsStmt source n) (stmt source n) (stmt_sound source n)) stmts false ts x rest e
 
--- the words that go on behind statements
+-- the words that go on after statements
 unfoldable pub stmts_more : List Terminal
 stmts_more = stmt_first ++ stmt_more
 

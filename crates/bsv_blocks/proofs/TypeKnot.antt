@@ -18,7 +18,7 @@ use Rattle.bsv_expr.proofs.Deeper.{deep}
 use Rattle.bsv_blocks.specs.Types as grammar
 use Rattle.bsv_blocks.specs.Types.{IsType, written, outer, type_first}
 
--- the words that go on behind a type
+-- the words that go on after a type
 unfoldable pub type_more : List Terminal
 type_more = word.Hash ∷ []
 

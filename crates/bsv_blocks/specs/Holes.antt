@@ -28,7 +28,7 @@ Filled Hole.written = WrittenType
 abbrev pub Of : Type 0 → Type 1
 Of A = Grammar Hole Filled A
 
--- what stands at each, with fewer than so many brackets open at once in an expression or a type
+-- what is at each, with fewer than so many brackets open at once in an expression or a type
 unfoldable pub Inner : List ℕ → ℕ → (h : Hole) → Phrase (Filled h)
 Inner source n Hole.expression = IsExpr source n
 Inner source n Hole.expressions = Means source (λ h. IsExpr source n) expr_grammar.exprs

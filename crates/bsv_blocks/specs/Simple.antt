@@ -42,7 +42,7 @@ valid_told = told_as (codes "Valid")
 abbrev pub never : {A : Type 0} → List Terminal → Of A
 never set = Grammar.leaf set (λ source w. None)
 
--- an expression and the `;` behind it
+-- an expression and the `;` after it
 unfoldable pub ended : Of (Expr × Span)
 ended = Grammar.both pair expression (the word.Semicolon)
 
@@ -117,7 +117,7 @@ assignment = Grammar.both pair lower (behind word.Equal expression)
 abbrev pub Heading : Type 0
 Heading = (Ident × Expr) × (Expr × (Ident × Expr))
 
--- what stands in the brackets of a `for`
+-- what is in the brackets of a `for`
 unfoldable pub heading : Of Heading
 heading =
     Grammar.both (λ s h. h) (Grammar.leaf (word.Upper ∷ []) integer_told)

@@ -103,7 +103,7 @@ stmt_body =
     (Grammar.choose (word.For ∷ []) for_stmt
     (Grammar.choose (word.Case ∷ []) case_stmt arm))
 
--- what stands at each place, with this for a statement in a block
+-- what is at each place, with this for a statement in a block
 unfoldable pub Inner : List ℕ → ℕ → Phrase Stmt → (h : Nested) → Phrase (Filled h)
 Inner source n Block Nested.simple = Says source n simple_grammar.simple
 Inner source n Block Nested.condition = Says source n simple_grammar.condition

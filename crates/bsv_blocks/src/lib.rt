@@ -3,7 +3,7 @@
 //! Modules in reading order: `types` (types as they are written), `simple` (statements that hold no
 //! other, conditions and the heads of loops), `statements`.
 //!
-//! A piece of the tree that is held while something may still fail stands in a `Boxed`: an early
+//! A piece of the tree that is held while something may still fail is in a `Boxed`: an early
 //! end then drops it in one step, which keeps the proof of the function short.
 #![tactic(auto)]
 

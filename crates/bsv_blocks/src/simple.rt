@@ -44,7 +44,7 @@ fn call_of(alloc: Global, place: Place, method: Ident, found: Option<(Items<Expr
     }
 }
 
-/// A name of this text, and the tokens behind it.
+/// A name of this text, and the tokens after it.
 #[tactic(auto, unfolding(bsv_expr::specs::Reading::take_leaf))]
 pub fn word<'a>(
     source: &[u8],
@@ -166,7 +166,7 @@ fn call<'a>(
     Ok((call_of(alloc, place, method, found), rest))
 }
 
-/// `"<=" expr ";"` behind a place.
+/// `"<=" expr ";"` after a place.
 #[tactic(auto, unfolding(crate::specs::Simple::write, crate::specs::Holes::inner, bsv_expr::specs::Reading::read))]
 fn write<'a>(
     alloc: Global,
@@ -185,7 +185,7 @@ fn write<'a>(
     Ok((Stmt::Write(span, place.into_inner(), value), rest))
 }
 
-/// A call behind its place, and a `;`.
+/// A call after its place, and a `;`.
 #[tactic(auto, unfolding(crate::specs::Simple::call_end, crate::specs::Holes::inner, bsv_expr::specs::Reading::read))]
 fn call_end<'a>(
     alloc: Global,
@@ -207,7 +207,7 @@ fn call_end<'a>(
     Ok((Stmt::Call(span, call), rest))
 }
 
-/// `"=" expr ";"` behind a name.
+/// `"=" expr ";"` after a name.
 #[tactic(auto, unfolding(crate::specs::Simple::assign, crate::specs::Holes::inner, bsv_expr::specs::Reading::read, bsv_expr::specs::Reading::take_leaf))]
 fn assign<'a>(
     alloc: Global,
@@ -418,7 +418,7 @@ fn assignment<'a>(
     Ok(((variable, value), rest))
 }
 
-/// What stands in the brackets of a `for`: the variable and its first value, the condition, and the
+/// What is in the brackets of a `for`: the variable and its first value, the condition, and the
 /// variable that is stepped and its next value.
 #[tactic(auto, unfolding(crate::specs::Simple::heading, crate::specs::Holes::inner, bsv_expr::specs::Reading::read))]
 fn heading<'a>(

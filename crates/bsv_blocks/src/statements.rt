@@ -24,7 +24,7 @@ pub const STMT_FIRST: [Terminal; 10] = [
     Terminal::Case,
 ];
 
-/// The branches of an `if` so far, and the arm behind a last `else`.
+/// The branches of an `if` so far, and the arm after a last `else`.
 #[derive(Drop)]
 pub struct Branches {
     pub first: Branch,
@@ -32,7 +32,7 @@ pub struct Branches {
     pub otherwise: Option<Stmt>,
 }
 
-/// What stands behind an `else`.
+/// What comes after an `else`.
 #[derive(Drop)]
 pub enum ElsePart {
     /// `"if" "(" cond ")" arm`
@@ -41,7 +41,7 @@ pub enum ElsePart {
     Last(Stmt),
 }
 
-/// What stands between `case` and `endcase`: the subject, the arms, and the one behind `default`.
+/// What is between `case` and `endcase`: the subject, the arms, and the one after `default`.
 #[derive(Drop)]
 pub struct Cases {
     pub subject: Expr,
@@ -56,7 +56,7 @@ fn is_open(found: &Branches) -> bool
     found.otherwise.is_none()
 }
 
-/// The branches with what stands behind one more `else`.
+/// The branches with what comes after one more `else`.
 fn with_else(found: Branches, part: ElsePart) -> Result<Branches, AllocError>
     ensures { IfOk result (λ x. x ≡ trees.with_else found part) }
 {
@@ -123,7 +123,7 @@ fn boxed(alloc: Global, found: Option<Stmt>) -> Result<Option<Boxed<Stmt>>, Allo
     }
 }
 
-/// The `case` that stands here.
+/// The `case` that is here.
 fn case_of(alloc: Global, span: Span, found: Cases) -> Result<Stmt, AllocError>
     ensures { IfOk result (λ x. x ≡ trees.case_of span found) }
 {
@@ -463,7 +463,7 @@ fn default_arm<'a>(
     Ok((Some(arm), rest))
 }
 
-/// What stands between `case` and `endcase`: the subject, the arms, and the one behind `default`.
+/// What is between `case` and `endcase`: the subject, the arms, and the one after `default`.
 #[cycle(statements)]
 #[tactic(auto, unfolding(crate::specs::Statements::case_inside, crate::specs::Statements::inner, crate::specs::Holes::inner, bsv_expr::specs::Reading::read))]
 fn case_inside<'a>(

@@ -10,7 +10,7 @@ use bsv_expr::{Lexeme, ReadFault, expect, name, number, refusal, same_terminal, 
 use bsv_lex::{Terminal, literal};
 use std::alloc::{AllocError, Global};
 
-/// A number in a type, and the tokens behind it.
+/// A number in a type, and the tokens after it.
 #[tactic(auto, unfolding(bsv_expr::specs::Reading::take_leaf))]
 fn size<'a>(
     source: &[u8],

@@ -5,17 +5,17 @@ use Rattle.bsv_bits.specs.Words.{Bits, bit}
 use Rattle.bsv_design.specs.declared.node.Branch.{Branch}
 use Rattle.bsv_design.specs.declared.node.Node.TheVariants as node
 use Rattle.bsv_design.specs.declared.steps.Atom.{Atom}
-use Rattle.bsv_design.specs.Bodies.{at}
-use Rattle.bsv_design.specs.Computing as computing
-use Rattle.bsv_design.specs.Running as steps
-use Rattle.bsv_design.specs.Running.{Results, Run, Standing, Happening, or_zero, word_of, words_of, is_one, picked, either_run, last_run, arms_run, nested_run}
+use Rattle.bsv_design.specs.design.Bodies.{at}
+use Rattle.bsv_design.specs.carrying.Computing as computing
+use Rattle.bsv_design.specs.carrying.Running as steps
+use Rattle.bsv_design.specs.carrying.Running.{Results, Run, Standing, Happening, or_zero, word_of, words_of, is_one, picked, either_run, last_run, arms_run, nested_run}
 use Rattle.bsv_body.specs.declared.choices.Given.{Given}
 use Rattle.bsv_body.specs.declared.choices.Head.{Head}
 use Rattle.bsv_body.specs.declared.choices.Tested.{Tested}
 use Rattle.bsv_body.specs.declared.calls.Call.{Call}
 use Rattle.bsv_body.specs.declared.state.State.{State}
 use Rattle.bsv_body.specs.Bodies.{Shows, AreSites, AreNeeds}
-use Rattle.bsv_body.specs.Flat.{Flat, Alternative, Spot, no, put, one_choice, operand, operands, in_turn, picks_from, picks, giving, tested, join_one, join_all, head, heads_from, arms, nest, nest_from, nested, closed, choose, inside}
+use Rattle.bsv_body.specs.Flat.{Flat, Alternative, Position, no, put, one_choice, operand, operands, in_turn, picks_from, picks, giving, tested, join_one, join_all, head, heads_from, arms, nest, nest_from, nested, closed, choose, inside}
 use Rattle.bsv_body.proofs.Joins.{joined_last}
 use Rattle.bsv_body.proofs.Words.{Within, shows_within, shows_append, front_of, word_at, Keeps, keeps_all, keeps_twice, keeps_shows, put_within, put_word, put_keeps, operand_worth, operands_worth, Worths}
 use Rattle.bsv_body.proofs.StepsSame.{sites_within, sites_append, needs_within, needs_append, Holds, holds_left, holds_right, IsSpot, spot_within, words, Follows, Matches, AllMatch, in_turn_same}
@@ -44,10 +44,10 @@ picked_word w a b = by (w.value == 1) where
   by true = refl
   by false = refl
 
-inside_branches : (p : Spot) (q : Standing) (taken choice arm : ℕ) (b : Bool) → p.branches ≡ q.branches → (inside p taken choice arm).branches ≡ (steps.inside q b choice arm).branches
+inside_branches : (p : Position) (q : Standing) (taken choice arm : ℕ) (b : Bool) → p.branches ≡ q.branches → (inside p taken choice arm).branches ≡ (steps.inside q b choice arm).branches
 inside_branches p q taken choice arm b e = ap (λ (l : List Branch). l ++ record { choice = choice; arm = arm } ∷ []) e
 
--- a choice, whose values stand behind it
+-- a choice, whose values come after it
 abbrev pub chosen : Run → Run
 chosen o r q ws n k = let a = o r q ws n k in record a { words = ws ++ a.words }
 
@@ -106,13 +106,13 @@ module _ (r : Results) (arguments : List Bits) (full : List Call) where
     slots : g.1.slots ≡ s.slots
 
   giving_same : (fs : List Flat) (os : List Run) (gives : List Atom) → AllMatch r arguments full fs os
-      → (p : Spot) (q : Standing) (s : State) (ws : List Bits) (n k : ℕ) → Shows (seen s) s.slots ws → IsSpot (seen s) p q → s.choices ≡ n → s.calls ≡ k
+      → (p : Position) (q : Standing) (s : State) (ws : List Bits) (n k : ℕ) → Shows (seen s) s.slots ws → IsSpot (seen s) p q → s.choices ≡ n → s.calls ≡ k
       → Holds full s.calls (giving fs gives p s).0.asked.calls → Closed s (giving fs gives p s) (last_run os gives r q ws n k)
   unfolding giving
-  giving_same fs os gives all p q s ws n k shows spot e i holds =
+  giving_same fs os gives all p q s ws n k shows position e i holds =
       let a = in_turn fs p s in
       let u = steps.in_turn os r q ws n k in
-      let f = in_turn_same r arguments full fs os all p q s ws n k shows spot e i holds in
+      let f = in_turn_same r arguments full fs os all p q s ws n k shows position e i holds in
       let g = operands gives a.1 in
       let h = operands_worth r arguments full gives a.1 u.words f.shows in
       let slots : take (length s.slots) g.1.slots ≡ s.slots = ap (take (length s.slots)) (h.keeps.slots ∙ f.longer) ∙ front_of s.slots f.more in
@@ -131,7 +131,7 @@ module _ (r : Results) (arguments : List Bits) (full : List Call) where
         slots = slots;
       }
 
-  -- ---- a test behind its condition
+  -- ---- a test after its condition
 
   record Test (s : State) (t : Tested × State) (o : Happening) (w : Bits) (before : Bool) : Type 0 where
     follows : Follows r arguments full s (t.0.asked, t.1) o
@@ -140,15 +140,15 @@ module _ (r : Results) (arguments : List Bits) (full : List Call) where
     left : slice_get (seen t.1) t.0.left ≡ Some (bit (before && not (is_one w)))
 
   tested_same : (cf : List Flat) (co : List Run) (x : Atom) (bf : List Flat) (gives : List Atom) → AllMatch r arguments full cf co
-      → (p : Spot) (q : Standing) (left : ℕ) (before : Bool) (s : State) (ws : List Bits) (n k : ℕ) → Shows (seen s) s.slots ws → IsSpot (seen s) p q
+      → (p : Position) (q : Standing) (left : ℕ) (before : Bool) (s : State) (ws : List Bits) (n k : ℕ) → Shows (seen s) s.slots ws → IsSpot (seen s) p q
       → slice_get (seen s) left ≡ Some (bit before) → s.choices ≡ n → s.calls ≡ k
       → Holds full s.calls (tested (record { condition = cf; test = x; body = bf; gives = gives }) p left s).0.asked.calls
       → Test s (tested (record { condition = cf; test = x; body = bf; gives = gives }) p left s) (steps.in_turn co r q ws n k) (word_of (steps.in_turn co r q ws n k).words x) before
   unfolding tested
-  tested_same cf co x bf gives all p q left before s ws n k shows spot l e i holds =
+  tested_same cf co x bf gives all p q left before s ws n k shows position l e i holds =
       let c = in_turn cf p s in
       let u = steps.in_turn co r q ws n k in
-      let f = in_turn_same r arguments full cf co all p q s ws n k shows spot e i holds in
+      let f = in_turn_same r arguments full cf co all p q s ws n k shows position e i holds in
       let o = operand x c.1 in
       let h = operand_worth r arguments full x c.1 u.words f.shows in
       let w = word_of u.words x in
@@ -159,7 +159,7 @@ module _ (r : Results) (arguments : List Bits) (full : List Call) where
       let on_a : Within (seen o.1) (seen a) = put_within r arguments full is_taken o.1 in
       let on_b : Within (seen a) (seen b) = put_within r arguments full is_left a in
       let l1 : slice_get (seen o.1) left ≡ Some (bit before) = h.keeps.within _ _ (f.within _ _ l) in
-      let n1 : slice_get (seen o.1) no ≡ Some (bit false) = h.keeps.within _ _ (f.within _ _ spot.none) in
+      let n1 : slice_get (seen o.1) no ≡ Some (bit false) = h.keeps.within _ _ (f.within _ _ position.none) in
       let taken_is : word_at r arguments full (seen o.1) is_taken ≡ bit (before && is_one w) =
       ap₂ (λ i j. computing.picked (or_zero i) (or_zero j) (at (seen o.1) no)) h.word l1 ∙ ap (λ i. computing.picked w (bit before) (or_zero i)) n1 ∙ taken_word before w in
       let left_is : word_at r arguments full (seen a) is_left ≡ bit (before && not (is_one w)) =
@@ -211,20 +211,20 @@ module _ (r : Results) (arguments : List Bits) (full : List Call) where
             (needs_append _ b.0.asked.conditions body.needs d.0.asked.conditions others.needs (needs_within _ _ on_b b.0.asked.conditions body.needs g.needs) (needs_within _ _ last d.0.asked.conditions others.needs arms.needs));
       }
 
-  -- ---- arms one behind the other
+  -- ---- arms one after the other
 
   pub data AllAlternatives : List Alternative → List steps.Alternative → Type 0 where
     none : AllAlternatives [] []
     more : {cf bf : List Flat} {co bo : List Run} {test : Atom} {gives : List Atom} {xs : List Alternative} {ys : List steps.Alternative} → AllMatch r arguments full cf co → AllMatch r arguments full bf bo → AllAlternatives xs ys
         → AllAlternatives (record { condition = cf; test = test; body = bf; gives = gives } ∷ xs) (record { condition = co; test = test; body = bo; gives = gives } ∷ ys)
 
-  -- the arms from one on, each before those behind it
-  abbrev arms_in_turn : List Flat → List Atom → List Alternative → ℕ → ℕ → ℕ → Spot → State → Given × State
+  -- the arms from one on, each before those after it
+  abbrev arms_in_turn : List Flat → List Atom → List Alternative → ℕ → ℕ → ℕ → Position → State → Given × State
   arms_in_turn last gives [] choice place left p s = giving last gives (inside p left choice place) s
   arms_in_turn last gives (x ∷ xs) choice place left p s =
       let h = head choice place left x p s in join_one h.0.0 (arms_in_turn last gives xs choice (place + 1) h.0.1 p h.1)
 
-  heads_joined : (last : List Flat) (gives : List Atom) (choice : ℕ) (p : Spot) (xs : List Alternative) (hs : List Head) (left : ℕ) (s : State)
+  heads_joined : (last : List Flat) (gives : List Atom) (choice : ℕ) (p : Position) (xs : List Alternative) (hs : List Head) (left : ℕ) (s : State)
       → (let h = heads_from choice hs xs p left s in join_all h.0.0 (giving last gives (inside p h.0.1 choice (length h.0.0)) h.1)) ≡ join_all hs (arms_in_turn last gives xs choice (length hs) left p s)
   unfolding heads_from
   heads_joined last gives choice p [] hs left s = refl
@@ -236,13 +236,13 @@ module _ (r : Results) (arguments : List Bits) (full : List Call) where
       ∙ joined_last hs h.0.0 (arms_in_turn last gives xs choice (length hs + 1) h.0.1 p h.1)
 
   arms_same : (fs : List Flat) (os : List Run) (gives : List Atom) → AllMatch r arguments full fs os → (xs : List Alternative) (ys : List steps.Alternative) → AllAlternatives xs ys
-      → (p : Spot) (q : Standing) (choice place left : ℕ) (before : Bool) (s : State) (ws : List Bits) (n k : ℕ) → Shows (seen s) s.slots ws → IsSpot (seen s) p q
+      → (p : Position) (q : Standing) (choice place left : ℕ) (before : Bool) (s : State) (ws : List Bits) (n k : ℕ) → Shows (seen s) s.slots ws → IsSpot (seen s) p q
       → slice_get (seen s) left ≡ Some (bit before) → s.choices ≡ n → s.calls ≡ k → Holds full s.calls (arms_in_turn fs gives xs choice place left p s).0.asked.calls
       → Arms s (arms_in_turn fs gives xs choice place left p s) (arms_run os gives ys choice place before r q ws n k)
   unfolding arms_run
-  arms_same fs os gives all [] [] none p q choice place left before s ws n k shows spot l e i holds =
-      (giving_same fs os gives all (inside p left choice place) (steps.inside q before choice place) s ws n k shows (record { taken = l; branches = inside_branches p q left choice place before spot.branches; none = spot.none }) e i holds).arms
-  arms_same fs os gives all _ _ (more {cf} {bf} {co} {bo} {test} {gives = given} {xs} {ys} condition body others) p q choice place left before s ws n k shows spot l e i holds =
+  arms_same fs os gives all [] [] none p q choice place left before s ws n k shows position l e i holds =
+      (giving_same fs os gives all (inside p left choice place) (steps.inside q before choice place) s ws n k shows (record { taken = l; branches = inside_branches p q left choice place before position.branches; none = position.none }) e i holds).arms
+  arms_same fs os gives all _ _ (more {cf} {bf} {co} {bo} {test} {gives = given} {xs} {ys} condition body others) p q choice place left before s ws n k shows position l e i holds =
       let x : Alternative = record { condition = cf; test = test; body = bf; gives = given } in
       let t = tested x p left s in
       let b = giving bf given (inside p t.0.taken choice place) t.1 in
@@ -250,13 +250,13 @@ module _ (r : Results) (arguments : List Bits) (full : List Call) where
       let u = steps.in_turn co r q ws n k in
       let w = word_of u.words test in
       let first = holds_left full t.0.asked.calls (b.0.asked.calls ++ d.0.asked.calls) s.calls holds in
-      let h = tested_same cf co test bf given condition p q left before s ws n k shows spot l e i first in
+      let h = tested_same cf co test bf given condition p q left before s ws n k shows position l e i first in
       let f = h.follows in
       let behind = subst (λ k. Holds full k (b.0.asked.calls ++ d.0.asked.calls)) (sym f.counted) (holds_right full t.0.asked.calls (b.0.asked.calls ++ d.0.asked.calls) s.calls holds) in
       let v = steps.in_turn bo r (steps.inside q (before && is_one w) choice place) u.words u.choices u.sites in
-      let spot_t = spot_within _ _ f.within p q spot in
+      let spot_t = spot_within _ _ f.within p q position in
       let g = giving_same bf bo given body (inside p t.0.taken choice place) (steps.inside q (before && is_one w) choice place) t.1 u.words u.choices u.sites f.shows
-      (record { taken = h.taken; branches = inside_branches p q t.0.taken choice place (before && is_one w) spot.branches; none = spot_t.none }) f.choices f.sites (holds_left full b.0.asked.calls d.0.asked.calls t.1.calls behind) in
+      (record { taken = h.taken; branches = inside_branches p q t.0.taken choice place (before && is_one w) position.branches; none = spot_t.none }) f.choices f.sites (holds_left full b.0.asked.calls d.0.asked.calls t.1.calls behind) in
       let rest = arms_same fs os gives all xs ys others p q choice (place + 1) t.0.left (before && not (is_one w)) b.1 u.words v.choices v.sites
       (subst (λ ks. Shows (seen b.1) ks u.words) (sym g.slots) (shows_within _ _ g.arms.within t.1.slots u.words f.shows)) (spot_within _ _ g.arms.within p q spot_t) (g.arms.within _ _ h.left) g.arms.choices g.arms.sites
       (subst (λ k. Holds full k d.0.asked.calls) (sym g.arms.counted) (holds_right full b.0.asked.calls d.0.asked.calls t.1.calls behind)) in
@@ -264,26 +264,26 @@ module _ (r : Results) (arguments : List Bits) (full : List Call) where
 
   -- ---- choices in one another
 
-  abbrev nest_in_turn : List Flat → List Atom → List Alternative → Spot → State → Given × State
+  abbrev nest_in_turn : List Flat → List Atom → List Alternative → Position → State → Given × State
   nest_in_turn last gives [] p s = giving last gives p s
   nest_in_turn last gives (x ∷ xs) p s = let h = nest x p s in join_one h.0.0 (nest_in_turn last gives xs (record { taken = h.0.1; branches = h.0.2 }) h.1)
 
-  nest_joined : (last : List Flat) (gives : List Atom) (xs : List Alternative) (hs : List Head) (p : Spot) (s : State)
+  nest_joined : (last : List Flat) (gives : List Atom) (xs : List Alternative) (hs : List Head) (p : Position) (s : State)
       → (let h = nest_from hs xs p s in join_all h.0.0 (giving last gives h.0.1 h.1)) ≡ join_all hs (nest_in_turn last gives xs p s)
   unfolding nest_from
   nest_joined last gives [] hs p s = refl
   nest_joined last gives (x ∷ xs) hs p s =
       let h = nest x p s in
-      let z : Spot = record { taken = h.0.1; branches = h.0.2 } in
+      let z : Position = record { taken = h.0.1; branches = h.0.2 } in
       nest_joined last gives xs (hs ++ h.0.0 ∷ []) z h.1 ∙ joined_last hs h.0.0 (nest_in_turn last gives xs z h.1)
 
   nest_same : (fs : List Flat) (os : List Run) (gives : List Atom) → AllMatch r arguments full fs os → (xs : List Alternative) (ys : List steps.Alternative) → AllAlternatives xs ys
-      → (p : Spot) (q : Standing) (s : State) (ws : List Bits) (n k : ℕ) → Shows (seen s) s.slots ws → IsSpot (seen s) p q
+      → (p : Position) (q : Standing) (s : State) (ws : List Bits) (n k : ℕ) → Shows (seen s) s.slots ws → IsSpot (seen s) p q
       → s.choices ≡ n → s.calls ≡ k → Holds full s.calls (nest_in_turn fs gives xs p s).0.asked.calls
       → Arms s (nest_in_turn fs gives xs p s) (nested_run os gives ys r q ws n k)
   unfolding nested_run nest
-  nest_same fs os gives all [] [] none p q s ws n k shows spot e i holds = (giving_same fs os gives all p q s ws n k shows spot e i holds).arms
-  nest_same fs os gives all _ _ (more {cf} {bf} {co} {bo} {test} {gives = given} {xs} {ys} condition body others) p q s ws n k shows spot e i holds =
+  nest_same fs os gives all [] [] none p q s ws n k shows position e i holds = (giving_same fs os gives all p q s ws n k shows position e i holds).arms
+  nest_same fs os gives all _ _ (more {cf} {bf} {co} {bo} {test} {gives = given} {xs} {ys} condition body others) p q s ws n k shows position e i holds =
       let x : Alternative = record { condition = cf; test = test; body = bf; gives = given } in
       let t = tested x p p.taken s in
       let choice = t.1.choices in
@@ -293,17 +293,17 @@ module _ (r : Results) (arguments : List Bits) (full : List Call) where
       let u = steps.in_turn co r q ws n k in
       let w = word_of u.words test in
       let first = holds_left full t.0.asked.calls (b.0.asked.calls ++ d.0.asked.calls) s.calls holds in
-      let h = tested_same cf co test bf given condition p q p.taken q.taken s ws n k shows spot spot.taken e i first in
+      let h = tested_same cf co test bf given condition p q p.taken q.taken s ws n k shows position position.taken e i first in
       let f = h.follows in
       let behind = subst (λ k. Holds full k (b.0.asked.calls ++ d.0.asked.calls)) (sym f.counted) (holds_right full t.0.asked.calls (b.0.asked.calls ++ d.0.asked.calls) s.calls holds) in
-      let spot_t = spot_within _ _ f.within p q spot in
+      let spot_t = spot_within _ _ f.within p q position in
       let same : u.choices ≡ choice = sym f.choices in
       let v = steps.in_turn bo r (steps.inside q (q.taken && is_one w) choice 0) u.words (choice + 1) u.sites in
       let g = giving_same bf bo given body (inside p t.0.taken choice 0) (steps.inside q (q.taken && is_one w) choice 0) z u.words (choice + 1) u.sites f.shows
-      (record { taken = h.taken; branches = inside_branches p q t.0.taken choice 0 (q.taken && is_one w) spot.branches; none = spot_t.none }) refl f.sites (holds_left full b.0.asked.calls d.0.asked.calls z.calls behind) in
+      (record { taken = h.taken; branches = inside_branches p q t.0.taken choice 0 (q.taken && is_one w) position.branches; none = spot_t.none }) refl f.sites (holds_left full b.0.asked.calls d.0.asked.calls z.calls behind) in
       let rest = nest_same fs os gives all xs ys others (inside p t.0.left choice 1) (steps.inside q (q.taken && not (is_one w)) choice 1) b.1 u.words v.choices v.sites
       (subst (λ ks. Shows (seen b.1) ks u.words) (sym g.slots) (shows_within _ _ g.arms.within z.slots u.words f.shows))
-      (record { taken = g.arms.within _ _ h.left; branches = inside_branches p q t.0.left choice 1 (q.taken && not (is_one w)) spot.branches; none = g.arms.within _ _ spot_t.none }) g.arms.choices g.arms.sites
+      (record { taken = g.arms.within _ _ h.left; branches = inside_branches p q t.0.left choice 1 (q.taken && not (is_one w)) position.branches; none = g.arms.within _ _ spot_t.none }) g.arms.choices g.arms.sites
       (subst (λ k. Holds full k d.0.asked.calls) (sym g.arms.counted) (holds_right full b.0.asked.calls d.0.asked.calls z.calls behind)) in
       subst (λ j. let y = steps.in_turn bo r (steps.inside q (q.taken && is_one w) j 0) u.words (j + 1) u.sites in
       Arms s (nest_in_turn fs gives (x ∷ xs) p s)
@@ -332,16 +332,16 @@ module _ (r : Results) (arguments : List Bits) (full : List Call) where
   pub choose_same : (is_nested : Bool) (fs : List Flat) (os : List Run) (gives : List Atom) (xs : List Alternative) (ys : List steps.Alternative) → AllMatch r arguments full fs os → AllAlternatives xs ys
       → Matches r arguments full (choose is_nested fs gives xs) (chosen (λ r q ws n k. if is_nested then nested_run os gives ys r q ws n k else arms_run os gives ys n 0 q.taken r q ws (n + 1) k))
   unfolding choose nested arms join_all
-  choose_same true fs os gives xs ys all alternatives p q s ws n k shows spot e i holds =
+  choose_same true fs os gives xs ys all alternatives p q s ws n k shows position e i holds =
       let is : nested fs gives xs p s ≡ nest_in_turn fs gives xs p s = nest_joined fs gives xs [] p s in
-      let h = nest_same fs os gives all xs ys alternatives p q s ws n k shows spot e i (subst (λ (g : Given × State). Holds full s.calls g.0.asked.calls) is holds) in
+      let h = nest_same fs os gives all xs ys alternatives p q s ws n k shows position e i (subst (λ (g : Given × State). Holds full s.calls g.0.asked.calls) is holds) in
       close_same s s (nested fs gives xs p s) (nested_run os gives ys r q ws n k) ws shows refl refl (λ k w i. i) (subst (λ (g : Given × State). Arms s g (nested_run os gives ys r q ws n k)) (sym is) h)
-  choose_same false fs os gives xs ys all alternatives p q s ws n k shows spot e i holds =
+  choose_same false fs os gives xs ys all alternatives p q s ws n k shows position e i holds =
       let z = (one_choice s).1 in
       let is : arms fs gives xs p s ≡ arms_in_turn fs gives xs s.choices 0 p.taken p z = heads_joined fs gives s.choices p xs [] p.taken z in
       let h : Arms z (arms_in_turn fs gives xs s.choices 0 p.taken p z) (arms_run os gives ys n 0 q.taken r q ws (n + 1) k) =
       subst (λ j. Arms z (arms_in_turn fs gives xs s.choices 0 p.taken p z) (arms_run os gives ys j 0 q.taken r q ws (j + 1) k)) e
-      (arms_same fs os gives all xs ys alternatives p q s.choices 0 p.taken q.taken z ws (s.choices + 1) k shows spot spot.taken refl i
+      (arms_same fs os gives all xs ys alternatives p q s.choices 0 p.taken q.taken z ws (s.choices + 1) k shows position position.taken refl i
       (subst (λ (g : Given × State). Holds full s.calls g.0.asked.calls) is holds)) in
       close_same s z (arms fs gives xs p s) (arms_run os gives ys n 0 q.taken r q ws (n + 1) k) ws shows refl refl (λ k w i. i)
       (subst (λ (g : Given × State). Arms z g (arms_run os gives ys n 0 q.taken r q ws (n + 1) k)) (sym is) h)

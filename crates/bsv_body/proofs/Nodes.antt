@@ -10,13 +10,13 @@ use Rattle.bsv_design.specs.declared.steps.Step.TheOpen.{Step-F}
 use Rattle.bsv_design.specs.declared.steps.Step.TheViews.{rolls-Let, rolls-Read, rolls-Act, rolls-Need, rolls-Choose}
 use Rattle.bsv_design.specs.declared.steps.Step.TheVariants as step
 use Rattle.bsv_body.specs.declared.state.State.{State}
-use Rattle.bsv_body.specs.Flat.{Flat, Alternative, Spot, nothing, compute, read, act, needed, choose, flat, alternative, choice, step_flat, arm_flat, choice_flat}
+use Rattle.bsv_body.specs.Flat.{Flat, Alternative, Position, nothing, compute, read, act, needed, choose, flat, alternative, choice, step_flat, arm_flat, choice_flat}
 
 pub step_node : (y : Step-F Step Arm Choice) → flat (roll-Step y) ≡ step_flat (map-Step Step Arm Choice Flat Alternative Flat flat alternative choice y)
 unfolding flat alternative choice
 step_node y = fold-roll-Step Flat Alternative Flat step_flat arm_flat choice_flat y
 
-module _ (p : Spot) (s : State) where
+module _ (p : Position) (s : State) where
   pub let_is : (c : Compute) → flat (step.Let c) p s ≡ (nothing, compute c s)
   let_is c = ap (λ (f : Flat). f p s) (ap flat (sym (rolls-Let c)) ∙ step_node (Step-F.Let c))
 

@@ -6,14 +6,14 @@ use Rattle.bsv_design.specs.declared.node.Node.TheVariants as node
 use Rattle.bsv_design.specs.declared.steps.Atom.{Atom}
 use Rattle.bsv_design.specs.declared.steps.Compute.{Compute}
 use Rattle.bsv_design.specs.declared.steps.MethodPlace.{MethodPlace}
-use Rattle.bsv_design.specs.Running as steps
-use Rattle.bsv_design.specs.Running.{Results, Run, Standing, Happening, SiteCall, Need, followed, quiet, word_of, words_of, is_one}
+use Rattle.bsv_design.specs.carrying.Running as steps
+use Rattle.bsv_design.specs.carrying.Running.{Results, Run, Standing, Happening, SiteCall, Need, followed, quiet, word_of, words_of, is_one}
 use Rattle.bsv_body.specs.declared.calls.Call.{Call}
 use Rattle.bsv_body.specs.declared.calls.Condition.{Condition}
 use Rattle.bsv_body.specs.declared.state.Asked.{Asked}
 use Rattle.bsv_body.specs.declared.state.State.{State}
 use Rattle.bsv_body.specs.Bodies.{Shows, AreSites, AreNeeds}
-use Rattle.bsv_body.specs.Flat.{Flat, Spot, no, nothing, both, operand, operands, compute, one_call, in_turn_from, in_turn, called, read, act, needed}
+use Rattle.bsv_body.specs.Flat.{Flat, Position, no, nothing, both, operand, operands, compute, one_call, in_turn_from, in_turn, called, read, act, needed}
 use Rattle.bsv_body.specs.Nodes.{answer}
 use Rattle.bsv_body.proofs.Joins.{both_twice, both_none}
 use Rattle.bsv_body.proofs.Words.{Within, shows_within, shows_words, seen, word_at, keeps_shows, operand_worth, operands_worth, stand_more, compute_worth}
@@ -60,12 +60,12 @@ holds_right full [] ys k h = let e : k ≡ k + 0 = omega arith in subst (λ j. H
 holds_right full (x ∷ xs) ys k h = let e : k + 1 + length xs ≡ k + suc (length xs) = omega arith in subst (λ j. Holds full j ys) e (holds_right full xs ys (k + 1) h.1)
 
 -- where steps stand; and the node that is 0
-pub record IsSpot (vs : List Bits) (p : Spot) (q : Standing) : Type 0 where
+pub record IsSpot (vs : List Bits) (p : Position) (q : Standing) : Type 0 where
   pub taken : slice_get vs p.taken ≡ Some (bit q.taken)
   pub branches : p.branches ≡ q.branches
   pub none : slice_get vs no ≡ Some (bit false)
 
-pub spot_within : (vs ws : List Bits) → Within vs ws → (p : Spot) (q : Standing) → IsSpot vs p q → IsSpot ws p q
+pub spot_within : (vs ws : List Bits) → Within vs ws → (p : Position) (q : Standing) → IsSpot vs p q → IsSpot ws p q
 spot_within vs ws h p q s = record { taken = h _ _ s.taken; branches = s.branches; none = h _ _ s.none }
 
 module _ (r : Results) (arguments : List Bits) (full : List Call) where
@@ -86,7 +86,7 @@ module _ (r : Results) (arguments : List Bits) (full : List Call) where
 
   -- the nodes of steps, and what these do
   abbrev pub Matches : Flat → Run → Type 0
-  Matches f o = (p : Spot) (q : Standing) (s : State) (ws : List Bits) (n k : ℕ) → Shows (words s) s.slots ws → IsSpot (words s) p q → s.choices ≡ n → s.calls ≡ k
+  Matches f o = (p : Position) (q : Standing) (s : State) (ws : List Bits) (n k : ℕ) → Shows (words s) s.slots ws → IsSpot (words s) p q → s.choices ≡ n → s.calls ≡ k
       → Holds full s.calls (f p s).0.calls → Follows s (f p s) (o r q ws n k)
 
   -- ---- one after the other
@@ -94,7 +94,7 @@ module _ (r : Results) (arguments : List Bits) (full : List Call) where
   abbrev joined : Asked → Asked × State → Asked × State
   joined a m = (both a m.0, m.1)
 
-  from_front : (xs : List Flat) (a : Asked) (p : Spot) (s : State) → in_turn_from a xs p s ≡ joined a (in_turn xs p s)
+  from_front : (xs : List Flat) (a : Asked) (p : Position) (s : State) → in_turn_from a xs p s ≡ joined a (in_turn xs p s)
   unfolding in_turn in_turn_from
   from_front [] a p s = ap (λ (x : Asked). let z : Asked × State = (x, s) in z) (sym (both_none a))
   from_front (x ∷ xs) a p s =
@@ -103,7 +103,7 @@ module _ (r : Results) (arguments : List Bits) (full : List Call) where
       ∙ ap (λ (y : Asked). let z : Asked × State = (y, (in_turn xs p m.1).1) in z) (both_twice a m.0 (in_turn xs p m.1).0)
       ∙ ap (joined a) (sym (from_front xs m.0 p m.1))
 
-  in_turn_one : (x : Flat) (xs : List Flat) (p : Spot) (s : State) → in_turn (x ∷ xs) p s ≡ joined (x p s).0 (in_turn xs p (x p s).1)
+  in_turn_one : (x : Flat) (xs : List Flat) (p : Position) (s : State) → in_turn (x ∷ xs) p s ≡ joined (x p s).0 (in_turn xs p (x p s).1)
   unfolding in_turn in_turn_from
   in_turn_one x xs p s = from_front xs (x p s).0 p (x p s).1
 
@@ -127,33 +127,33 @@ module _ (r : Results) (arguments : List Bits) (full : List Call) where
 
   pub in_turn_same : (fs : List Flat) (os : List Run) → AllMatch fs os → Matches (in_turn fs) (steps.in_turn os)
   unfolding in_turn in_turn_from steps.in_turn
-  in_turn_same [] [] h p q s ws n k shows spot e i holds = record { within = λ k w i. i; more = []; longer = sym (append-nil s.slots); shows = shows; choices = e; sites = i; counted = omega arith; calls = tt; needs = tt }
-  in_turn_same (f ∷ fs) (o ∷ os) h p q s ws n k shows spot e i holds =
+  in_turn_same [] [] h p q s ws n k shows position e i holds = record { within = λ k w i. i; more = []; longer = sym (append-nil s.slots); shows = shows; choices = e; sites = i; counted = omega arith; calls = tt; needs = tt }
+  in_turn_same (f ∷ fs) (o ∷ os) h p q s ws n k shows position e i holds =
       let a = f p s in
       let u = o r q ws n k in
       let rest = in_turn fs p a.1 in
       let all : Holds full s.calls (a.0.calls ++ rest.0.calls) = subst (λ (m : Asked × State). Holds full s.calls m.0.calls) (in_turn_one f fs p s) holds in
-      let first = h.0 p q s ws n k shows spot e i (holds_left full a.0.calls rest.0.calls s.calls all) in
-      let behind = in_turn_same fs os h.1 p q a.1 u.words u.choices u.sites first.shows (spot_within _ _ first.within p q spot) first.choices first.sites
+      let first = h.0 p q s ws n k shows position e i (holds_left full a.0.calls rest.0.calls s.calls all) in
+      let behind = in_turn_same fs os h.1 p q a.1 u.words u.choices u.sites first.shows (spot_within _ _ first.within p q position) first.choices first.sites
       (subst (λ k. Holds full k rest.0.calls) (sym first.counted) (holds_right full a.0.calls rest.0.calls s.calls all)) in
       subst (λ (m : Asked × State). Follows s m (followed u (steps.in_turn os r q u.words u.choices u.sites))) (sym (in_turn_one f fs p s)) (follows_then s a rest u _ first behind)
-  in_turn_same [] (o ∷ os) h p q s ws n k shows spot e i holds = absurd h
-  in_turn_same (f ∷ fs) [] h p q s ws n k shows spot e i holds = absurd h
+  in_turn_same [] (o ∷ os) h p q s ws n k shows position e i holds = absurd h
+  in_turn_same (f ∷ fs) [] h p q s ws n k shows position e i holds = absurd h
 
   -- ---- the steps, one by one
 
   pub let_same : (c : Compute) → Matches (λ p s. (nothing, compute c s)) (λ r q ws n k. quiet (ws ++ steps.computed ws c ∷ []) n k)
-  let_same c p q s ws n k shows spot e i holds =
+  let_same c p q s ws n k shows position e i holds =
       let h = compute_worth r arguments full c s ws shows in
       record { within = h.within; more = h.slot ∷ []; longer = h.longer; shows = h.shows; choices = h.choices ∙ e; sites = h.calls ∙ i; counted = omega (arith, h.calls); calls = tt; needs = tt }
 
   pub need_same : (name : Option MethodPlace) (x : Atom) (fs : List Flat) (os : List Run) → AllMatch fs os
       → Matches (needed name x fs) (λ r q ws n k. let a = steps.in_turn os r q ws n k in record a { needs = record { name = name; truth = is_one (word_of a.words x); taken = q.taken } ∷ a.needs })
   unfolding needed
-  need_same name x fs os all p q s ws n k shows spot e i holds =
+  need_same name x fs os all p q s ws n k shows position e i holds =
       let a = in_turn fs p s in
       let u = steps.in_turn os r q ws n k in
-      let f = in_turn_same fs os all p q s ws n k shows spot e i holds in
+      let f = in_turn_same fs os all p q s ws n k shows position e i holds in
       let o = operand x a.1 in
       let h = operand_worth r arguments full x a.1 u.words f.shows in
       record {
@@ -165,10 +165,10 @@ module _ (r : Results) (arguments : List Bits) (full : List Call) where
         sites = h.keeps.calls ∙ f.sites;
         counted = omega (arith, h.keeps.calls, f.counted);
         calls = sites_within _ _ h.keeps.within a.0.calls u.calls f.calls;
-        needs = (record { name = refl; word = word_of u.words x; truth = h.word; holds = refl; taken = h.keeps.within _ _ (f.within _ _ spot.taken) }, needs_within _ _ h.keeps.within a.0.conditions u.needs f.needs);
+        needs = (record { name = refl; word = word_of u.words x; truth = h.word; holds = refl; taken = h.keeps.within _ _ (f.within _ _ position.taken) }, needs_within _ _ h.keeps.within a.0.conditions u.needs f.needs);
       }
 
-  -- a call behind the steps of its arguments
+  -- a call after the steps of its arguments
   record Calls (s : State) (c : (ℕ × Asked) × State) (o : Happening) (m : MethodPlace) (given : List Bits) : Type 0 where
     follows : Follows s (c.0.1, c.1) o
     place : c.0.0 ≡ s.calls
@@ -180,15 +180,15 @@ module _ (r : Results) (arguments : List Bits) (full : List Call) where
       record { words = a.words; choices = a.choices; sites = a.sites; calls = record { method = m; action = action; taken = q.taken; branches = q.branches; arguments = words_of a.words xs } ∷ a.calls; needs = a.needs }
 
   called_same : (action : Bool) (m : MethodPlace) (xs : List Atom) (fs : List Flat) (os : List Run) → AllMatch fs os
-      → (p : Spot) (q : Standing) (s : State) (ws : List Bits) (n k : ℕ) → Shows (words s) s.slots ws → IsSpot (words s) p q → s.choices ≡ n → s.calls ≡ k
+      → (p : Position) (q : Standing) (s : State) (ws : List Bits) (n k : ℕ) → Shows (words s) s.slots ws → IsSpot (words s) p q → s.choices ≡ n → s.calls ≡ k
       → Holds full s.calls (called action m xs fs p s).0.1.calls
       → Calls s (called action m xs fs p s) (happens action m xs os r q ws n k) m (words_of (steps.in_turn os r q ws n (k + 1)).words xs)
   unfolding called
-  called_same action m xs fs os all p q s ws n k shows spot e i holds =
+  called_same action m xs fs os all p q s ws n k shows position e i holds =
       let z = (one_call s).1 in
       let a = in_turn fs p z in
       let u = steps.in_turn os r q ws n (k + 1) in
-      let f = in_turn_same fs os all p q z ws n (k + 1) shows spot e (ap (λ (j : ℕ). j + 1) i) holds.1 in
+      let f = in_turn_same fs os all p q z ws n (k + 1) shows position e (ap (λ (j : ℕ). j + 1) i) holds.1 in
       let x = operands xs a.1 in
       let h = operands_worth r arguments full xs a.1 u.words f.shows in
       record {
@@ -200,7 +200,7 @@ module _ (r : Results) (arguments : List Bits) (full : List Call) where
           choices = h.keeps.choices ∙ f.choices;
           sites = h.keeps.calls ∙ f.sites;
           counted = omega (arith, h.keeps.calls, f.counted);
-          calls = (record { method = refl; action = refl; taken = h.keeps.within _ _ (f.within _ _ spot.taken); branches = spot.branches; arguments = h.words }, sites_within _ _ h.keeps.within a.0.calls u.calls f.calls);
+          calls = (record { method = refl; action = refl; taken = h.keeps.within _ _ (f.within _ _ position.taken); branches = position.branches; arguments = h.words }, sites_within _ _ h.keeps.within a.0.calls u.calls f.calls);
           needs = needs_within _ _ h.keeps.within a.0.conditions u.needs f.needs;
         };
         place = refl;
@@ -209,9 +209,9 @@ module _ (r : Results) (arguments : List Bits) (full : List Call) where
 
   pub act_same : (m : MethodPlace) (xs : List Atom) (fs : List Flat) (os : List Run) → AllMatch fs os
       → Matches (act m xs fs) (steps.call_run true m xs os (λ given. []))
-  act_same m xs fs os all p q s ws n k shows spot e i holds =
+  act_same m xs fs os all p q s ws n k shows position e i holds =
       let u = steps.in_turn os r q ws n (k + 1) in
-      let c = called_same true m xs fs os all p q s ws n k shows spot e i holds in
+      let c = called_same true m xs fs os all p q s ws n k shows position e i holds in
       let f = c.follows in
       record {
         within = f.within;
@@ -227,10 +227,10 @@ module _ (r : Results) (arguments : List Bits) (full : List Call) where
 
   pub read_same : (m : MethodPlace) (xs : List Atom) (fs : List Flat) (os : List Run) → AllMatch fs os
       → Matches (read m xs fs) (λ r q ws n k. steps.call_run false m xs os (λ given. r k m given ∷ []) r q ws n k)
-  read_same m xs fs os all p q s ws n k shows spot e i holds =
+  read_same m xs fs os all p q s ws n k shows position e i holds =
       let u = steps.in_turn os r q ws n (k + 1) in
       let given = called false m xs fs p s in
-      let c = called_same false m xs fs os all p q s ws n k shows spot e i holds in
+      let c = called_same false m xs fs os all p q s ws n k shows position e i holds in
       let f = c.follows in
       let node = node.Result given.0.0 in
       let is : word_at r arguments full (words given.1) node ≡ r k m (words_of u.words xs) =

@@ -9,16 +9,16 @@ use Rattle.bsv_design.specs.declared.steps.Atom.{Atom}
 use Rattle.bsv_design.specs.declared.steps.Choice.{Choice, roll-Choice, map-Choice, fold-Choice, fold-roll-Choice}
 use Rattle.bsv_design.specs.declared.steps.Step.{Step, fold-roll-Step, ind-Step, roll-Step, map-Step}
 use Rattle.bsv_design.specs.declared.steps.Step.TheOpen.{Step-F, Choice-F, Arm-F}
-use Rattle.bsv_design.specs.Running as steps
-use Rattle.bsv_design.specs.Running.{Results, Run, happening, or_zero, word_of, step_run, choice_run, arm_run}
+use Rattle.bsv_design.specs.carrying.Running as steps
+use Rattle.bsv_design.specs.carrying.Running.{Results, Run, happening, or_zero, word_of, step_run, choice_run, arm_run}
 use Rattle.bsv_body.specs.declared.body.Body.{Body}
 use Rattle.bsv_body.specs.declared.calls.Call.{Call}
 use Rattle.bsv_body.specs.declared.state.Asked.{Asked}
 use Rattle.bsv_body.specs.declared.state.State.{State}
 use Rattle.bsv_body.specs.Bodies.{Shows, AreSites, AreNeeds, IsResult, IsBody}
 use Rattle.bsv_body.specs.Flat as nodes
-use Rattle.bsv_body.specs.Flat.{Flat, Alternative, Spot, flat, alternative, choice, step_flat, choice_flat, arm_flat, in_turn, put, stand}
-use Rattle.bsv_design.specs.Bodies.{words_behind}
+use Rattle.bsv_body.specs.Flat.{Flat, Alternative, Position, flat, alternative, choice, step_flat, choice_flat, arm_flat, in_turn, put, stand}
+use Rattle.bsv_design.specs.design.Bodies.{words_after}
 use Rattle.bsv_body.specs.Opening.{no_nodes, arguments_from, opened, given}
 use Rattle.bsv_body.proofs.Words.{keeps_all, operand_worth, stand_more}
 use Rattle.bsv_body.proofs.StepsSame.{Holds, words, Follows, Matches, AllMatch, let_same, need_same, act_same, read_same, in_turn_same, sites_within, needs_within}
@@ -119,7 +119,7 @@ module _ (r : Results) (arguments : List Bits) (full : List Call) where
   abbrev seen : State → List Bits
   seen s = words r arguments full s
 
-  record Begun (s : State) (ws : List Bits) : Type 0 where
+  record Started (s : State) (ws : List Bits) : Type 0 where
     shows : Shows (seen s) s.slots ws
     yes : slice_get (seen s) 0 ≡ Some (bit true)
     none : slice_get (seen s) 1 ≡ Some (bit false)
@@ -130,26 +130,26 @@ module _ (r : Results) (arguments : List Bits) (full : List Call) where
   next_word [] w ws = refl
   next_word (x ∷ front) w ws = next_word front w ws
 
-  stand_begun : (place : ℕ) (s : State) (front : List Bits) (w : Bits) → Begun s front → or_zero (slice_get arguments place) ≡ w → Begun (stand (node.Argument place) s) (front ++ w ∷ [])
-  stand_begun place s front w h is =
+  stand_started : (place : ℕ) (s : State) (front : List Bits) (w : Bits) → Started s front → or_zero (slice_get arguments place) ≡ w → Started (stand (node.Argument place) s) (front ++ w ∷ [])
+  stand_started place s front w h is =
       let m = stand_more r arguments full (node.Argument place) s s front w (keeps_all r arguments full s) h.shows is in
       record { shows = m.shows; yes = m.within _ _ h.yes; none = m.within _ _ h.none; calls = m.calls ∙ h.calls; choices = m.choices ∙ h.choices }
 
-  arguments_begun : (rest : List Bits) (front : List Bits) (s : State) → front ++ rest ≡ arguments → Begun s front → Begun (arguments_from (length front) (length rest) s) arguments
+  arguments_started : (rest : List Bits) (front : List Bits) (s : State) → front ++ rest ≡ arguments → Started s front → Started (arguments_from (length front) (length rest) s) arguments
   unfolding arguments_from
-  arguments_begun [] front s is h = subst (Begun s) (sym (append-nil front) ∙ is) h
-  arguments_begun (w ∷ rest) front s is h =
+  arguments_started [] front s is h = subst (Started s) (sym (append-nil front) ∙ is) h
+  arguments_started (w ∷ rest) front s is h =
       let word : or_zero (slice_get arguments (length front)) ≡ w = ap (λ (ws : List Bits). or_zero (slice_get ws (length front))) (sym is) ∙ next_word front w rest in
       let again : (front ++ w ∷ []) ++ rest ≡ arguments = append_assoc front (w ∷ []) rest ∙ is in
       let long : length (front ++ w ∷ []) ≡ length front + 1 = omega (arith, length-append front (w ∷ [])) in
-      subst (λ k. Begun (arguments_from k (length rest) (stand (node.Argument (length front)) s)) arguments) long
-      (arguments_begun rest (front ++ w ∷ []) (stand (node.Argument (length front)) s) again (stand_begun (length front) s front w h word))
+      subst (λ k. Started (arguments_from k (length rest) (stand (node.Argument (length front)) s)) arguments) long
+      (arguments_started rest (front ++ w ∷ []) (stand (node.Argument (length front)) s) again (stand_started (length front) s front w h word))
 
-  opened_begun : (count : ℕ) → length arguments ≡ count → Begun (opened count) arguments
-  unfolding opened words_behind
-  opened_begun count long =
-      subst (λ n. Begun (arguments_from 0 n (put (node.Constant (bit false)) (put (node.Constant (bit true)) no_nodes))) arguments) long
-      (arguments_begun arguments [] (put (node.Constant (bit false)) (put (node.Constant (bit true)) no_nodes)) refl
+  opened_started : (count : ℕ) → length arguments ≡ count → Started (opened count) arguments
+  unfolding opened words_after
+  opened_started count long =
+      subst (λ n. Started (arguments_from 0 n (put (node.Constant (bit false)) (put (node.Constant (bit true)) no_nodes))) arguments) long
+      (arguments_started arguments [] (put (node.Constant (bit false)) (put (node.Constant (bit true)) no_nodes)) refl
       (record { shows = tt; yes = refl; none = refl; calls = refl; choices = refl }))
 
 -- ---- a whole body
@@ -161,7 +161,7 @@ holds_after front (c ∷ xs) =
     let n : length (front ++ c ∷ []) ≡ length front + 1 = omega (arith, length-append front (c ∷ [])) in
     (at_middle front xs c, subst (λ l. Holds l (length front + 1) xs) e (subst (λ k. Holds ((front ++ c ∷ []) ++ xs) k xs) n (holds_after (front ++ c ∷ []) xs)))
 
-abbrev whole : Spot
+abbrev whole : Position
 whole = record { taken = 0; branches = [] }
 
 abbrev pub laid : ℕ → List Step → Asked × State
@@ -180,7 +180,7 @@ module _ (count : ℕ) (ss : List Step) (gives : Option Atom) (r : Results) (arg
   follows : Follows r arguments m.0.calls (opened count) m (happening ss r arguments)
   unfolding happening
   follows =
-      let b = opened_begun r arguments m.0.calls count long in
+      let b = opened_started r arguments m.0.calls count long in
       in_turn_same r arguments m.0.calls (map flat ss) (map steps.run ss) (all_same r arguments m.0.calls ss) whole (record { taken = true; branches = [] }) (opened count) arguments 0 0
       b.shows (record { taken = b.yes; branches = refl; none = b.none }) b.choices b.calls (subst (λ k. Holds m.0.calls k m.0.calls) (sym b.calls) (holds_after [] m.0.calls))
 
@@ -211,8 +211,8 @@ is_body count ss gives = record {
 pub made_so : (count : ℕ) (ss : List Step) (gives : Option Atom) (s z w : State) (asked : Asked) (result : Option ℕ) (b : Body)
     → s ≡ opened count → in_turn (map flat ss) whole s ≡ (asked, z) → given gives z ≡ (result, w)
     → b ≡ record { nodes = w.nodes; calls = asked.calls; conditions = asked.conditions; result = result } → IsBody count ss gives b
-made_so count ss gives s z w asked result b begun laid_is ends_is is =
-    let m_is : laid count ss ≡ (asked, z) = ap (in_turn (map flat ss) whole) (sym begun) ∙ laid_is in
+made_so count ss gives s z w asked result b last_arm laid_is ends_is is =
+    let m_is : laid count ss ≡ (asked, z) = ap (in_turn (map flat ss) whole) (sym last_arm) ∙ laid_is in
     let made : body_of count ss gives ≡ record { nodes = w.nodes; calls = asked.calls; conditions = asked.conditions; result = result } =
     ap (λ (m : Asked × State). let g = given gives m.1 in let x : Body = record { nodes = g.1.nodes; calls = m.0.calls; conditions = m.0.conditions; result = g.0 } in x) m_is
     ∙ ap (λ (g : Option ℕ × State). let x : Body = record { nodes = g.1.nodes; calls = asked.calls; conditions = asked.conditions; result = g.0 } in x) ends_is in

@@ -9,11 +9,11 @@ use Rattle.bsv_design.specs.declared.steps.Atom.{Atom}
 use Rattle.bsv_design.specs.declared.steps.Atom.TheVariants as atom
 use Rattle.bsv_design.specs.declared.steps.Compute.{Compute}
 use Rattle.bsv_design.specs.declared.steps.Compute.TheVariants as computed
-use Rattle.bsv_design.specs.Bodies.{at}
-use Rattle.bsv_design.specs.Computing as computing
+use Rattle.bsv_design.specs.design.Bodies.{at}
+use Rattle.bsv_design.specs.carrying.Computing as computing
 use Rattle.bsv_design.proofs.Bodies.{words_long, words_one}
-use Rattle.bsv_design.specs.Running as steps
-use Rattle.bsv_design.specs.Running.{Results, or_zero, word_of, words_of}
+use Rattle.bsv_design.specs.carrying.Running as steps
+use Rattle.bsv_design.specs.carrying.Running.{Results, or_zero, word_of, words_of}
 use Rattle.bsv_body.specs.declared.calls.Call.{Call}
 use Rattle.bsv_body.specs.declared.state.State.{State}
 use Rattle.bsv_body.specs.Bodies.{Shows}
@@ -164,7 +164,7 @@ module _ (r : Results) (arguments : List Bits) (full : List Call) where
     choices = h.choices;
   }
 
-  -- two operands, one behind the other
+  -- two operands, one after the other
   record Pair (s : State) (v w : Bits) (x y : ℕ × State) : Type 0 where
     keeps : Keeps s y.1
     first : slice_get (seen y.1) x.0 ≡ Some v

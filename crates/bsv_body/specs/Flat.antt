@@ -25,7 +25,7 @@ use Rattle.bsv_body.specs.declared.choices.Tested.{Tested}
 -- ---- nodes
 
 -- where steps stand: the node that is 1 where they are taken, and their arms, from the outside
-pub record Spot : Type 0 where
+pub record Position : Type 0 where
   pub taken : ℕ
   pub branches : List Branch
 
@@ -44,7 +44,7 @@ stand x s = record { nodes = s.nodes ++ x ∷ []; slots = s.slots ++ length s.no
 abbrev pub cut : ℕ → State → State
 cut count s = record { nodes = s.nodes; slots = take count s.slots; calls = s.calls; choices = s.choices }
 
--- and these behind them
+-- and these after them
 abbrev pub with_slots : List ℕ → State → State
 with_slots more s = record { nodes = s.nodes; slots = s.slots ++ more; calls = s.calls; choices = s.choices }
 
@@ -96,12 +96,12 @@ with_call c a = record { calls = c ∷ a.calls; conditions = a.conditions }
 abbrev pub with_condition : Condition → Asked → Asked
 with_condition c a = record { calls = a.calls; conditions = c ∷ a.conditions }
 
-abbrev pub call_at : Spot → MethodPlace → Bool → List ℕ → Call
+abbrev pub call_at : Position → MethodPlace → Bool → List ℕ → Call
 call_at p m action arguments = record { method = m; action = action; taken = p.taken; branches = p.branches; arguments = arguments }
 
--- what steps ask, and the nodes behind them
+-- what steps ask, and the nodes after them
 abbrev pub Flat : Type 0
-Flat = Spot → State → Asked × State
+Flat = Position → State → Asked × State
 
 unfoldable pub in_turn_from : Asked → List Flat → Flat
 in_turn_from a [] p s = (a, s)
@@ -110,8 +110,8 @@ in_turn_from a (x ∷ xs) p s = let m = x p s in in_turn_from (both a m.0) xs p 
 unfoldable pub in_turn : List Flat → Flat
 in_turn xs p s = in_turn_from nothing xs p s
 
--- a call stands before those in its arguments
-unfoldable pub called : Bool → MethodPlace → List Atom → List Flat → Spot → State → (ℕ × Asked) × State
+-- a call comes before those in its arguments
+unfoldable pub called : Bool → MethodPlace → List Atom → List Flat → Position → State → (ℕ × Asked) × State
 called action m atoms inner p s =
     let c = one_call s in
     let a = in_turn inner p c.1 in
@@ -143,10 +143,10 @@ pub record Alternative : Type 0 where
   pub body : List Flat
   pub gives : List Atom
 
-abbrev pub branches_in : Spot → ℕ → ℕ → List Branch
+abbrev pub branches_in : Position → ℕ → ℕ → List Branch
 branches_in p choice arm = p.branches ++ record { choice = choice; arm = arm } ∷ []
 
-abbrev pub inside : Spot → ℕ → ℕ → ℕ → Spot
+abbrev pub inside : Position → ℕ → ℕ → ℕ → Position
 inside p taken choice arm = record { taken = taken; branches = branches_in p choice arm }
 
 -- the values of the arm where the test is 1, else the others
@@ -158,14 +158,14 @@ unfoldable pub picks : ℕ → List ℕ → List ℕ → State → List ℕ × S
 picks t xs ys s = picks_from t [] xs ys s
 
 -- the steps of an arm, and the nodes of the values that it gives
-unfoldable pub giving : List Flat → List Atom → Spot → State → Given × State
+unfoldable pub giving : List Flat → List Atom → Position → State → Given × State
 giving steps gives p s =
     let a = in_turn steps p s in
     let g = operands gives a.1 in
     (record { given = g.0; asked = a.0 }, cut (length s.slots) g.1)
 
--- the nodes of a test behind its condition
-unfoldable pub tested : Alternative → Spot → ℕ → State → Tested × State
+-- the nodes of a test after its condition
+unfoldable pub tested : Alternative → Position → ℕ → State → Tested × State
 tested x p left s =
     let c = in_turn x.condition p s in
     let t = operand x.test c.1 in
@@ -186,8 +186,8 @@ join_all (h ∷ hs) d = join_one h (join_all hs d)
 
 -- ---- the same from the last arm on, with what each of them asks for itself, the last one first
 
-abbrev pub begun : Given → Joining
-begun d = record { given = d.given; parts = d.asked ∷ [] }
+abbrev pub last_arm : Given → Joining
+last_arm d = record { given = d.given; parts = d.asked ∷ [] }
 
 abbrev pub before : List ℕ → Head → Joining → Joining
 before given h j = record { given = given; parts = (j.parts ++ h.body.asked ∷ []) ++ h.asked ∷ [] }
@@ -208,42 +208,42 @@ abbrev pub head_of : Tested → Given → Head
 head_of t body = record { test = t.test; asked = t.asked; body = body }
 
 -- an arm of a choice, and the node that is 1 where neither it nor one before it is taken
-abbrev pub head : ℕ → ℕ → ℕ → Alternative → Spot → State → (Head × ℕ) × State
+abbrev pub head : ℕ → ℕ → ℕ → Alternative → Position → State → (Head × ℕ) × State
 head choice place left x p s =
     let t = tested x p left s in
     let b = giving x.body x.gives (inside p t.0.taken choice place) t.1 in
     ((head_of t.0 b.0, t.0.left), b.1)
 
-unfoldable pub heads_from : ℕ → List Head → List Alternative → Spot → ℕ → State → (List Head × ℕ) × State
+unfoldable pub heads_from : ℕ → List Head → List Alternative → Position → ℕ → State → (List Head × ℕ) × State
 heads_from choice hs [] p left s = ((hs, left), s)
 heads_from choice hs (x ∷ xs) p left s =
     let h = head choice (length hs) left x p s in heads_from choice (hs ++ h.0.0 ∷ []) xs p h.0.1 h.1
 
--- one choice, whose conditions stand in none of its arms
-unfoldable pub arms : List Flat → List Atom → List Alternative → Spot → State → Given × State
+-- one choice, whose conditions are in none of its arms
+unfoldable pub arms : List Flat → List Atom → List Alternative → Position → State → Given × State
 arms last gives xs p s =
     let n = one_choice s in
     let h = heads_from n.0 [] xs p p.taken n.1 in
     join_all h.0.0 (giving last gives (inside p h.0.1 n.0 (length h.0.0)) h.1)
 
--- an arm of a choice of its own, and where what comes behind stands: in the last arm of that choice
-unfoldable pub nest : Alternative → Spot → State → (Head × ℕ × List Branch) × State
+-- an arm of a choice of its own, and where what comes after stands: in the last arm of that choice
+unfoldable pub nest : Alternative → Position → State → (Head × ℕ × List Branch) × State
 nest x p s =
     let t = tested x p p.taken s in
     let n = one_choice t.1 in
     let b = giving x.body x.gives (inside p t.0.taken n.0 0) n.1 in
     ((head_of t.0 b.0, t.0.left, branches_in p n.0 1), b.1)
 
-unfoldable pub nest_from : List Head → List Alternative → Spot → State → (List Head × Spot) × State
+unfoldable pub nest_from : List Head → List Alternative → Position → State → (List Head × Position) × State
 nest_from hs [] p s = ((hs, p), s)
 nest_from hs (x ∷ xs) p s =
     let h = nest x p s in nest_from (hs ++ h.0.0 ∷ []) xs (record { taken = h.0.1; branches = h.0.2 }) h.1
 
 -- choices in one another
-unfoldable pub nested : List Flat → List Atom → List Alternative → Spot → State → Given × State
+unfoldable pub nested : List Flat → List Atom → List Alternative → Position → State → Given × State
 nested last gives xs p s = let h = nest_from [] xs p s in join_all h.0.0 (giving last gives h.0.1 h.1)
 
--- behind a choice its values stand, and none of its conditions
+-- after a choice its values stand, and none of its conditions
 abbrev pub closed : ℕ → Given × State → Asked × State
 closed count g = (g.0.asked, with_slots g.0.given (cut count g.1))
 

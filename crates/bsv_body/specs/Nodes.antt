@@ -1,8 +1,8 @@
 -- The words of a flat body whose calls name methods of instances: the definition of flat bodies, with what methods give.
 use Rattle.std.specs.Prelude.{ℕ, List, Option}
 use Rattle.bsv_bits.specs.Words.{Bits}
-use Rattle.bsv_design.specs.Bodies.{Calling, at, call_word, word_over, words_behind}
-use Rattle.bsv_design.specs.Running.{Results}
+use Rattle.bsv_design.specs.design.Bodies.{Calling, at, call_word, word_over, words_after}
+use Rattle.bsv_design.specs.carrying.Running.{Results}
 use Rattle.bsv_design.specs.declared.node.Node.{Node}
 use Rattle.bsv_body.specs.declared.calls.Call.{Call}
 
@@ -13,10 +13,10 @@ of_methods r = record { args = λ c. c.arguments; gives = λ k c ws. r k c.metho
 abbrev pub answer : Results → ℕ → List Bits → Option Call → Bits
 answer r c ws o = call_word (of_methods r) (at ws) c o
 
--- the word of a node behind nodes of these words
+-- the word of a node after nodes of these words
 abbrev pub node_word : Results → List Bits → List Call → List Bits → Node → Bits
 node_word r arguments calls ws x = word_over (of_methods r) arguments calls (at ws) x
 
--- the words of nodes that stand behind nodes of these words
+-- the words of nodes that come after nodes of these words
 abbrev pub values : Results → List Bits → List Call → List Bits → List Node → List Bits
-values r arguments calls = words_behind (of_methods r) arguments calls
+values r arguments calls = words_after (of_methods r) arguments calls

@@ -7,7 +7,7 @@ use bsv_design::Node;
 use sqlite_items::Items;
 use std::alloc::{AllocError, Global};
 
-/// The node that is 0, behind the first one, which is 1.
+/// The node that is 0, after the first one, which is 1.
 pub(crate) const NO: u32 = 1;
 
 /// An arm, with the nodes of the values that it gives.
@@ -17,7 +17,7 @@ pub struct Given {
     pub asked: Asked,
 }
 
-/// The nodes of a test: whether its arm is taken, and whether what comes behind it is; and what its condition asks.
+/// The nodes of a test: whether its arm is taken, and whether what comes after it is; and what its condition asks.
 #[derive(Drop)]
 pub struct Tested {
     pub test: u32,
@@ -26,7 +26,7 @@ pub struct Tested {
     pub asked: Asked,
 }
 
-/// An arm behind its condition.
+/// An arm after its condition.
 #[derive(Drop)]
 pub struct Head {
     pub test: u32,
@@ -69,8 +69,8 @@ pub struct Joining {
 }
 
 /// The last arm, before any other is joined to it.
-fn begun(alloc: Global, last: Given) -> Result<Joining, AllocError>
-    ensures { IfOk result (λ arms. arms ≡ spec.begun last) }
+fn last_arm(alloc: Global, last: Given) -> Result<Joining, AllocError>
+    ensures { IfOk result (λ arms. arms ≡ spec.last_arm last) }
 {
     let Given { given, asked } = last;
     let mut parts = Items::new(alloc);
@@ -137,7 +137,7 @@ pub(crate) fn join_all(
     ensures { Leaves result state.new (spec.join_all heads (last, state.old)) }
 {
     let mut heads = heads;
-    let mut arms = begun(alloc, last)?;
+    let mut arms = last_arm(alloc, last)?;
     while let Some(head) = heads.pop() {
         arms = join_one(alloc, head, arms, state)?;
     }

@@ -27,7 +27,7 @@ impl<'a> Flattener<'a> {
         Ok(branches)
     }
 
-    /// A call that stands here.
+    /// A call that is here.
     pub(crate) fn call(self, method: MethodPlace, action: bool, arguments: Items<u32>) -> Laid<Call>
         ensures { IfOk result (λ call. call ≡ spec.call self.entry method action arguments) }
     {

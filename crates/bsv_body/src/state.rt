@@ -42,7 +42,7 @@ pub fn numbered(count: usize) -> Laid<u32>
     }
 }
 
-/// The number behind this one, where 32 bits hold it.
+/// The number after this one, where 32 bits hold it.
 pub fn next(number: u32) -> Laid<u32>
     ensures value { IfOk result (λ n. n ≡ number + 1) }
     ensures last { OnErr result (number + 1 ≡ 2 ^ 32) }
@@ -79,7 +79,7 @@ pub(crate) fn standing(state: &State) -> usize
     state.slots.len()
 }
 
-/// The values behind so many stand no more.
+/// The values after so many stand no more.
 pub(crate) fn cut(alloc: Global, count: usize, state: &mut State)
     ensures { state.new ≡ spec.cut count state.old }
 {
@@ -124,7 +124,7 @@ pub(crate) fn add(asked: &mut Asked, others: Asked) -> Result<(), AllocError>
     Ok(())
 }
 
-/// The call stands before the others.
+/// The call comes before the others.
 pub(crate) fn with_call(alloc: Global, call: Call, others: Asked) -> Result<Asked, AllocError>
     ensures { IfOk result (λ a. a ≡ spec.with_call call others) }
 {
@@ -137,7 +137,7 @@ pub(crate) fn with_call(alloc: Global, call: Call, others: Asked) -> Result<Aske
     })
 }
 
-/// The condition stands before the others.
+/// The condition comes before the others.
 pub(crate) fn with_condition(
     alloc: Global,
     condition: Condition,

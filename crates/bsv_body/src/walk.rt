@@ -15,7 +15,7 @@ use bsv_design::{Arm, Atom, Branch, Choice, MethodPlace, Node, Step};
 use sqlite_items::Items;
 use std::alloc::Global;
 
-/// Behind a choice its values stand, and none of its conditions.
+/// After a choice its values stand, and none of its conditions.
 fn close(alloc: Global, count: usize, found: Given, state: &mut State) -> Laid<Asked>
     ensures { Leaves result state.new (flat.closed count (found, state.old)) }
 {
@@ -24,7 +24,7 @@ fn close(alloc: Global, count: usize, found: Given, state: &mut State) -> Laid<A
     Ok(found.asked)
 }
 
-/// The nodes of a test: itself, whether its arm is taken, and whether what comes behind it is.
+/// The nodes of a test: itself, whether its arm is taken, and whether what comes after it is.
 fn test_nodes(test: Atom, left: u32, state: &mut State) -> Laid<(u32, u32, u32)>
     ensures { Leaves result state.new (spec.test_nodes test left state.old) }
 {
@@ -34,7 +34,7 @@ fn test_nodes(test: Atom, left: u32, state: &mut State) -> Laid<(u32, u32, u32)>
     Ok((test, taken, left))
 }
 
-/// An arm behind its condition, and whether what comes behind it is taken.
+/// An arm after its condition, and whether what comes after it is taken.
 fn head_of(tested: Tested, body: Given) -> (Head, u32)
     ensures { result ≡ (flat.head_of tested body, tested.left) }
 {
@@ -64,8 +64,8 @@ impl<'a> Flattener<'a> {
         Ok(asked)
     }
 
-    /// A call behind the steps of its arguments, before what these ask.
-    fn call_behind(
+    /// A call after the steps of its arguments, before what these ask.
+    fn call_after(
         self,
         method: MethodPlace,
         action: bool,
@@ -74,14 +74,14 @@ impl<'a> Flattener<'a> {
         state: &mut State,
     ) -> Laid<Asked>
         ensures { Leaves result state.new
-            (spec.call_behind self.entry method action atoms.now asked state.old) }
+            (spec.call_after self.entry method action atoms.now asked state.old) }
     {
         let arguments = operands(self.alloc, atoms, state)?;
         let call = self.call(method, action, arguments)?;
         Ok(with_call(self.alloc, call, asked)?)
     }
 
-    /// A call of a method of a primitive, behind the steps of its arguments, and its place.
+    /// A call of a method of a primitive, after the steps of its arguments, and its place.
     #[cycle(flat)]
     #[tactic(auto, using(crate::proofs::Sizes::falls), unfolding(crate::specs::Flat::called))]
     fn called(
@@ -97,7 +97,7 @@ impl<'a> Flattener<'a> {
     {
         let place = one_call(state)?;
         let asked = self.steps(inner, state)?;
-        let all = self.call_behind(method, action, atoms, asked, state)?;
+        let all = self.call_after(method, action, atoms, asked, state)?;
         Ok((place, all))
     }
 
@@ -213,7 +213,7 @@ impl<'a> Flattener<'a> {
         here.giving(arm.body.as_slice(), arm.gives.as_slice(), state)
     }
 
-    /// An arm of a choice, and whether what comes behind it is taken.
+    /// An arm of a choice, and whether what comes after it is taken.
     #[cycle(flat)]
     #[tactic(auto, using(crate::proofs::Sizes::falls))]
     fn head(
@@ -269,7 +269,7 @@ impl<'a> Flattener<'a> {
     /// The last arm of a choice, which has so many arms before it.
     #[cycle(flat)]
     #[tactic(auto, using(crate::proofs::Sizes::falls))]
-    fn last_behind(
+    fn last_after(
         self,
         number: u32,
         before: usize,
@@ -278,14 +278,14 @@ impl<'a> Flattener<'a> {
         state: &mut State,
     ) -> Laid<Given>
         ensures { Leaves result state.new
-            (spec.last_behind self.entry number before left choice.now state.old) }
+            (spec.last_after self.entry number before left choice.now state.old) }
     {
         let place = numbered(before)?;
         let branches = self.branches_in(number, place)?;
         self.last(branches.as_slice(), left, choice, state)
     }
 
-    /// One choice, whose conditions stand in none of its arms.
+    /// One choice, whose conditions are in none of its arms.
     #[cycle(flat)]
     #[tactic(auto, using(crate::proofs::Sizes::falls), unfolding(crate::specs::Flat::arms))]
     fn arms(self, choice: &Choice, state: &mut State) -> Laid<Given>
@@ -293,11 +293,11 @@ impl<'a> Flattener<'a> {
     {
         let number = one_choice(state)?;
         let (heads, left) = self.heads(number, choice.arms.as_slice(), state)?;
-        let last = self.last_behind(number, heads.len(), left, choice, state)?;
+        let last = self.last_after(number, heads.len(), left, choice, state)?;
         join_all(self.alloc, heads, last, state)
     }
 
-    /// The steps of the first arm of a choice of its own, and where what comes behind stands.
+    /// The steps of the first arm of a choice of its own, and where what comes after stands.
     #[cycle(flat)]
     #[tactic(auto, using(crate::proofs::Sizes::falls))]
     fn nested_body(self, taken: u32, arm: &Arm, state: &mut State) -> Laid<(Given, Items<Branch>)>
@@ -310,7 +310,7 @@ impl<'a> Flattener<'a> {
         Ok((body, behind))
     }
 
-    /// An arm of a choice of its own, which holds what comes behind.
+    /// An arm of a choice of its own, which holds what comes after.
     #[cycle(flat)]
     #[tactic(auto, using(crate::proofs::Sizes::falls), unfolding(crate::specs::Flat::nest))]
     fn nest(self, arm: &Arm, state: &mut State) -> Laid<(Head, u32, Items<Branch>)>
@@ -358,7 +358,7 @@ impl<'a> Flattener<'a> {
         join_all(self.alloc, heads, last, state)
     }
 
-    /// A choice, whose values stand behind it.
+    /// A choice, whose values come after it.
     #[cycle(flat)]
     #[tactic(auto, using(crate::proofs::Sizes::falls, crate::proofs::Nodes::choices), unfolding(crate::specs::Flat::choose))]
     fn choose(self, choice: &Choice, state: &mut State) -> Laid<Asked>

@@ -19,11 +19,11 @@ use Rattle.bsv_types.specs.Kinds.{kind}
 use Rattle.bsv_design.specs.declared.values.Local.{Local}
 use Rattle.bsv_design.specs.declared.values.Work.{Work}
 use Rattle.bsv_design.specs.declared.values.Value.{Value}
-use Rattle.bsv_design.specs.Calls.{Callee, Caller, Site, static_fault, variable}
-use Rattle.bsv_design.specs.Carrying.{Carried, Placing, Acts, Branched, Labelled, expression, place, expr, expr_step, place_step, as_static, literal, apply, function, method, choice, stmt, branch, case_arm, stmt_step, branch_step, case_step, asked, run, inside, chain, or_nothing, loop_of, cases, called, call_at}
-use Rattle.bsv_design.specs.Working.{counted}
+use Rattle.bsv_design.specs.carrying.Calls.{Callee, Caller, Context, static_fault, variable}
+use Rattle.bsv_design.specs.carrying.Carrying.{Carried, Placing, Acts, Branched, Labelled, expression, place, expr, expr_step, place_step, as_static, literal, apply, function, method, choice, stmt, branch, case_arm, stmt_step, branch_step, case_step, asked, run, inside, chain, or_nothing, loop_of, cases, called, call_at}
+use Rattle.bsv_design.specs.carrying.Working.{counted}
 
-module _ (call : Caller) (site : Site) where
+module _ (call : Caller) (site : Context) where
   -- ---- expressions
 
   expr_node : (y : Expr-F Expr Place) → expression call site (roll-Expr y) ≡ expr_step call site (map-Expr Expr Place Carried Placing (expression call site) (place call site) y)
@@ -87,7 +87,7 @@ module _ (call : Caller) (site : Site) where
   arm_is a = fold_out-CaseArm Acts Branched Labelled (stmt_step call site) (branch_step call site) (case_step call site) a
 
 -- one call in calls fewer is left
-pub call_down : (d : ℕ) (site : Site) (c : Callee) (xs : List Value) (w : Work) → 0 < d → call_at d site c xs w ≡ called (call_at (d - 1)) site c xs w
+pub call_down : (d : ℕ) (site : Context) (c : Callee) (xs : List Value) (w : Work) → 0 < d → call_at d site c xs w ≡ called (call_at (d - 1)) site c xs w
 unfolding call_at
 call_down zero site c xs w below = absurd (omega arith)
 call_down (suc d) site c xs w below = let it : d ≡ suc d - 1 = omega arith in ap (λ k. called (call_at k) site c xs w) it

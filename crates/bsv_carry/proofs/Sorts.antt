@@ -5,8 +5,8 @@ use Rattle.bsv_types.specs.declared.expressions.Expr.TheOpen.{Expr-F}
 use Rattle.bsv_types.specs.declared.expressions.Place.{Place}
 use Rattle.bsv_types.specs.Expressions.{carried_type, expr_type}
 use Rattle.bsv_types.specs.Kinds.{kind}
-use Rattle.bsv_design.specs.Calls.{Caller, Site}
-use Rattle.bsv_design.specs.Carrying.{Carried, Placing, expression, place, expr_step, place_step}
+use Rattle.bsv_design.specs.carrying.Calls.{Caller, Context}
+use Rattle.bsv_design.specs.carrying.Carrying.{Carried, Placing, expression, place, expr_step, place_step}
 
 module _ (f : Expr → Carried) (g : Place → Placing) where
   same_type : (y : Expr-F Expr Place) → carried_type (map-Expr Expr Place Carried Placing f g y) ≡ carried_type y
@@ -17,7 +17,7 @@ module _ (f : Expr → Carried) (g : Place → Placing) where
   same_type (Expr-F.Method t p number xs) = refl
   same_type (Expr-F.Choice t cs xs) = refl
 
-pub sort_is : (call : Caller) (site : Site) (e : Expr) → (expression call site e).sort ≡ kind (expr_type e)
+pub sort_is : (call : Caller) (site : Context) (e : Expr) → (expression call site e).sort ≡ kind (expr_type e)
 unfolding expression place expr_type
 sort_is call site e =
     ap (λ (c : Carried). c.sort) (fold_out-Expr Carried Placing (expr_step call site) (place_step call site) e) ∙

@@ -21,9 +21,9 @@ use Rattle.bsv_design.specs.declared.tree.Built.{Built}
 use Rattle.bsv_design.specs.declared.tree.Instance.{Instance}
 use Rattle.bsv_design.specs.declared.tree.Made.TheVariants as made
 use Rattle.bsv_design.specs.declared.values.Fault.{Fault}
-use Rattle.bsv_design.specs.Calls.{Site, made_of}
-use Rattle.bsv_design.specs.Carrying as carrying
-use Rattle.bsv_design.specs.Trees.{IsAccepted}
+use Rattle.bsv_design.specs.carrying.Calls.{Context, made_of}
+use Rattle.bsv_design.specs.carrying.Carrying as carrying
+use Rattle.bsv_design.specs.tree.Trees.{IsAccepted}
 use Rattle.bsv_carry.specs.StaysAccepted.{Stays, Grows, over, weighing, StaysAccepted}
 use Rattle.bsv_carry.proofs.StaysAccepted.SideBySide.{Into, heavier, at_heavier}
 use Rattle.bsv_carry.proofs.StaysAccepted.Instances.{stays_same}
@@ -62,7 +62,7 @@ accepted_into see (Err e) y h k = absurd k
 accepted_into see (Ok a) (Err e) h k = h.seen
 accepted_into see (Ok a) (Ok b) h k = tt
 
-rule_stays : (s : Site) (later : List Instance) → Grows s.instances later → (condition : Option Expr) (body : List Stmt) (weight : ℕ)
+rule_stays : (s : Context) (later : List Instance) → Grows s.instances later → (condition : Option Expr) (body : List Stmt) (weight : ℕ)
     → IsAccepted (carrying.rule s condition body (weighing weight)) → IsAccepted (carrying.rule (over s later) condition body (weighing 0))
 rule_stays s later grows condition body weight h =
     let none : 0 + weight ≡ weight = omega arith in
@@ -70,7 +70,7 @@ rule_stays s later grows condition body weight h =
     (rule_into weight later s grows condition body (weighing 0))
     (subst (λ n. IsAccepted (carrying.rule s condition body (weighing n))) (sym none) h)
 
-method_stays : (s : Site) (later : List Instance) → Grows s.instances later → (m : Method) (weight : ℕ)
+method_stays : (s : Context) (later : List Instance) → Grows s.instances later → (m : Method) (weight : ℕ)
     → IsAccepted (carrying.top_method s m weight) → IsAccepted (carrying.top_method (over s later) m 0)
 method_stays s later grows m weight h =
     let none : 0 + weight ≡ weight = omega arith in

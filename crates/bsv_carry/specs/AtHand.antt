@@ -28,17 +28,17 @@ use Rattle.bsv_design.specs.declared.values.Local.{Local}
 use Rattle.bsv_design.specs.declared.values.Pending.{Pending}
 use Rattle.bsv_design.specs.declared.values.Value.{Value}
 use Rattle.bsv_design.specs.declared.values.Work.{Work}
-use Rattle.bsv_design.specs.Applied as applying
-use Rattle.bsv_design.specs.Operated as operated
-use Rattle.bsv_design.specs.Calls as calls
-use Rattle.bsv_design.specs.Calls.{Caller, made_of, place_in_body}
-use Rattle.bsv_design.specs.Carrying as carrying
-use Rattle.bsv_design.specs.Carrying.{Carried, Carry, Acts, Test, Branched, Labelled, call_at}
-use Rattle.bsv_design.specs.Frames.{no_variables}
-use Rattle.bsv_design.specs.Working.{Valued}
+use Rattle.bsv_design.specs.carrying.Applied as applying
+use Rattle.bsv_design.specs.carrying.Operated as operated
+use Rattle.bsv_design.specs.carrying.Calls as calls
+use Rattle.bsv_design.specs.carrying.Calls.{Caller, made_of, place_in_body}
+use Rattle.bsv_design.specs.carrying.Carrying as carrying
+use Rattle.bsv_design.specs.carrying.Carrying.{Carried, Carry, Acts, Test, Branched, Labelled, call_at}
+use Rattle.bsv_design.specs.carrying.Frames.{no_variables}
+use Rattle.bsv_design.specs.carrying.Working.{Valued}
 use Rattle.bsv_carry.specs.declared.carrier.Carrier.{Carrier}
-use Rattle.bsv_carry.specs.declared.site.Site.{Site}
-use Rattle.bsv_carry.specs.declared.suffixes.Part.{Part}
+use Rattle.bsv_carry.specs.declared.site.Context.{Context}
+use Rattle.bsv_carry.specs.declared.suffixes.BitRange.{BitRange}
 
 abbrev pub shapes_of : Typed → Shapes
 shapes_of t = record { enums = t.enums; structs = t.structs; interfaces = t.interfaces }
@@ -46,7 +46,7 @@ shapes_of t = record { enums = t.enums; structs = t.structs; interfaces = t.inte
 abbrev pub shapes : Carrier → Shapes
 shapes c = shapes_of c.typed.now
 
-abbrev pub site : Carrier → calls.Site
+abbrev pub site : Carrier → calls.Context
 site c = record {
   shapes = shapes c;
   functions = c.typed.now.functions;
@@ -57,7 +57,7 @@ site c = record {
 }
 
 -- the same of what is at hand for the calls of other crates
-abbrev pub text : Site → calls.Site
+abbrev pub text : Context → calls.Context
 text t = record {
   shapes = shapes_of t.typed.now;
   functions = t.typed.now.functions;
@@ -109,13 +109,13 @@ abbrev pub number_below : Carrier → ℕ → Value → Result ℕ Fault
 number_below c = applying.number_below (shapes c) (fault_of c)
 
 -- a part of a value, as the code has it
-abbrev pub part : Part → operated.Part
+abbrev pub part : BitRange → operated.BitRange
 part p = record { high = p.high; low = p.low; inner = p.inner.now }
 
-abbrev pub field_part : Carrier → List Field → ℕ → operated.Part
+abbrev pub field_part : Carrier → List Field → ℕ → operated.BitRange
 field_part c fs number = operated.field_part (shapes c) (fault_of c) fs number (slice_get fs number)
 
-abbrev pub part_of : Carrier → ℕ → List Field → Op → List Value → Result (operated.Part × List Value) Fault
+abbrev pub part_of : Carrier → ℕ → List Field → Op → List Value → Result (operated.BitRange × List Value) Fault
 part_of c = operated.part_of (shapes c) (fault_of c)
 
 abbrev pub suffixed : Carrier → ℕ → List Field → List Op → Value → List Value → Work → Valued

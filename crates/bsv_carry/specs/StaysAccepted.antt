@@ -11,10 +11,10 @@ use Rattle.bsv_design.specs.declared.tree.Instance.{Instance}
 use Rattle.bsv_design.specs.declared.tree.Made.{Made}
 use Rattle.bsv_design.specs.declared.tree.Made.TheVariants as made
 use Rattle.bsv_design.specs.declared.values.Work.{Work}
-use Rattle.bsv_design.specs.Calls.{Site, made_of}
-use Rattle.bsv_design.specs.Carrying as carrying
-use Rattle.bsv_design.specs.Trees.{IsAccepted}
-use Rattle.bsv_design.specs.Working.{no_steps}
+use Rattle.bsv_design.specs.carrying.Calls.{Context, made_of}
+use Rattle.bsv_design.specs.carrying.Carrying as carrying
+use Rattle.bsv_design.specs.tree.Trees.{IsAccepted}
+use Rattle.bsv_design.specs.carrying.Working.{no_steps}
 
 -- what is at a place, and what is there later. A module that is not built yet, so that it has no methods, may become another
 abbrev pub Stays : Option Made → Option Made → Type 0
@@ -27,7 +27,7 @@ pub record Grows (xs ys : List Instance) : Type 0 where
   pub stays : (n : ℕ) → Stays (made_of (slice_get xs n)) (made_of (slice_get ys n))
 
 -- the same site over other instances
-abbrev pub over : Site → List Instance → Site
+abbrev pub over : Context → List Instance → Context
 over s is = record s { instances = is }
 
 -- no steps yet, and nothing counted but a weight
@@ -35,7 +35,7 @@ abbrev pub weighing : ℕ → Work
 weighing weight = no_steps (record { weight = weight; slots = 0 })
 
 pub record StaysAccepted : Type 0 where
-  pub rule : (s : Site) (later : List Instance) → Grows s.instances later → (condition : Option Expr) (body : List Stmt) (weight : ℕ)
+  pub rule : (s : Context) (later : List Instance) → Grows s.instances later → (condition : Option Expr) (body : List Stmt) (weight : ℕ)
       → IsAccepted (carrying.rule s condition body (weighing weight)) → IsAccepted (carrying.rule (over s later) condition body (weighing 0))
-  pub method : (s : Site) (later : List Instance) → Grows s.instances later → (m : Method) (weight : ℕ)
+  pub method : (s : Context) (later : List Instance) → Grows s.instances later → (m : Method) (weight : ℕ)
       → IsAccepted (carrying.top_method s m weight) → IsAccepted (carrying.top_method (over s later) m 0)

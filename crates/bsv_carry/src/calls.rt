@@ -10,7 +10,7 @@ use bsv_types::{Body, Expr, Method, Stmt};
 impl<'a> Carrier<'a> {
     /// A condition, which has to hold.
     #[cycle(carry)]
-    #[tactic(auto, unfolding(bsv_design::specs::Carrying::asking))]
+    #[tactic(auto, unfolding(bsv_design::specs::carrying::Carrying::asking))]
     fn asking(self, name: Option<MethodPlace>, condition: &Option<Expr>, work: Work) -> Got<Work>
         ensures { Gives result (spec.asking self.entry name condition.now work) }
     {
@@ -27,7 +27,7 @@ impl<'a> Carrier<'a> {
 
     /// A body, and what it returns.
     #[cycle(carry)]
-    #[tactic(auto, unfolding(bsv_design::specs::Carrying::giving))]
+    #[tactic(auto, unfolding(bsv_design::specs::carrying::Carrying::giving))]
     fn giving(self, body: &Body, integer: bool, values: &[Value], work: Work) -> Valued
         ensures { Gives result (spec.giving self.entry body.now integer values.now work) }
     {
@@ -43,7 +43,7 @@ impl<'a> Carrier<'a> {
 
     /// A call of a function, which sees its parameters alone.
     #[cycle(carry)]
-    #[tactic(auto, using(crate::proofs::Depths::falls, crate::proofs::Nodes::calls), unfolding(bsv_design::specs::Calls::function_at, bsv_design::specs::Carrying::call_at, bsv_design::specs::Carrying::called, bsv_design::specs::Carrying::asking))]
+    #[tactic(auto, using(crate::proofs::Depths::falls, crate::proofs::Nodes::calls), unfolding(bsv_design::specs::carrying::Calls::function_at, bsv_design::specs::carrying::Carrying::call_at, bsv_design::specs::carrying::Carrying::called, bsv_design::specs::carrying::Carrying::asking))]
     pub(crate) fn function_at(self, number: u32, values: &[Value], work: Work) -> Valued
         ensures { Gives result (spec.function_at self.entry number values.now work) }
     {
@@ -65,7 +65,7 @@ impl<'a> Carrier<'a> {
 
     /// A method of a module's instance.
     #[cycle(carry)]
-    #[tactic(auto, unfolding(bsv_design::specs::Carrying::called))]
+    #[tactic(auto, unfolding(bsv_design::specs::carrying::Carrying::called))]
     fn entered(self, name: MethodPlace, method: &Method, values: &[Value], work: Work) -> Valued
         ensures { Gives result (spec.entered self.entry name method.now values.now work) }
     {
@@ -73,9 +73,9 @@ impl<'a> Carrier<'a> {
         self.giving(&method.body, false, values, work)
     }
 
-    /// A call of a method of a module's instance, which sees the variables that stand before it.
+    /// A call of a method of a module's instance, which sees the variables that come before it.
     #[cycle(carry)]
-    #[tactic(auto, using(crate::proofs::Depths::falls, crate::proofs::Nodes::calls), unfolding(bsv_design::specs::Calls::user_method, bsv_design::specs::Carrying::call_at))]
+    #[tactic(auto, using(crate::proofs::Depths::falls, crate::proofs::Nodes::calls), unfolding(bsv_design::specs::carrying::Calls::user_method, bsv_design::specs::carrying::Carrying::call_at))]
     pub(crate) fn user_method(
         self,
         instance: u32,
@@ -114,7 +114,7 @@ impl<'a> Carrier<'a> {
         }
     }
 
-    /// A rule: its condition has to hold, and stands before its body.
+    /// A rule: its condition has to hold, and comes before its body.
     pub(crate) fn rule(self, condition: &Option<Expr>, body: &[Stmt], work: Work) -> Got<Work>
         ensures { Gives result (spec.rule self.entry condition.now body.now work) }
     {

@@ -1,7 +1,7 @@
 ghost use Rattle.std.specs.Prelude.{◌≡◌};
 ghost use Rattle.bsv_types.specs.Kinds.{kind};
-ghost use Rattle.bsv_design.specs.Applied as applied;
-ghost use Rattle.bsv_design.specs.Calls as calls;
+ghost use Rattle.bsv_design.specs.carrying.Applied as applied;
+ghost use Rattle.bsv_design.specs.carrying.Calls as calls;
 ghost use Rattle.bsv_carry.specs.AtHand as spec;
 
 use bsv_design::{Binding, Fault, Instance};
@@ -33,7 +33,7 @@ impl<'a> Carrier<'a> {
     }
 
     /// The bits of a type.
-    #[tactic(auto, unfolding(bsv_design::specs::Applied::width))]
+    #[tactic(auto, unfolding(bsv_design::specs::carrying::Applied::width))]
     pub(crate) fn width(self, ty: &Ty) -> u32
         ensures { result ≡ spec.width self.entry (kind ty.now) }
     {

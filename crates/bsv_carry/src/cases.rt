@@ -6,7 +6,7 @@ use crate::statements::Acted;
 use bsv_design::{Count, Local, Pending, Value, Work};
 use bsv_fail::Fail;
 use bsv_steps::{
-    Counted, Got, Locals, Valued, at_count, behind_arm, close, either, is_static, is_true,
+    Counted, Got, Locals, Valued, at_count, after_arm, close, either, is_static, is_true,
     no_steps, or_false, untouched, with_pending,
 };
 use bsv_types::{CaseArm, Expr, Stmt};
@@ -15,7 +15,7 @@ use sqlite_items::{Boxed, Items};
 impl Carrier<'_> {
     /// Whether the subject has the label, which is static, or one before.
     #[cycle(carry)]
-    #[tactic(auto, unfolding(bsv_design::specs::Carrying::label))]
+    #[tactic(auto, unfolding(bsv_design::specs::carrying::Carrying::label))]
     fn label(
         self,
         subject: &Value,
@@ -37,7 +37,7 @@ impl Carrier<'_> {
 
     /// Whether the subject has one of the labels.
     #[cycle(carry)]
-    #[tactic(auto, unfolding(bsv_design::specs::Carrying::labels, bsv_design::specs::Carrying::labels_from))]
+    #[tactic(auto, unfolding(bsv_design::specs::carrying::Carrying::labels, bsv_design::specs::carrying::Carrying::labels_from))]
     fn labels(self, subject: &Value, labels: &[Expr], locals: &[Local], count: Count) -> Valued
         ensures { Gives result (spec.labels self.entry subject.now labels.now locals.now count) }
     {
@@ -55,7 +55,7 @@ impl Carrier<'_> {
 
     /// An arm, which is carried out where it is the first one that has the subject.
     #[cycle(carry)]
-    #[tactic(auto, unfolding(bsv_design::specs::Carrying::static_arm, bsv_design::specs::Carrying::case_arm, bsv_design::specs::Carrying::stmt))]
+    #[tactic(auto, unfolding(bsv_design::specs::carrying::Carrying::static_arm, bsv_design::specs::carrying::Carrying::case_arm, bsv_design::specs::carrying::Carrying::stmt))]
     fn static_arm(
         self,
         subject: &Value,
@@ -79,7 +79,7 @@ impl Carrier<'_> {
 
     /// A `case` whose subject is static: all labels are carried out.
     #[cycle(carry)]
-    #[tactic(auto, unfolding(bsv_design::specs::Carrying::static_case))]
+    #[tactic(auto, unfolding(bsv_design::specs::carrying::Carrying::static_case))]
     fn static_case(
         self,
         subject: &Value,
@@ -111,7 +111,7 @@ impl Carrier<'_> {
 
     /// An arm of a `case` whose subject is not static.
     #[cycle(carry)]
-    #[tactic(auto, unfolding(bsv_design::specs::Carrying::open_arm, bsv_design::specs::Carrying::case_arm, bsv_design::specs::Carrying::stmt))]
+    #[tactic(auto, unfolding(bsv_design::specs::carrying::Carrying::open_arm, bsv_design::specs::carrying::Carrying::case_arm, bsv_design::specs::carrying::Carrying::stmt))]
     fn open_arm(
         self,
         subject: &Value,
@@ -127,13 +127,13 @@ impl Carrier<'_> {
         let count = asked.count;
         let inner = untouched(self.alloc, locals)?;
         let (behind, body) = self.inside(&arm.arm, inner, no_steps(self.alloc, count))?;
-        let after = behind_arm(count, body.count);
+        let after = after_arm(count, body.count);
         Ok((with_pending(arms, test, asked, behind, body)?, after))
     }
 
     /// A `case` whose subject is not static.
     #[cycle(carry)]
-    #[tactic(auto, unfolding(bsv_design::specs::Carrying::open_case))]
+    #[tactic(auto, unfolding(bsv_design::specs::carrying::Carrying::open_case))]
     fn open_case(
         self,
         subject: &Value,
@@ -168,7 +168,7 @@ impl Carrier<'_> {
 
     /// A `case`.
     #[cycle(carry)]
-    #[tactic(auto, unfolding(bsv_design::specs::Carrying::cases))]
+    #[tactic(auto, unfolding(bsv_design::specs::carrying::Carrying::cases))]
     pub(crate) fn cases(
         self,
         subject: &Expr,

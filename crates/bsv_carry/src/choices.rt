@@ -5,7 +5,7 @@ use crate::carrier::Carrier;
 use crate::statements::Acted;
 use bsv_design::{Count, Local, Pending, Value, Work};
 use bsv_steps::{
-    Counted, Got, Locals, at_count, behind_arm, close, front, is_static, is_true, no_steps, slice,
+    Counted, Got, Locals, at_count, after_arm, close, front, is_static, is_true, no_steps, slice,
     untouched, with_pending, with_variable,
 };
 use bsv_types::{Branch, Condition, Stmt};
@@ -17,7 +17,7 @@ pub(crate) type Bound = Option<(Value, u32)>;
 impl Carrier<'_> {
     /// What a condition asks, and the Maybe whose payload it binds.
     #[cycle(carry)]
-    #[tactic(auto, unfolding(bsv_design::specs::Carrying::asked))]
+    #[tactic(auto, unfolding(bsv_design::specs::carrying::Carrying::asked))]
     fn condition_asked(
         self,
         condition: &Condition,
@@ -43,7 +43,7 @@ impl Carrier<'_> {
     }
 
     #[cycle(carry)]
-    #[tactic(auto, unfolding(bsv_design::specs::Carrying::branch))]
+    #[tactic(auto, unfolding(bsv_design::specs::carrying::Carrying::branch))]
     fn asked(self, branch: &Branch, locals: &[Local], count: Count) -> Got<(Value, Bound, Work)>
         ensures { Gives result (spec.asked self.entry branch.now locals.now count) }
     {
@@ -52,7 +52,7 @@ impl Carrier<'_> {
 
     /// An arm in which a payload has a name.
     #[cycle(carry)]
-    #[tactic(auto, unfolding(bsv_design::specs::Carrying::branch_arm))]
+    #[tactic(auto, unfolding(bsv_design::specs::carrying::Carrying::branch_arm))]
     fn arm(self, stmt: &Stmt, bound: Bound, locals: Locals, work: Work) -> Acted
         ensures { Gives result (spec.arm self.entry stmt.now bound locals work) }
     {
@@ -70,7 +70,7 @@ impl Carrier<'_> {
 
     /// The arm of a branch.
     #[cycle(carry)]
-    #[tactic(auto, unfolding(bsv_design::specs::Carrying::branch, bsv_design::specs::Carrying::stmt))]
+    #[tactic(auto, unfolding(bsv_design::specs::carrying::Carrying::branch, bsv_design::specs::carrying::Carrying::stmt))]
     fn branch_arm(self, branch: &Branch, bound: Bound, locals: Locals, work: Work) -> Acted
         ensures { Gives result (spec.branch_arm self.entry branch.now bound locals work) }
     {
@@ -79,7 +79,7 @@ impl Carrier<'_> {
 
     /// The arm of a branch whose condition is static and True, which is the last one.
     #[cycle(carry)]
-    #[tactic(auto, unfolding(bsv_design::specs::Carrying::last_arm))]
+    #[tactic(auto, unfolding(bsv_design::specs::carrying::Carrying::last_arm))]
     fn last_branch(
         self,
         work: Work,
@@ -107,9 +107,9 @@ impl Carrier<'_> {
         )
     }
 
-    /// The arms behind a condition that is not static and True.
+    /// The arms after a condition that is not static and True.
     #[cycle(carry)]
-    #[tactic(auto, unfolding(bsv_design::specs::Carrying::kept))]
+    #[tactic(auto, unfolding(bsv_design::specs::carrying::Carrying::kept))]
     fn kept(
         self,
         arms: Items<Pending>,
@@ -128,14 +128,14 @@ impl Carrier<'_> {
         }
         let inner = untouched(self.alloc, locals)?;
         let (behind, body) = self.branch_arm(branch, bound, inner, no_steps(self.alloc, count))?;
-        let after = behind_arm(count, body.count);
+        let after = after_arm(count, body.count);
         let arms = with_pending(arms, test, asked, behind, body)?;
         Ok((arms, after))
     }
 
     /// The arms of an `if`.
     #[cycle(carry)]
-    #[tactic(auto, unfolding(bsv_design::specs::Carrying::chain, bsv_design::specs::Carrying::chain_from))]
+    #[tactic(auto, unfolding(bsv_design::specs::carrying::Carrying::chain, bsv_design::specs::carrying::Carrying::chain_from))]
     pub(crate) fn chain(
         self,
         branches: &[Branch],

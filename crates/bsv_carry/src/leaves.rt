@@ -1,7 +1,7 @@
 ghost use Rattle.std.specs.Prelude.{◌≡◌, slice_get};
 ghost use Rattle.bsv_fail.specs.Given.{Gives};
 ghost use Rattle.bsv_types.specs.Kinds.{kind};
-ghost use Rattle.bsv_design.specs.Calls as calls;
+ghost use Rattle.bsv_design.specs.carrying.Calls as calls;
 ghost use Rattle.bsv_carry.specs.AtHand as spec;
 
 use crate::carrier::Carrier;
@@ -17,7 +17,7 @@ use bsv_types::{Expr, Op, Ty};
 const MOST_WRITTEN: u128 = 9_223_372_036_854_775_808;
 
 impl Carrier<'_> {
-    #[tactic(auto, unfolding(bsv_design::specs::Carrying::literal))]
+    #[tactic(auto, unfolding(bsv_design::specs::carrying::Carrying::literal))]
     pub(crate) fn literal(self, ty: &Ty, number: u128, work: Work) -> Valued
         ensures { Gives result (spec.literal self.entry (kind ty.now) number work) }
     {
@@ -57,7 +57,7 @@ impl Carrier<'_> {
     }
 
     /// A variable, of the module or of the body.
-    #[tactic(auto, unfolding(bsv_design::specs::Calls::variable))]
+    #[tactic(auto, unfolding(bsv_design::specs::carrying::Calls::variable))]
     pub(crate) fn variable(self, level: u32, locals: &[Local]) -> Got<Value>
         ensures { Gives result (spec.variable self.entry level locals.now) }
     {
@@ -165,7 +165,7 @@ impl Carrier<'_> {
         }
     }
 
-    /// What a body returns behind its statements.
+    /// What a body returns after its statements.
     pub(crate) fn returned(self, locals: &[Local], work: Work) -> Valued
         ensures { Gives result (spec.returned self.entry (slice_get locals.now 0) work) }
     {

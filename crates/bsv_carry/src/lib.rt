@@ -20,4 +20,4 @@ mod site;
 mod statements;
 mod suffixes;
 
-pub use site::Site;
+pub use site::Context;

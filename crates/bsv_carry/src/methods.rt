@@ -13,7 +13,7 @@ use sqlite_items::Items;
 impl<'a> Carrier<'a> {
     /// The method of a primitive that is called, its arguments, and the steps of these.
     #[cycle(carry)]
-    #[tactic(auto, unfolding(bsv_design::specs::Carrying::primitive_call))]
+    #[tactic(auto, unfolding(bsv_design::specs::carrying::Carrying::primitive_call))]
     fn primitive_call(
         self,
         instance: u32,
@@ -39,7 +39,7 @@ impl<'a> Carrier<'a> {
 
     /// A call of a method of a module.
     #[cycle(carry)]
-    #[tactic(auto, unfolding(bsv_design::specs::Carrying::module_call))]
+    #[tactic(auto, unfolding(bsv_design::specs::carrying::Carrying::module_call))]
     fn module_call(
         self,
         instance: u32,
@@ -59,7 +59,7 @@ impl<'a> Carrier<'a> {
 
     /// A call of a value method of an instance.
     #[cycle(carry)]
-    #[tactic(auto, unfolding(bsv_design::specs::Carrying::value_of))]
+    #[tactic(auto, unfolding(bsv_design::specs::carrying::Carrying::value_of))]
     fn value_of(
         self,
         instance: u32,
@@ -90,7 +90,7 @@ impl<'a> Carrier<'a> {
 
     /// A call of a value method.
     #[cycle(carry)]
-    #[tactic(auto, unfolding(bsv_design::specs::Carrying::method))]
+    #[tactic(auto, unfolding(bsv_design::specs::carrying::Carrying::method))]
     pub(crate) fn method(
         self,
         place: &Place,
@@ -109,7 +109,7 @@ impl<'a> Carrier<'a> {
 
     /// A call of an action method of an instance, and what it gives.
     #[cycle(carry)]
-    #[tactic(auto, unfolding(bsv_design::specs::Carrying::act_of))]
+    #[tactic(auto, unfolding(bsv_design::specs::carrying::Carrying::act_of))]
     fn act_of(
         self,
         instance: u32,
@@ -140,7 +140,7 @@ impl<'a> Carrier<'a> {
 
     /// A call of an action method, and what it gives.
     #[cycle(carry)]
-    #[tactic(auto, unfolding(bsv_design::specs::Carrying::act))]
+    #[tactic(auto, unfolding(bsv_design::specs::carrying::Carrying::act))]
     pub(crate) fn act(
         self,
         place: &Place,

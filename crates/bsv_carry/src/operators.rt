@@ -1,7 +1,7 @@
 ghost use Rattle.std.specs.Prelude.{◌≡◌, drop, map};
 ghost use Rattle.bsv_fail.specs.Given.{Gives, GivesBy};
 ghost use Rattle.bsv_types.specs.Kinds.{kind};
-ghost use Rattle.bsv_design.specs.Applied as applied;
+ghost use Rattle.bsv_design.specs.carrying.Applied as applied;
 ghost use Rattle.bsv_carry.specs.AtHand as spec;
 
 use crate::carrier::Carrier;
@@ -47,7 +47,7 @@ fn right(ty: &Ty) -> Operator
 }
 
 /// Parts side by side, the first one most significant.
-#[tactic(auto, unfolding(bsv_design::specs::Applied::together))]
+#[tactic(auto, unfolding(bsv_design::specs::carrying::Applied::together))]
 pub(crate) fn together(first: Value, others: &[Value], work: Work) -> Valued
     ensures { Gives result (applied.together first others.now work) }
 {
@@ -133,7 +133,7 @@ impl Carrier<'_> {
     }
 
     /// Operators of one level, from the left.
-    #[tactic(auto, unfolding(bsv_design::specs::Applied::chained))]
+    #[tactic(auto, unfolding(bsv_design::specs::carrying::Applied::chained))]
     pub(crate) fn chained(
         self,
         ops: &[Op],

@@ -1,6 +1,6 @@
 ghost use Rattle.std.specs.Prelude.{◌≡◌};
 ghost use Rattle.bsv_fail.specs.Given.{Gives};
-ghost use Rattle.bsv_design.specs.Carrying as carrying;
+ghost use Rattle.bsv_design.specs.carrying.Carrying as carrying;
 ghost use Rattle.bsv_carry.specs.AtHand as spec;
 
 use crate::carrier::Carrier;
@@ -11,7 +11,7 @@ use std::alloc::Global;
 
 /// What is at hand where text is carried out.
 #[derive(Clone, Copy)]
-pub struct Site<'a> {
+pub struct Context<'a> {
     pub alloc: Global,
     pub typed: &'a Typed,
     /// The instances that were made so far.
@@ -22,9 +22,9 @@ pub struct Site<'a> {
     pub bindings: &'a [Binding],
 }
 
-impl<'a> Site<'a> {
+impl<'a> Context<'a> {
     /// The same, with so many calls in calls.
-    #[tactic(auto, unfolding(bsv_design::specs::Carrying::most_calls))]
+    #[tactic(auto, unfolding(bsv_design::specs::carrying::Carrying::most_calls))]
     fn carrier(self) -> Carrier<'a>
         ensures site { spec.site result ≡ spec.text self.entry }
         ensures depth { result.depth ≡ carrying.most_calls }
@@ -55,8 +55,8 @@ impl<'a> Site<'a> {
         self.carrier().place(place, locals, count)
     }
 
-    /// A rule: its condition has to hold, and stands before its body.
-    #[tactic(auto, unfolding(bsv_design::specs::Carrying::rule))]
+    /// A rule: its condition has to hold, and comes before its body.
+    #[tactic(auto, unfolding(bsv_design::specs::carrying::Carrying::rule))]
     pub fn rule(self, condition: &Option<Expr>, body: &[Stmt], work: Work) -> Got<Work>
         ensures { Gives result
             (carrying.rule (spec.text self.entry) condition.now body.now work) }
@@ -65,7 +65,7 @@ impl<'a> Site<'a> {
     }
 
     /// A method of the top, whose arguments are its first values, and what it gives.
-    #[tactic(auto, unfolding(bsv_design::specs::Carrying::top_method))]
+    #[tactic(auto, unfolding(bsv_design::specs::carrying::Carrying::top_method))]
     pub fn top_method(self, method: &Method, weight: u64) -> Valued
         ensures { Gives result
             (carrying.top_method (spec.text self.entry) method.now weight) }

@@ -1,7 +1,7 @@
 ghost use Rattle.std.specs.Prelude.{◌≡◌, IfOk};
 ghost use Rattle.bsv_fail.specs.Given.{Gives, GivesBy};
 ghost use Rattle.bsv_types.specs.Kinds.{kind};
-ghost use Rattle.bsv_design.specs.Operated as operated;
+ghost use Rattle.bsv_design.specs.carrying.Operated as operated;
 ghost use Rattle.bsv_carry.specs.AtHand as spec;
 
 use crate::carrier::Carrier;
@@ -15,7 +15,7 @@ use std::alloc::{AllocError, Global};
 
 /// The bits of a value that a suffix names, and their fields where they are a struct.
 #[derive(Clone, Copy)]
-pub(crate) struct Part<'a> {
+pub(crate) struct BitRange<'a> {
     pub high: u32,
     pub low: u32,
     pub inner: &'a [Field],
@@ -31,7 +31,7 @@ fn sets(number: usize, op: Op) -> bool
 }
 
 /// The value that a field is set to.
-#[tactic(auto, unfolding(bsv_design::specs::Operated::set_to))]
+#[tactic(auto, unfolding(bsv_design::specs::carrying::Operated::set_to))]
 fn set_to(number: usize, ops: &[Op], values: &[Value]) -> Value
     ensures { result ≡ operated.set_to number ops.now values.now }
 {
@@ -48,7 +48,7 @@ fn set_to(number: usize, ops: &[Op], values: &[Value]) -> Value
 }
 
 /// The values that fields are set to.
-#[tactic(auto, unfolding(bsv_design::specs::Operated::set_from))]
+#[tactic(auto, unfolding(bsv_design::specs::carrying::Operated::set_from))]
 fn set_values(
     alloc: Global,
     fields: &[Field],
@@ -94,13 +94,13 @@ fn is_suffix(op: Op) -> bool
 }
 
 impl<'a> Carrier<'a> {
-    /// The bits of a field. The last one stands in the lowest bits.
-    fn field_part(self, fields: &'a [Field], number: u32) -> Part<'a>
+    /// The bits of a field. The last one is in the lowest bits.
+    fn field_part(self, fields: &'a [Field], number: u32) -> BitRange<'a>
         ensures { spec.part result ≡ spec.field_part self.entry fields.now number }
     {
         let at = number as usize;
         match fields.get(at) {
-            None => Part {
+            None => BitRange {
                 high: 0,
                 low: 0,
                 inner: &[],
@@ -112,7 +112,7 @@ impl<'a> Carrier<'a> {
                     None => 0,
                 };
                 let above = low.saturating_add(self.width(&field.ty));
-                Part {
+                BitRange {
                     high: above.saturating_sub(1),
                     low,
                     inner: self.fields(&field.ty),
@@ -123,14 +123,14 @@ impl<'a> Carrier<'a> {
 
     /// The bits that a suffix names of a value of so many bits with these fields, and the values that
     /// are left, of which an index takes one.
-    #[tactic(auto, unfolding(bsv_design::specs::Operated::part_of))]
+    #[tactic(auto, unfolding(bsv_design::specs::carrying::Operated::part_of))]
     fn part_of<'b>(
         self,
         bits: u32,
         fields: &'a [Field],
         op: Op,
         values: &'b [Value],
-    ) -> Got<(Part<'a>, &'b [Value])>
+    ) -> Got<(BitRange<'a>, &'b [Value])>
         ensures { GivesBy (λ r. (spec.part r.0, r.1.now)) result
             (spec.part_of self.entry bits fields.now op values.now) }
     {
@@ -139,7 +139,7 @@ impl<'a> Carrier<'a> {
                 None => Err(Fail::Fault(self.static_fault())),
                 Some((index, after)) => {
                     let at = self.number_below(bits, *index)?;
-                    let part = Part {
+                    let part = BitRange {
                         high: at,
                         low: at,
                         inner: &[],
@@ -148,7 +148,7 @@ impl<'a> Carrier<'a> {
                 }
             },
             Op::Slice(high, low) => {
-                let part = Part {
+                let part = BitRange {
                     high,
                     low,
                     inner: &[],
@@ -161,7 +161,7 @@ impl<'a> Carrier<'a> {
     }
 
     /// Suffixes, from the left.
-    #[tactic(auto, unfolding(bsv_design::specs::Operated::suffixed))]
+    #[tactic(auto, unfolding(bsv_design::specs::carrying::Operated::suffixed))]
     fn suffixed(self, ty: &Ty, ops: &[Op], whole: Value, values: &[Value], work: Work) -> Valued
         ensures { Gives result (spec.suffixed self.entry (spec.width self.entry (kind ty.now))
             (spec.fields self.entry (kind ty.now)) ops.now whole values.now work) }
@@ -207,7 +207,7 @@ impl<'a> Carrier<'a> {
         }
     }
 
-    #[tactic(auto, unfolding(bsv_design::specs::Operated::applied_to))]
+    #[tactic(auto, unfolding(bsv_design::specs::carrying::Operated::applied_to))]
     fn applied_to(
         self,
         ty: &Ty,
@@ -236,7 +236,7 @@ impl<'a> Carrier<'a> {
     }
 
     /// What operators give: the type of the result, and that of the first operand.
-    #[tactic(auto, unfolding(bsv_design::specs::Operated::applied))]
+    #[tactic(auto, unfolding(bsv_design::specs::carrying::Operated::applied))]
     pub(crate) fn applied(
         self,
         ty: &Ty,

@@ -37,7 +37,7 @@ pub(crate) enum Part {
 
 /// A case of which some parts are read.
 #[derive(Drop)]
-pub(crate) struct Draft {
+pub(crate) struct UnreadCase {
     line: usize,
     words: Vec<String>,
     files: Vec<(String, Text)>,
@@ -46,10 +46,10 @@ pub(crate) struct Draft {
     want: Option<Want>,
 }
 
-impl Draft {
+impl UnreadCase {
     /// A case with these words, of which no part is read.
-    pub(crate) fn new(alloc: Global, line: usize, words: Vec<String>) -> Draft {
-        Draft {
+    pub(crate) fn new(alloc: Global, line: usize, words: Vec<String>) -> UnreadCase {
+        UnreadCase {
             line,
             words,
             files: Vec::new(alloc),
@@ -82,7 +82,7 @@ impl Draft {
 
     /// The case, whose parts are all read.
     pub(crate) fn finished(self) -> Case {
-        let Draft {
+        let UnreadCase {
             line,
             words,
             files,

@@ -128,8 +128,8 @@ impl Kind {
         KINDS.iter().copied().find(|kind| kind.name() == name)
     }
 
-    /// Whether this kind is looked for behind the other one.
-    pub fn is_behind(self, other: Kind) -> bool {
+    /// Whether this kind is looked for after the other one.
+    pub fn is_later(self, other: Kind) -> bool {
         self as u8 > other as u8
     }
 }

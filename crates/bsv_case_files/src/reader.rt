@@ -1,4 +1,4 @@
-use crate::case::{Case, Draft, Part};
+use crate::case::{Case, UnreadCase, Part};
 use crate::fault::Unread;
 use crate::row::{Frame, Row, words_of};
 use crate::section::{Head, Section, head_of};
@@ -16,10 +16,10 @@ struct Reader {
     /// The lines of the section, where it has no rows.
     lines: String,
     frame: Frame,
-    /// What stands at the place of the frame.
+    /// What is at the place of the frame.
     inner: Frame,
     row: Option<Row>,
-    draft: Option<Draft>,
+    draft: Option<UnreadCase>,
     cases: Vec<Case>,
 }
 
@@ -36,7 +36,7 @@ fn words_line(line: &str) -> Option<&str> {
     line.strip_prefix("> ")
 }
 
-/// Puts a line of a frame behind an end of a line: one behind a plus goes on with the line before it.
+/// Puts a line of a frame after an end of a line: one after a plus goes on with the line before it.
 fn push_frame_line(lines: &mut String, line: &str) -> Result<(), AllocError> {
     if let Some(rest) = line.strip_prefix("+ ") {
         lines.push(' ')?;
@@ -90,7 +90,7 @@ impl Reader {
             self.end_section()?;
             self.end_case()?;
             let words = words_of(self.alloc, words)?;
-            self.draft = Some(Draft::new(self.alloc, self.line, words));
+            self.draft = Some(UnreadCase::new(self.alloc, self.line, words));
             return Ok(());
         }
         self.take_content(line)

@@ -4,7 +4,7 @@ use crate::outside::Outside;
 use crate::want::{Text, Want, want_of};
 use std::alloc::{AllocError, Global};
 
-/// What stands before and behind the text of each row of a table.
+/// What comes before and after the text of each row of a table.
 #[derive(Drop)]
 pub(crate) struct Frame {
     front: String,
@@ -20,7 +20,7 @@ impl Frame {
         }
     }
 
-    /// The frame of these lines, each behind an end of a line, or none where they have no place for
+    /// The frame of these lines, each after an end of a line, or none where they have no place for
     /// a text.
     pub(crate) fn of(alloc: Global, lines: &str) -> Result<Option<Frame>, AllocError> {
         let lines = lines.strip_prefix('\n').unwrap_or(lines);
@@ -45,7 +45,7 @@ pub(crate) struct Row {
 }
 
 /// The text without the blank in front of it.
-fn behind_blank(text: &str) -> &str {
+fn after_blank(text: &str) -> &str {
     text.strip_prefix(' ').unwrap_or(text)
 }
 
@@ -79,16 +79,16 @@ impl Row {
             line,
             times,
             want,
-            text: String::from_str(alloc, behind_blank(text))?,
+            text: String::from_str(alloc, after_blank(text))?,
         })
     }
 
-    /// Takes a line that goes on with the text, without the blanks in front of it: behind a bar a
-    /// new line, behind a plus the same one. Answers whether it is either.
+    /// Takes a line that goes on with the text, without the blanks in front of it: after a bar a
+    /// new line, after a plus the same one. Answers whether it is either.
     pub(crate) fn go_on(&mut self, line: &str) -> Result<bool, AllocError> {
         if let Some(text) = line.strip_prefix('|') {
             self.text.push('\n')?;
-            self.text.push_str(behind_blank(text))?;
+            self.text.push_str(after_blank(text))?;
             return Ok(true);
         }
         let Some(text) = line.strip_prefix("+ ") else {
@@ -151,7 +151,7 @@ pub(crate) fn words_of(alloc: Global, line: &str) -> Result<Vec<String>, AllocEr
     Ok(words)
 }
 
-/// Puts a piece so many times behind a text.
+/// Puts a piece so many times after a text.
 fn push_times(made: &mut String, piece: &str, times: usize) -> Result<(), AllocError> {
     for _turn in 0..times {
         made.push_str(piece)?;
@@ -159,7 +159,7 @@ fn push_times(made: &mut String, piece: &str, times: usize) -> Result<(), AllocE
     Ok(())
 }
 
-/// Puts a text behind another one, with each piece between two `@` so many times.
+/// Puts a text after another one, with each piece between two `@` so many times.
 fn push_repeated(made: &mut String, text: &str, times: usize) -> Result<(), AllocError> {
     for (at, piece) in text.split('@').enumerate() {
         push_times(made, piece, if at % 2 == 1 { times } else { 1 })?;

@@ -90,7 +90,7 @@ fn outside_part(alloc: Global, word: &str, rest: &str) -> Result<Option<Part>, A
     Ok(None)
 }
 
-/// The part of a case that a word and what stands behind it say.
+/// The part of a case that a word and what comes after it say.
 fn part_of(alloc: Global, word: &str, rest: &str) -> Result<Option<Part>, AllocError> {
     if word == "status" {
         return Ok(rest.parse::<u8>().ok().map(Part::Status));

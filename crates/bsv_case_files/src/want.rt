@@ -1,7 +1,7 @@
 use crate::kind::Kind;
 use std::alloc::{AllocError, Global};
 
-/// A text that stands in a case file, or in a file of its own.
+/// A text that is in a case file, or in a file of its own.
 #[derive(Drop)]
 pub enum Text {
     Given(String),

@@ -17,7 +17,7 @@ fn is_past(answer: &Answer, kind: Kind) -> bool {
         Status::Done => true,
         Status::Refused => match refused_kind(answer) {
             None => true,
-            Some(found) => found.is_behind(kind),
+            Some(found) => found.is_later(kind),
         },
         _ => false,
     }

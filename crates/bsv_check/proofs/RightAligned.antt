@@ -44,7 +44,7 @@ module _ {V : Type 0} (number : V → ℕ) where
   numbered_more n [] name v all is = let same : number v ≡ n = omega (arith, is) in (same, tt)
   numbered_more n (e ∷ es) name v all is = (all.0, numbered_more (n + 1) es name v all.1 (omega (arith, is)))
 
-  -- the entry that is found stands at the place of its number
+  -- the entry that is found is at the place of its number
   pub found_at : (n : ℕ) (name : List ℕ) (es : Entries V) (v : V) → NumberedFrom n es → found name es ≡ Some v → (i : ℕ) × (number v ≡ n + i) × (slice_get (map (λ e. e.1) es) i ≡ Some v)
   found_at n name [] v all e = absurd cc
   found_at n name (x ∷ es) v all e = by (bytes_eq name x.0) (found_at (n + 1) name es v all.1) e where
@@ -59,7 +59,7 @@ module _ {V : Type 0} (number : V → ℕ) where
         let next : n + 1 + more.0 ≡ n + suc more.0 = omega arith in
         (suc more.0, more.1 ∙ next, more.2)
 
-  -- a name that is defined has a number below their count, whatever comes behind
+  -- a name that is defined has a number below their count, whatever comes after
   pub defined_number : (n : ℕ) (name : List ℕ) (es more : Entries V) → NumberedFrom n es → is_defined name es ≡ true → (v : V) × (found name (es ++ more) ≡ Some v) × (number v < n + length es)
   defined_number n name [] more all e = absurd cc
   defined_number n name (x ∷ es) more all e = by (bytes_eq name x.0) (defined_number (n + 1) name es more all.1) e where
@@ -242,9 +242,9 @@ new_module h p d name ahead a own = by (is_defined name h.modules) refl where
       (subst (λ n. has_number n (option_map (λ (c : Header). c.number) (found name (h.modules ++ ahead.modules))) ≡ true) (faces_many h.modules d.modules a)
       (subst (λ es. has_number (length d.modules) (option_map (λ (c : Header). c.number) (found name es)) ≡ true) ahead.modules_are own)))
 
-function_behind : (h p : Program) (s : Span) (f : WrittenFunction) (d next : Done) → Ahead h p → Aligned h d → item_step p (item.Function s f) d ≡ Ok next → Aligned (header_step (item.Function s f) h) next
+function_after : (h p : Program) (s : Span) (f : WrittenFunction) (d next : Done) → Ahead h p → Aligned h d → item_step p (item.Function s f) d ≡ Ok next → Aligned (header_step (item.Function s f) h) next
 unfolding header_step item_step function_step
-function_behind h p s f d next ahead a e =
+function_after h p s f d next ahead a e =
     let fs = went (function_case p (length d.functions) f >=> λ r. Ok (d.functions ++ r ∷ [])) _ next e in
     let r = went (function_case p (length d.functions) f) (λ r. Ok (d.functions ++ r ∷ [])) fs.0 fs.1 in
     let seen = function_seen p (length d.functions) f r.0 r.1 in
@@ -257,9 +257,9 @@ function_behind h p s f d next ahead a e =
     let same = ap (λ xs. record d { functions = xs }) (ok_is (d.functions ++ r.0 ∷ []) fs.0 r.2) ∙ ok_is (record d { functions = fs.0 }) next fs.2 in
     subst (λ q. Aligned q next) (ap (λ o. or_kept o h) (sym is)) (subst (Aligned whole) same aligned)
 
-module_behind : (h p : Program) (s : Span) (m : WrittenModule) (d next : Done) → Ahead h p → Aligned h d → item_step p (item.Module s m) d ≡ Ok next → Aligned (header_step (item.Module s m) h) next
+module_after : (h p : Program) (s : Span) (m : WrittenModule) (d next : Done) → Ahead h p → Aligned h d → item_step p (item.Module s m) d ≡ Ok next → Aligned (header_step (item.Module s m) h) next
 unfolding header_step item_step module_step
-module_behind h p s m d next ahead a e =
+module_after h p s m d next ahead a e =
     let ms = went (module_case p (length d.modules) m >=> λ r. Ok (d.modules ++ r ∷ [])) _ next e in
     let r = went (module_case p (length d.modules) m) (λ r. Ok (d.modules ++ r ∷ [])) ms.0 ms.1 in
     let seen = module_seen p (length d.modules) m r.0 r.1 in
@@ -274,8 +274,8 @@ module_behind h p s m d next ahead a e =
 
 step_aligned : (h p : Program) (i : Item) (d next : Done) → Ahead h p → Aligned h d → item_step p i d ≡ Ok next → Aligned (header_step i h) next
 unfolding header_step item_step
-step_aligned h p (item.Function s f) d next ahead a e = function_behind h p s f d next ahead a e
-step_aligned h p (item.Module s m) d next ahead a e = module_behind h p s m d next ahead a e
+step_aligned h p (item.Function s f) d next ahead a e = function_after h p s f d next ahead a e
+step_aligned h p (item.Module s m) d next ahead a e = module_after h p s m d next ahead a e
 step_aligned h p (item.Import s x) d next ahead a e = subst (Aligned h) (ok_is d next e) a
 step_aligned h p (item.Typedef s x) d next ahead a e = subst (Aligned h) (ok_is d next e) a
 step_aligned h p (item.Interface s x) d next ahead a e = subst (Aligned h) (ok_is d next e) a

@@ -36,9 +36,9 @@ use Rattle.bsv_typing.proofs.Bound.{tested_step}
 use Rattle.bsv_typing.proofs.RightOperands.{strict_value}
 use Rattle.bsv_statements.proofs.RightCalls.{ok_is, went}
 use Rattle.bsv_modules.specs.Modules.{Header, params_at, are_named}
-use Rattle.bsv_modules.specs.Programs.{Types, shapes_of, limits_of, type_names, no_types, types_behind, Program, env_of, value_kind, value_params, written_at, function_header, function_case, module_case}
+use Rattle.bsv_modules.specs.Programs.{Types, shapes_of, limits_of, type_names, no_types, types_after, Program, env_of, value_kind, value_params, written_at, function_header, function_case, module_case}
 use Rattle.bsv_check.specs.Headers.{over_items, over_all, or_kept, type_step, all_types, no_headers, all_headers, AtPlace, ◌>==◌}
-use Rattle.bsv_check.specs.Checked.{Done, nothing, function_step, module_step, item_step, all_items, package_step, all_packages, Made, made_of, bodies, unless_blamed, typing}
+use Rattle.bsv_check.specs.Checked.{Done, nothing, function_step, module_step, item_step, all_items, package_step, all_packages, ProgramParts, made_of, bodies, unless_blamed, typing}
 use Rattle.bsv_names.specs.declared.place.Place.{Place}
 use Rattle.bsv_check.specs.Blame.{Blame, headers_blame}
 use Rattle.bsv_check.specs.Rightness.{is_counted}
@@ -79,8 +79,8 @@ start_kept = record {
 
 step_kept : (i : Item) (t : Types) → Kept t → Kept (type_step i t)
 unfolding type_step
-step_kept i t kept = by (types_behind i t) refl where
-  by : (o : Or Types) → types_behind i t ≡ o → Kept (or_kept o t)
+step_kept i t kept = by (types_after i t) refl where
+  by : (o : Or Types) → types_after i t ≡ o → Kept (or_kept o t)
   by (Ok next) is = (item_right i t next kept is).kept
   by (Err s) is = kept
 
@@ -349,13 +349,13 @@ start_typed : (p : Program) → AllTyped p nothing
 start_typed p = record { functions = λ i x e. absurd cc; modules = λ i x e. absurd cc }
 
 -- what has a typing has the typing of its bodies, since nothing is blamed
-unblamed : (p : Program) (b : Blame) (ps : List Package) (m : Made) → unless_blamed p b ps ≡ Ok m → bodies p ps ≡ Ok m
+unblamed : (p : Program) (b : Blame) (ps : List Package) (m : ProgramParts) → unless_blamed p b ps ≡ Ok m → bodies p ps ≡ Ok m
 unblamed p b ps m e = by b.fault e where
   by : (o : Option Place) → unless_blamed p (record b { fault = o }) ps ≡ Ok m → bodies p ps ≡ Ok m
   by None e = e
   by (Some first) e = absurd cc
 
-pub programs_right : (ps : List Package) (m : Made) → typing true ps ≡ Ok m → is_counted m ≡ true → is_right m.enums m.structs m.interfaces m.functions m.modules ≡ true
+pub programs_right : (ps : List Package) (m : ProgramParts) → typing true ps ≡ Ok m → is_counted m ≡ true → is_right m.enums m.structs m.interfaces m.functions m.modules ≡ true
 unfolding typing all_headers all_types is_counted
 programs_right ps m e counts =
     let p = all_headers true ps in
@@ -364,9 +364,9 @@ programs_right ps m e counts =
     let kept = subst Kept (sym (all_header_types ps start)) (all_kept ps (no_types true) start_kept) in
     let aligned = packages_aligned ps 0 start p nothing d.0 (ahead_self p) (start_aligned (all_types true ps)) d.1 in
     let typed = packages_typed p 0 ps nothing d.0 (start_typed p) d.1 in
-    subst (λ (x : Made). is_right x.enums x.structs x.interfaces x.functions x.modules ≡ true) d.2
-    (few_right p d.0 kept aligned typed (subst (λ (x : Made). is_counted x ≡ true) (sym d.2) counts)) where
-      packaged_all : (t : Types) (r : AtPlace Done) (m : Made) → (r >== λ d. Ok (made_of t d)) ≡ Ok m → (d : Done) × (r ≡ Ok d) × (made_of t d ≡ m)
+    subst (λ (x : ProgramParts). is_right x.enums x.structs x.interfaces x.functions x.modules ≡ true) d.2
+    (few_right p d.0 kept aligned typed (subst (λ (x : ProgramParts). is_counted x ≡ true) (sym d.2) counts)) where
+      packaged_all : (t : Types) (r : AtPlace Done) (m : ProgramParts) → (r >== λ d. Ok (made_of t d)) ≡ Ok m → (d : Done) × (r ≡ Ok d) × (made_of t d ≡ m)
       packaged_all t (Ok d) m e = (d, refl, at_place (made_of t d) m e)
       packaged_all t (Err s) m e = absurd cc
 

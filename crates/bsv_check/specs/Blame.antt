@@ -18,9 +18,9 @@ use Rattle.bsv_types.specs.Methods.{value}
 use Rattle.bsv_types.specs.declared.asked.Owner.TheVariants as owner
 use Rattle.bsv_types.specs.declared.definitions.Param.{Param}
 use Rattle.bsv_statements.specs.Bodies.{Or, ◌>=>◌, sure}
-use Rattle.bsv_modules.specs.Modules.{Site, asked, defines_all}
-use Rattle.bsv_modules.specs.Programs.{Types, no_types, types_behind, type_names, Program, env_of, function_header, param_scopes, module_header, site_of, opening_state}
-use Rattle.bsv_check.specs.Headers.{AtPlace, placed, ◌>==◌, over_items, headers_behind, type_step, header_step, all_types, no_headers}
+use Rattle.bsv_modules.specs.Modules.{ModuleContext, asked, defines_all}
+use Rattle.bsv_modules.specs.Programs.{Types, no_types, types_after, type_names, Program, env_of, function_header, param_scopes, module_header, site_of, opening_state}
+use Rattle.bsv_check.specs.Headers.{AtPlace, placed, ◌>==◌, over_items, headers_after, type_step, header_step, all_types, no_headers}
 use Rattle.bsv_check.specs.Judged.{Judged, fine, all_judged}
 use Rattle.bsv_check.specs.JudgedModules.{body_judged, direct_judged}
 
@@ -60,7 +60,7 @@ judged number i leaning (Err s) b = without_typing i leaning (in_package number 
 
 -- an item that defines types, which may name those before it
 unfoldable pub type_blame : ℕ → Item → Types → Blame → Blame
-type_blame number i t b = judged number i (item_leans b.untyped i) (types_behind i t) b
+type_blame number i t b = judged number i (item_leans b.untyped i) (types_after i t) b
 
 -- a function may call those before it alone: of these it is known here which have no typing
 abbrev pub with_reach : Item → Blame → Blame
@@ -69,7 +69,7 @@ with_reach _ b = b
 
 -- the header of a function or a module, which may name all types
 unfoldable pub header_blame : ℕ → Item → Program → Blame → Blame
-header_blame number i p b = with_reach i (judged number i (header_leans b.untyped i) (headers_behind i p) b)
+header_blame number i p b = with_reach i (judged number i (header_leans b.untyped i) (headers_after i p) b)
 
 module _ {A : Type 0} (step : Item → A → A) (blame : ℕ → Item → A → Blame → Blame) where
   abbrev pub items_blame : ℕ → List Item → A → Blame → Blame
@@ -116,7 +116,7 @@ function_judged p b f =
     else (function_header p f >=> λ h. function_body_judged p (own_number (found f.name.name p.functions)) (within_reach b f.name.name) f h.0 h.1)
 
 -- the statements of a module, in the scope of its parameters
-abbrev pub module_body_judged : Site → Untyped → WrittenModule → List Param → Judged
+abbrev pub module_body_judged : ModuleContext → Untyped → WrittenModule → List Param → Judged
 module_body_judged site u m ps =
     param_scopes m.span ps >=> λ inner. sure m.span (defines_all site.wanted m.body) true >=> λ all.
     fine (all_judged (map (direct_judged (record { untyped = u; site = site })) m.body) (with_params true m.params ([] ∷ [])) (opening_state site inner))

@@ -20,7 +20,7 @@ use Rattle.bsv_check.specs.Headers.{AtPlace, placed, ◌>==◌, all_headers}
 use Rattle.bsv_check.specs.Blame.{Blame, headers_blame, packages_judged, told}
 
 -- what a program is typed as
-pub record Made : Type 0 where
+pub record ProgramParts : Type 0 where
   pub enums : List Enum
   pub structs : List Struct
   pub interfaces : List Interface
@@ -60,29 +60,29 @@ abbrev pub all_packages : Program → ℕ → List Package → Done → AtPlace 
 all_packages p number [] d = Ok d
 all_packages p number (x ∷ xs) d = package_step p number x d >== all_packages p (number + 1) xs
 
-abbrev pub made_of : Types → Done → Made
+abbrev pub made_of : Types → Done → ProgramParts
 made_of t d = record { enums = t.enums; structs = t.structs; interfaces = t.interfaces; functions = d.functions; modules = d.modules }
 
 -- the bodies of a program whose types and headers have a typing
-abbrev pub bodies : Program → List Package → AtPlace Made
+abbrev pub bodies : Program → List Package → AtPlace ProgramParts
 bodies p ps = all_packages p 0 ps nothing >== λ d. Ok (made_of p.types d)
 
--- the fault of a type or a header, if one is blamed; behind it or in front of it may be one of a body
-abbrev pub unless_blamed : Program → Blame → List Package → AtPlace Made
+-- the fault of a type or a header, if one is blamed; after it or in front of it may be one of a body
+abbrev pub unless_blamed : Program → Blame → List Package → AtPlace ProgramParts
 unless_blamed p b ps = by b.fault where
-  by : Option Place → AtPlace Made
+  by : Option Place → AtPlace ProgramParts
   by None = bodies p ps
   by (Some first) = Err (told first (packages_judged p b 0 ps))
 
 -- the typing of a program, or the place of the first fault that is blamed
-unfoldable pub typing : Bool → List Package → AtPlace Made
+unfoldable pub typing : Bool → List Package → AtPlace ProgramParts
 typing strict ps = unless_blamed (all_headers strict ps) (headers_blame strict ps) ps
 
 -- widths and fits left aside
-abbrev pub loosely : List Package → AtPlace Made
+abbrev pub loosely : List Package → AtPlace ProgramParts
 loosely ps = typing false ps
 
-abbrev pub strictly : List Package → AtPlace Made
+abbrev pub strictly : List Package → AtPlace ProgramParts
 strictly ps = typing true ps
 
 -- ---- the first refusal
@@ -105,26 +105,26 @@ name_refusal None None None = None
 unfoldable pub refused_names : List Package → Option Refused
 refused_names ps = name_refusal (first_twice ps) (first_bad_attribute ps) (first_unknown ps)
 
-abbrev pub or_type_fault : AtPlace Made → Result Made Refused
+abbrev pub or_type_fault : AtPlace ProgramParts → Result ProgramParts Refused
 or_type_fault (Ok m) = Ok m
 or_type_fault (Err p) = Err (type_fault p)
 
-abbrev pub or_width_fault : AtPlace Made → Result Made Refused
+abbrev pub or_width_fault : AtPlace ProgramParts → Result ProgramParts Refused
 or_width_fault (Ok m) = Ok m
 or_width_fault (Err p) = Err (width_fault p)
 
-abbrev pub both : Result Made Refused → Result Made Refused → Result Made Refused
+abbrev pub both : Result ProgramParts Refused → Result ProgramParts Refused → Result ProgramParts Refused
 both (Ok m) s = s
 both (Err r) s = Err r
 
 -- the program as it is typed strictly, where it has both typings
-unfoldable pub typed : List Package → Result Made Refused
+unfoldable pub typed : List Package → Result ProgramParts Refused
 typed ps = both (or_type_fault (loosely ps)) (or_width_fault (strictly ps))
 
-abbrev pub unless_refused : Option Refused → Result Made Refused → Result Made Refused
+abbrev pub unless_refused : Option Refused → Result ProgramParts Refused → Result ProgramParts Refused
 unless_refused None t = t
 unless_refused (Some r) t = Err r
 
 -- faults of names and attributes come before those of types, wherever they stand
-unfoldable pub checked : List Package → Result Made Refused
+unfoldable pub checked : List Package → Result ProgramParts Refused
 checked ps = unless_refused (refused_names ps) (typed ps)

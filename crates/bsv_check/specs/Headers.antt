@@ -7,7 +7,7 @@ use Rattle.bsv_ast.specs.Packages.{items_of}
 use Rattle.bsv_names.specs.Faults.{in_package}
 use Rattle.bsv_names.specs.declared.place.Place.{Place}
 use Rattle.bsv_statements.specs.Bodies.{Or}
-use Rattle.bsv_modules.specs.Programs.{Types, no_types, types_behind, Program, with_function, with_module}
+use Rattle.bsv_modules.specs.Programs.{Types, no_types, types_after, Program, with_function, with_module}
 
 -- with the number of the package in which a fault stands
 abbrev pub AtPlace : Type 0 → Type 0
@@ -38,18 +38,18 @@ or_kept (Ok y) x = y
 or_kept (Err s) x = x
 
 unfoldable pub type_step : Item → Types → Types
-type_step i t = or_kept (types_behind i t) t
+type_step i t = or_kept (types_after i t) t
 
 unfoldable pub all_types : Bool → List Package → Types
 all_types strict ps = over_all type_step ps (no_types strict)
 
-abbrev pub headers_behind : Item → Program → Or Program
-headers_behind (item.Function s f) p = with_function p f
-headers_behind (item.Module s m) p = with_module p m
-headers_behind _ p = Ok p
+abbrev pub headers_after : Item → Program → Or Program
+headers_after (item.Function s f) p = with_function p f
+headers_after (item.Module s m) p = with_module p m
+headers_after _ p = Ok p
 
 unfoldable pub header_step : Item → Program → Program
-header_step i p = or_kept (headers_behind i p) p
+header_step i p = or_kept (headers_after i p) p
 
 abbrev pub no_headers : Types → Program
 no_headers t = record { types = t; functions = []; modules = [] }

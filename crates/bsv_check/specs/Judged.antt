@@ -30,7 +30,7 @@ abbrev pub alone : Bool → Judged → Judged
 alone true x = Ok tt
 alone false x = x
 
--- from the variables in scope, and what is known of those with a typing, to those behind
+-- from the variables in scope, and what is known of those with a typing, to those after
 abbrev pub Judges : Type 0 → Type 0
 Judges S = Variables → S → Or (Variables × S)
 

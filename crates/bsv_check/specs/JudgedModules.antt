@@ -27,7 +27,7 @@ use Rattle.bsv_context.specs.Env.{Env}
 use Rattle.bsv_statements.specs.Returns.{returns}
 use Rattle.bsv_context.specs.Written.{TypeNames}
 use Rattle.bsv_modules.specs.Modules as modules
-use Rattle.bsv_modules.specs.Modules.{Site, State, task, task_of, scoped, asked, method_header, wanted_method, with_method, instance_case, array_case, place_case, declare_case, assign_case}
+use Rattle.bsv_modules.specs.Modules.{ModuleContext, State, task, task_of, scoped, asked, method_header, wanted_method, with_method, instance_case, array_case, place_case, declare_case, assign_case}
 use Rattle.bsv_check.specs.Judged.{Judged, Judges, leaf, all_judged, Judge, Judging, expr_judged, stmts_judged, head_opened}
 
 -- an arm of an `if` of a module, and the condition in front of it
@@ -60,7 +60,7 @@ body_judged u env types s base (action_value k) b = giving_judged (judging_of u 
 -- what the statements of a module may name, and what has no typing
 pub record InModule : Type 0 where
   pub untyped : Untyped
-  pub site : Site
+  pub site : ModuleContext
 
 -- module bodies are no actions
 abbrev pub judging : InModule → Judging

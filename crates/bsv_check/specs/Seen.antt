@@ -14,12 +14,12 @@ use Rattle.bsv_check.specs.declared.fault.CheckFault.{CheckFault}
 use Rattle.bsv_check.specs.declared.fault.CheckFault.TheVariants as fault
 use Rattle.bsv_check.specs.Headers.{AtPlace}
 use Rattle.bsv_check.specs.Blame.{Blame}
-use Rattle.bsv_check.specs.Checked.{Done, Made, made_of, Refused, twice_defined, bad_attribute, unknown_name, type_fault, width_fault}
+use Rattle.bsv_check.specs.Checked.{Done, ProgramParts, made_of, Refused, twice_defined, bad_attribute, unknown_name, type_fault, width_fault}
 
 abbrev pub done_of : code_done.Done → Done
 done_of d = record { functions = d.functions; modules = d.modules }
 
-abbrev pub made_by : code_parts.Parts → Made
+abbrev pub made_by : code_parts.Parts → ProgramParts
 made_by x = made_of (types_of x.types) (done_of x.done)
 
 -- what is blamed so far
@@ -39,7 +39,7 @@ GivesPlace view (Err e) given = FailsAtPlace e given
 -- ---- answers
 
 -- the parts of a typed program
-abbrev pub typed_seen : Typed → Made
+abbrev pub typed_seen : Typed → ProgramParts
 typed_seen t = record { enums = t.enums; structs = t.structs; interfaces = t.interfaces; functions = t.functions; modules = t.modules }
 
 -- a refusal that the code gives, which is one of these; nothing where memory ran out
@@ -52,7 +52,7 @@ Refusing (fault.TypeFault place) is = is (type_fault place)
 Refusing (fault.WidthFault place) is = is (width_fault place)
 
 -- what the code answers, as it is seen, is what the definition gives, unless memory ran out
-abbrev pub Answers : {X : Type 0} → (X → Made) → Result X CheckFault → Result Made Refused → Type 0
+abbrev pub Answers : {X : Type 0} → (X → ProgramParts) → Result X CheckFault → Result ProgramParts Refused → Type 0
 Answers view (Ok x) given = given ≡ Ok (view x)
 Answers view (Err e) given = Refusing e (λ r. given ≡ Err r)
 
@@ -62,6 +62,6 @@ Refuses (Ok x) given = given ≡ None
 Refuses (Err e) given = Refusing e (λ r. given ≡ Some r)
 
 -- the code answers with this fault at a place exactly where the definition refuses so, unless memory ran out
-abbrev pub Stands : (Place → CheckFault) → (Place → Refused) → Result Typed CheckFault → Result Made Refused → Type 0
+abbrev pub Stands : (Place → CheckFault) → (Place → Refused) → Result Typed CheckFault → Result ProgramParts Refused → Type 0
 Stands code refused result given =
     (place : Place) → (result ≡ Err (code place) → given ≡ Err (refused place)) × (given ≡ Err (refused place) → (result ≡ Err fault.OutOfMemory) ⊎ (result ≡ Err (code place)))

@@ -81,7 +81,7 @@ impl Blame {
         Ok(())
     }
 
-    /// The functions without a typing that a function may call: they stand before it.
+    /// The functions without a typing that a function may call: they come before it.
     pub(crate) fn add_reach(&mut self, alloc: Global, item: &Item) -> Result<(), OutOfMemory>
         ensures { OnOk result (blame_of self.new ≡ spec.with_reach item.now (blame_of self.old)) }
     {

@@ -28,7 +28,7 @@ use std::alloc::Global;
 pub(crate) enum PlaceFail {
     /// Memory ran out.
     Memory,
-    /// What stands at this place has none.
+    /// What is at this place has none.
     At(Place),
 }
 

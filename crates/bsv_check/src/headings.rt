@@ -138,7 +138,7 @@ fn all_types(
 /// The heading of the function or the module that an item defines.
 fn announce(alloc: Global, program: &mut Program, item: &Item) -> Result<(), BodyFail>
     ensures given { GivesAt (λ done. program_of program.new) result
-        (spec.headers_behind item.now (program_of program.old)) }
+        (spec.headers_after item.now (program_of program.old)) }
     ensures kept { KeptAt result (program_of program.new ≡ program_of program.old) }
 {
     match item {

@@ -14,7 +14,7 @@ use crate::judged_modules::{ModuleJudge, judge_body};
 use bsv_ast::{Function as WrittenFunction, Item, Module as WrittenModule, Package};
 use bsv_bits::{Name, OutOfMemory};
 use bsv_modules::{
-    Program, Site, State, asked, defines_all, function_heading, module_heading, no_methods,
+    Program, ModuleContext, State, asked, defines_all, function_heading, module_heading, no_methods,
     param_scopes,
 };
 use bsv_names::{Place, Reach, Untyped, Variables};
@@ -68,7 +68,7 @@ fn judge_function_body(
     )
 }
 
-/// A function has no fault of its own behind its header.
+/// A function has no fault of its own after its header.
 #[tactic(auto, unfolding(crate::specs::Blame::function_judged))]
 fn judge_function(
     alloc: Global,
@@ -106,7 +106,7 @@ fn judge_module_body(
         (untyped_of untyped.now) written.now params.now) }
 {
     let scopes = param_scopes(alloc, written.span, params)?;
-    let site = Site {
+    let site = ModuleContext {
         context: &program.context,
         modules: &program.modules,
         interface,
@@ -127,7 +127,7 @@ fn judge_module_body(
     ModuleJudge { alloc, reach, site }.all_direct(&mut names, &mut state, stmts)
 }
 
-/// A module has no fault of its own behind its header.
+/// A module has no fault of its own after its header.
 #[tactic(auto, using(bsv_modules::proofs::Views::lengths), unfolding(crate::specs::Blame::module_judged))]
 fn judge_module(
     alloc: Global,
@@ -157,7 +157,7 @@ fn judge_module(
     )
 }
 
-/// An item has no fault of its own behind its header.
+/// An item has no fault of its own after its header.
 fn judge_item(
     alloc: Global,
     program: &mut Program,
@@ -175,7 +175,7 @@ fn judge_item(
     }
 }
 
-/// The items of a package have no fault of their own behind their headers.
+/// The items of a package have no fault of their own after their headers.
 fn judge_items(
     alloc: Global,
     program: &mut Program,
@@ -194,7 +194,7 @@ fn judge_items(
     Ok(())
 }
 
-/// The items of the package of this number have no fault of their own behind their headers.
+/// The items of the package of this number have no fault of their own after their headers.
 fn judge_package(
     alloc: Global,
     program: &mut Program,

@@ -19,7 +19,7 @@ use bsv_ast::{Body, Boxed, Expr, Head, Method, ModuleBranch, ModuleStmt, Rule, S
 use bsv_bits::{Name, OutOfMemory};
 use bsv_context::{Context, FoundMethod, Variable, is_lower};
 use bsv_modules::{
-    Site, State, asked, declare_params, level, method_header, nested, stand, wanted,
+    ModuleContext, State, asked, declare_params, level, method_header, nested, stand, wanted,
 };
 use bsv_names::{Reach, Variables};
 use bsv_scopes::Scopes;
@@ -34,7 +34,7 @@ pub(crate) struct ModuleJudge<'a> {
     /// What has no typing.
     pub(crate) reach: Reach<'a>,
     /// What the statements of the module may name.
-    pub(crate) site: Site<'a>,
+    pub(crate) site: ModuleContext<'a>,
 }
 
 /// A body that gives a value of the type.
@@ -456,7 +456,7 @@ impl ModuleJudge<'_> {
         Ok(())
     }
 
-    /// What stands behind a last `else`.
+    /// What comes after a last `else`.
     #[cycle(judged_modules)]
     fn last(
         self,

@@ -13,7 +13,7 @@ ghost use Rattle.bsv_check.specs.JudgedSeen.{judging};
 
 use bsv_ast::{Boxed, Branch, CaseArm, Condition, Expr, Head, Span, Stmt};
 use bsv_bits::Name;
-use bsv_context::{Made, Variable};
+use bsv_context::{TypedExpr, Variable};
 use bsv_names::{Reach, Variables};
 use bsv_scopes::Scopes;
 use bsv_statements::{BodyFail, Opening, Task, asked, checked, head, of_type, open_arm, statement};
@@ -154,7 +154,7 @@ impl Judge<'_> {
         Ok(())
     }
 
-    /// The arm behind a last `else` or `default`.
+    /// The arm after a last `else` or `default`.
     #[cycle(judged_statements)]
     fn last(
         self,
@@ -251,7 +251,7 @@ impl Judge<'_> {
         Ok(())
     }
 
-    /// An arm behind its condition.
+    /// An arm after its condition.
     #[cycle(judged_statements)]
     #[tactic(auto, using(bsv_context::proofs::Layers::closes))]
     fn arm(
@@ -456,14 +456,14 @@ impl Judge<'_> {
             return Ok(());
         }
         let typed = checked(self.alloc, &self.task, scopes, span, subject, None)?;
-        let Made { ty, expr } = typed;
+        let TypedExpr { ty, expr } = typed;
         drop(expr);
         self.all_labels(names, scopes, span, &ty, arms)
     }
 
     /// An arm of a `case`.
     #[cycle(judged_statements)]
-    fn behind_labels(
+    fn after_labels(
         self,
         names: &mut Variables,
         scopes: &mut Scopes<Variable>,
@@ -491,7 +491,7 @@ impl Judge<'_> {
     {
         let mut rest = arms;
         while let Some((case, after)) = rest.split_first() {
-            self.behind_labels(names, scopes, case)?;
+            self.after_labels(names, scopes, case)?;
             rest = after;
         }
         Ok(())

@@ -10,7 +10,7 @@
 //! their own), and `specs/Headers.antt` (all types and headers). `specs/Rightness.antt` says what is promised of a
 //! typed program, and `specs/Seen.antt` what the definitions see of the code.
 //!
-//! What is held while something may still fail stands in a `Boxed`: an early end then drops it in one step, which
+//! What is held while something may still fail is in a `Boxed`: an early end then drops it in one step, which
 //! keeps the proof of the function short.
 #![tactic(auto)]
 

@@ -4,10 +4,10 @@ use Rattle.std.proofs.lemmas.Bool.{and_right, both_ways, cases_Bool}
 use Rattle.bsv_bits.specs.Words.{Bits}
 use Rattle.bsv_prim.specs.declared.part.Part.{Part}
 use Rattle.bsv_design.specs.declared.schedule.Schedule.{Schedule}
-use Rattle.bsv_design.specs.Schemes.{Scheme, Asking, Called, Look, answers, seen, all_hold, all_open, ready, calls, taken_actions}
-use Rattle.bsv_design.specs.Serial.{by_rank}
-use Rattle.bsv_design.specs.States.{emptied}
-use Rattle.bsv_design.specs.Traces.{Trace}
+use Rattle.bsv_design.specs.scheme.Schemes.{Scheme, Asking, Called, Look, answers, seen, all_hold, all_open, ready, calls, taken_actions}
+use Rattle.bsv_design.specs.scheme.Serial.{by_rank}
+use Rattle.bsv_design.specs.scheme.States.{emptied}
+use Rattle.bsv_design.specs.scheme.Traces.{Trace}
 use Rattle.bsv_schedule.specs.relating.Elements.{relating}
 use Rattle.bsv_guard.specs.Sound.{IsSound}
 use Rattle.bsv_guard.proofs.Keeps.{sound_keeps}

@@ -11,16 +11,16 @@ use Rattle.bsv_design.specs.declared.element.Element.{Element}
 use Rattle.bsv_design.specs.declared.kind.Kind.{Kind}
 use Rattle.bsv_design.specs.declared.schedule.Schedule.{Schedule}
 use Rattle.bsv_design.specs.declared.tree.Pair.{Pair}
-use Rattle.bsv_design.specs.Designs.{IsDesign, IsRuleIn}
-use Rattle.bsv_design.specs.Roles.{is_rule, is_value}
-use Rattle.bsv_design.specs.Schemes.{Scheme, Outline, Asking, AreAlike, design_scheme, outline, ports_of, given}
-use Rattle.bsv_design.specs.Seen.{blueprint}
-use Rattle.bsv_design.specs.States.{FitsKinds, AreWordsOf}
+use Rattle.bsv_design.specs.design.Designs.{IsDesign, IsRuleIn}
+use Rattle.bsv_design.specs.tree.Roles.{is_rule, is_value}
+use Rattle.bsv_design.specs.scheme.Schemes.{Scheme, Outline, Asking, AreAlike, design_scheme, outline, ports_of, given}
+use Rattle.bsv_design.specs.tree.Seen.{design_data}
+use Rattle.bsv_design.specs.scheme.States.{FitsKinds, AreWordsOf}
 use Rattle.bsv_schedule.specs.relating.Elements.{relating, has_role, edges_of, is_ordering, is_urging, preempts, is_preempting}
-use Rattle.bsv_schedule.specs.executing.Orders.{Executes}
+use Rattle.bsv_schedule.specs.execution_order.Orders.{Executes}
 use Rattle.bsv_schedule.specs.relating.Relating.{Relating, Agrees}
 use Rattle.bsv_schedule.specs.stopping.Stops.{AreStops}
-use Rattle.bsv_schedule.specs.urging.Orders.{Urges}
+use Rattle.bsv_schedule.specs.urgency_order.Orders.{Urges}
 use Rattle.bsv_schedule.specs.relating.Uses.{Among}
 use Rattle.bsv_schedule.proofs.RelationsLemmas.{agrees_design}
 use Rattle.bsv_schedule.proofs.UsesLemmas.{any_of}
@@ -32,10 +32,10 @@ use Rattle.bsv_guard.proofs.Transport.{sound_alike, fitting_alike}
 use Rattle.bsv_clock.specs.Grounds.{Fit, IsLawful, IsScheduleOf, KeepsRules, PreemptsNameRules}
 use Rattle.bsv_clock.proofs.Propositions.{lawful_prop}
 
-pub lawful_design : (d : Design) → KeepsRules (design_scheme (blueprint d)) → IsLawful (design_scheme (blueprint d))
+pub lawful_design : (d : Design) → KeepsRules (design_scheme (design_data d)) → IsLawful (design_scheme (design_data d))
 lawful_design d rules =
-    ∥∥₁_elim d.right (lawful_prop (design_scheme (blueprint d)))
-    (λ (right : IsDesign (blueprint d)). record { sound = design_is_sound (blueprint d) right; fitting = design_is_fitting (blueprint d) right; rules = rules })
+    ∥∥₁_elim d.right (lawful_prop (design_scheme (design_data d)))
+    (λ (right : IsDesign (design_data d)). record { sound = design_is_sound (design_data d) right; fitting = design_is_fitting (design_data d) right; rules = rules })
 
 -- ---- rules
 
@@ -59,14 +59,14 @@ place_in [] x h = absurd h
 place_in (y ∷ xs) x (inl e) = (zero, ap Some (sym e))
 place_in (y ∷ xs) x (inr h) = let k = place_in xs x h in (suc k.0, k.1)
 
-pub named : (d : Design) → PreemptsNameRules (relating (design_scheme (blueprint d)))
+pub named : (d : Design) → PreemptsNameRules (relating (design_scheme (design_data d)))
 unfolding relating design_scheme
 named d a b h =
     let p = any_of (preempts a b) d.pairs h in
     let is = names a b p.0 p.2 in
     let k = place_in d.pairs p.0 p.1 in
-    let of : (n : ℕ) → (IsDesign (blueprint d) → IsRuleIn d.elements n) → has_role is_rule (slice_get (map (λ o. o.role) (map outline d.elements)) n) ≡ true =
-    λ n rule. ∥∥₁_elim d.right (Bool-set _ _) (λ (right : IsDesign (blueprint d)). rule_there d.elements n (rule right)) in (
+    let of : (n : ℕ) → (IsDesign (design_data d) → IsRuleIn d.elements n) → has_role is_rule (slice_get (map (λ o. o.role) (map outline d.elements)) n) ≡ true =
+    λ n rule. ∥∥₁_elim d.right (Bool-set _ _) (λ (right : IsDesign (design_data d)). rule_there d.elements n (rule right)) in (
       of a (λ right. subst (IsRuleIn d.elements) is.0 (right.pairs k.0 p.0 k.1).0),
       of b (λ right. subst (IsRuleIn d.elements) is.1 (right.pairs k.0 p.0 k.1).1),
     )

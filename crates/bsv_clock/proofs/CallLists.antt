@@ -7,12 +7,12 @@ use Rattle.bsv_prim.specs.Calls as prim
 use Rattle.bsv_prim.specs.Table.{Call}
 use Rattle.bsv_prim.specs.declared.part.Part.{Part}
 use Rattle.bsv_design.specs.declared.kind.Kind.{Kind}
-use Rattle.bsv_design.specs.Bodies.{Target}
-use Rattle.bsv_design.specs.Kinds.{kind_table}
-use Rattle.bsv_design.specs.Relations.{is_seen, sees_of}
-use Rattle.bsv_design.specs.Schemes.{Called}
-use Rattle.bsv_design.specs.States.{after_call, after_calls}
-use Rattle.bsv_design.specs.Traces.{kind_at}
+use Rattle.bsv_design.specs.design.Bodies.{Target}
+use Rattle.bsv_design.specs.tree.Kinds.{kind_table}
+use Rattle.bsv_design.specs.scheme.Relations.{is_seen, sees_of}
+use Rattle.bsv_design.specs.scheme.Schemes.{Called}
+use Rattle.bsv_design.specs.scheme.States.{after_call, after_calls}
+use Rattle.bsv_design.specs.scheme.Traces.{kind_at}
 use Rattle.bsv_guard.specs.ElementLaws.{call_of}
 use Rattle.bsv_guard.specs.Turns.{calls_on}
 use Rattle.bsv_clock.specs.Looks.{seen_by}

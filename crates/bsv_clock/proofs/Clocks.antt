@@ -2,8 +2,8 @@
 use Rattle.std.proofs.Common.{◌≡◌, ◌∙◌, ℕ, Bool, List, is_some, sym, ap}
 use Rattle.bsv_prim.specs.declared.part.Part.{Part}
 use Rattle.bsv_design.specs.declared.schedule.Schedule.{Schedule}
-use Rattle.bsv_design.specs.Schemes.{Scheme, Asking}
-use Rattle.bsv_design.specs.States.{emptied, after_calls}
+use Rattle.bsv_design.specs.scheme.Schemes.{Scheme, Asking}
+use Rattle.bsv_design.specs.scheme.States.{emptied, after_calls}
 use Rattle.bsv_clock.specs.Clocks.{IsClock}
 use Rattle.bsv_clock.specs.Events.{results_in_turn, results_under}
 use Rattle.bsv_clock.specs.Feeding.{IsFed}

@@ -13,12 +13,12 @@ use Rattle.bsv_prim.proofs.Parallel.{seen_is_orderly}
 use Rattle.bsv_prim.proofs.Seen.{sees_nothing}
 use Rattle.bsv_design.specs.declared.kind.Kind.{Kind}
 use Rattle.bsv_design.specs.declared.schedule.Schedule.{Schedule}
-use Rattle.bsv_design.specs.Bodies.{Target}
-use Rattle.bsv_design.specs.Kinds.{kind_table, kind_laws}
-use Rattle.bsv_design.specs.Schemes.{Scheme, Asking, Called, is_open, guard_of, ready, calls}
-use Rattle.bsv_design.specs.Serial.{Serial, run_whole, by_rank, done, turn}
-use Rattle.bsv_design.specs.States.{FitsKinds, emptied, part_at, plain}
-use Rattle.bsv_design.specs.Traces.{acts, kind_at}
+use Rattle.bsv_design.specs.design.Bodies.{Target}
+use Rattle.bsv_design.specs.tree.Kinds.{kind_table, kind_laws}
+use Rattle.bsv_design.specs.scheme.Schemes.{Scheme, Asking, Called, is_open, guard_of, ready, calls}
+use Rattle.bsv_design.specs.scheme.Serial.{Serial, run_whole, by_rank, done, turn}
+use Rattle.bsv_design.specs.scheme.States.{FitsKinds, emptied, part_at, plain}
+use Rattle.bsv_design.specs.scheme.Traces.{acts, kind_at}
 use Rattle.bsv_guard.specs.ElementLaws.{call_of}
 use Rattle.bsv_guard.specs.Fitting.{IsFitCall}
 use Rattle.bsv_guard.specs.Turns.{calls_on}

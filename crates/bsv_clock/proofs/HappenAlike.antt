@@ -7,9 +7,9 @@ use Rattle.bsv_prim.specs.declared.part.Part.{Part}
 use Rattle.bsv_design.specs.declared.fired.Fired.{Fired}
 use Rattle.bsv_design.specs.declared.kind.Kind.{Kind}
 use Rattle.bsv_design.specs.declared.schedule.Schedule.{Schedule}
-use Rattle.bsv_design.specs.Schemes.{Scheme, Outline, Asking, Called, AreAlike, ready}
-use Rattle.bsv_design.specs.Serial.{Serial, by_rank, made, run_whole}
-use Rattle.bsv_design.specs.States.{emptied, plain}
+use Rattle.bsv_design.specs.scheme.Schemes.{Scheme, Outline, Asking, Called, AreAlike, ready}
+use Rattle.bsv_design.specs.scheme.Serial.{Serial, by_rank, calls_made, run_whole}
+use Rattle.bsv_design.specs.scheme.States.{emptied, plain}
 use Rattle.bsv_graph.specs.Edges.{numbers_below}
 use Rattle.bsv_schedule.specs.relating.Relating.{Relating}
 use Rattle.bsv_schedule.specs.stopping.Stops.{Stops}
@@ -26,15 +26,15 @@ module _ (S T : Scheme) (al : AreAlike S T) where
   same : DoTheSame S T
   same = alike S T al
 
-  stops_to : (made : Schedule) (a b : ℕ) → StopsIn S made a b → StopsIn T made a b
-  stops_to made a b h = subst (λ (r : Relating). Stops r made.execution made.urgency a b) (relating_alike S T al) h
+  stops_to : (calls_made : Schedule) (a b : ℕ) → StopsIn S calls_made a b → StopsIn T calls_made a b
+  stops_to calls_made a b h = subst (λ (r : Relating). Stops r calls_made.execution calls_made.urgency a b) (relating_alike S T al) h
 
   -- ---- looks
 
   emptied_same : (s : List Part) → emptied S.kinds s ≡ emptied T.kinds s
   emptied_same s = ap (λ ks. emptied ks s) al.kinds
 
-  made_same : (q : Asking) (n : ℕ) (ps : List Part) → made S q n ps ≡ made T q n ps
+  made_same : (q : Asking) (n : ℕ) (ps : List Part) → calls_made S q n ps ≡ calls_made T q n ps
   made_same q n ps = ap₂ (λ (ks : List Kind) (cs : List Called). by_rank ks cs) al.kinds (same.calls_same q n (plain ps))
 
   turns_same : (q : Asking) (ps : List Part) (ns : List ℕ) → calls_in_turn S q ps ns ≡ calls_in_turn T q ps ns
@@ -68,34 +68,34 @@ module _ (S T : Scheme) (al : AreAlike S T) where
 
 -- ---- the clock
 
-pub clock_to : (g : Bool) (S T : Scheme) (made : Schedule) (q : Asking) (s : List Part) (fired : List ℕ) (after : List Part) → AreAlike S T → IsClock g S made q s fired after → IsClock g T made q s fired after
-clock_to g S T made q s fired after al c =
+pub clock_to : (g : Bool) (S T : Scheme) (calls_made : Schedule) (q : Asking) (s : List Part) (fired : List ℕ) (after : List Part) → AreAlike S T → IsClock g S calls_made q s fired after → IsClock g T calls_made q s fired after
+clock_to g S T calls_made q s fired after al c =
     let back = alike_back S T al in
     record {
       in_order = c.in_order;
       may = λ n i. sym (may_same S T al q n) ∙ c.may n i;
       serial = subst (λ (ps : List Part). Serial g T q ps fired after) (emptied_same S T al s) (((same S T al).serial_same g q (emptied S.kinds s) after fired).0 c.serial);
       in_look = λ n i. sym (ready_same S T al g q s fired n) ∙ c.in_look n i;
-      none_stopped = λ a b i j h. c.none_stopped a b i j (stops_to T S back made a b h);
-      others_stopped = λ n out h. let k = c.others_stopped n out (candidate_same S T al g q s fired n ∙ h) in (k.0, k.1, stops_to S T al made k.0 n k.2);
+      none_stopped = λ a b i j h. c.none_stopped a b i j (stops_to T S back calls_made a b h);
+      others_stopped = λ n out h. let k = c.others_stopped n out (candidate_same S T al g q s fired n ∙ h) in (k.0, k.1, stops_to S T al calls_made k.0 n k.2);
     }
 
 -- ---- what is told
 
-stopper_to : (S T : Scheme) (made : Schedule) (fired : List ℕ) (x : ℕ × ℕ) → AreAlike S T → IsFirstStopper S made fired x → IsFirstStopper T made fired x
-stopper_to S T made fired x al h = record {
+stopper_to : (S T : Scheme) (calls_made : Schedule) (fired : List ℕ) (x : ℕ × ℕ) → AreAlike S T → IsFirstStopper S calls_made fired x → IsFirstStopper T calls_made fired x
+stopper_to S T calls_made fired x al h = record {
   fires = h.fires;
-  stops = stops_to S T al made x.1 x.0 h.stops;
-  first = λ f i k. h.first f i (stops_to T S (alike_back S T al) made f x.0 k);
+  stops = stops_to S T al calls_made x.1 x.0 h.stops;
+  first = λ f i k. h.first f i (stops_to T S (alike_back S T al) calls_made f x.0 k);
 }
 
-stoppers_to : (S T : Scheme) (made : Schedule) (fired : List ℕ) (xs : List (ℕ × ℕ)) → AreAlike S T → AllByRecursion (IsFirstStopper S made fired) xs → AllByRecursion (IsFirstStopper T made fired) xs
-stoppers_to S T made fired [] al h = tt
-stoppers_to S T made fired (x ∷ xs) al h = (stopper_to S T made fired x al h.0, stoppers_to S T made fired xs al h.1)
+stoppers_to : (S T : Scheme) (calls_made : Schedule) (fired : List ℕ) (xs : List (ℕ × ℕ)) → AreAlike S T → AllByRecursion (IsFirstStopper S calls_made fired) xs → AllByRecursion (IsFirstStopper T calls_made fired) xs
+stoppers_to S T calls_made fired [] al h = tt
+stoppers_to S T calls_made fired (x ∷ xs) al h = (stopper_to S T calls_made fired x al h.0, stoppers_to S T calls_made fired xs al h.1)
 
-stopped_same : (g : Bool) (S T : Scheme) (made : Schedule) (q : Asking) (s : List Part) (fired : List ℕ) → AreAlike S T → stopped_in g S made q s fired ≡ stopped_in g T made q s fired
-stopped_same g S T made q s fired al =
-    filter_same (λ n. is_candidate g S q s fired n && not (is_in fired n)) (λ n. is_candidate g T q s fired n && not (is_in fired n)) made.urgency
+stopped_same : (g : Bool) (S T : Scheme) (calls_made : Schedule) (q : Asking) (s : List Part) (fired : List ℕ) → AreAlike S T → stopped_in g S calls_made q s fired ≡ stopped_in g T calls_made q s fired
+stopped_same g S T calls_made q s fired al =
+    filter_same (λ n. is_candidate g S q s fired n && not (is_in fired n)) (λ n. is_candidate g T q s fired n && not (is_in fired n)) calls_made.urgency
     (λ n i. ap (λ (b : Bool). b && not (is_in fired n)) (candidate_same S T al g q s fired n))
 
 blocked_same : (g : Bool) (S T : Scheme) (q : Asking) (s : List Part) (fired : List ℕ) → AreAlike S T → blocked_in g S q s fired ≡ blocked_in g T q s fired
@@ -104,11 +104,11 @@ blocked_same g S T q s fired al =
     (λ n i. ap (λ (b : Bool). is_asked q n && not b) (ready_same S T al g q s fired n))
     ∙ ap (λ (es : List Outline). filter (λ n. is_asked q n && not (ready g T q n (clock_look T q s fired))) (numbers_below (length es))) al.elements
 
-pub happens_to : (g : Bool) (S T : Scheme) (made : Schedule) (q : Asking) (s : List Part) (fired : Fired) (after : List Part) → AreAlike S T → Happens g S made q s fired after → Happens g T made q s fired after
-happens_to g S T made q s fired after al h = record {
-  clock = clock_to g S T made q s fired.list.items after al h.clock;
-  stopped = h.stopped ∙ stopped_same g S T made q s fired.list.items al;
-  stoppers = stoppers_to S T made fired.list.items fired.stopped.items al h.stoppers;
+pub happens_to : (g : Bool) (S T : Scheme) (calls_made : Schedule) (q : Asking) (s : List Part) (fired : Fired) (after : List Part) → AreAlike S T → Happens g S calls_made q s fired after → Happens g T calls_made q s fired after
+happens_to g S T calls_made q s fired after al h = record {
+  clock = clock_to g S T calls_made q s fired.list.items after al h.clock;
+  stopped = h.stopped ∙ stopped_same g S T calls_made q s fired.list.items al;
+  stoppers = stoppers_to S T calls_made fired.list.items fired.stopped.items al h.stoppers;
   blocked = h.blocked ∙ blocked_same g S T q s fired.list.items al;
   results = h.results ∙ (results_same S T al q (emptied S.kinds s) fired.list.items ∙ ap (λ (ps : List Part). results_in_turn T q ps fired.list.items) (emptied_same S T al s));
 }

@@ -1,5 +1,5 @@
 -- Elements that are run whole one after the other: on each part, the calls of all of them can be applied one after the
--- other, and the part behind them is the part behind these calls.
+-- other, and the part after them is the part after these calls.
 use Rattle.std.proofs.Common.{◌≡◌, ◌∙◌, ℕ, zero, suc, Bool, true, not, ◌||◌, List, [], ◌∷◌, Option, Some, refl, sym, ap, subst, inl, inr}
 use Rattle.std.specs.Prelude.{slice_get}
 use Rattle.std.specs.List.{AllByRecursion}
@@ -13,13 +13,13 @@ use Rattle.bsv_prim.specs.declared.part.Part.{Part}
 use Rattle.bsv_prim.proofs.Orderly.{orderly_append}
 use Rattle.bsv_prim.proofs.Orderly as orderly
 use Rattle.bsv_design.specs.declared.kind.Kind.{Kind}
-use Rattle.bsv_design.specs.Bodies.{Target}
-use Rattle.bsv_design.specs.Kinds.{kind_table}
-use Rattle.bsv_design.specs.Relations.{goes, for_all, may_precede, may_precede_of}
-use Rattle.bsv_design.specs.Schemes.{Scheme, Asking, Called, ready, calls}
-use Rattle.bsv_design.specs.Serial.{made, run_whole, Serial, done, turn}
-use Rattle.bsv_design.specs.States.{FitsKinds, part_at, plain}
-use Rattle.bsv_design.specs.Traces.{kind_at}
+use Rattle.bsv_design.specs.design.Bodies.{Target}
+use Rattle.bsv_design.specs.tree.Kinds.{kind_table}
+use Rattle.bsv_design.specs.scheme.Relations.{goes, for_all, may_precede, may_precede_of}
+use Rattle.bsv_design.specs.scheme.Schemes.{Scheme, Asking, Called, ready, calls}
+use Rattle.bsv_design.specs.scheme.Serial.{calls_made, run_whole, Serial, done, turn}
+use Rattle.bsv_design.specs.scheme.States.{FitsKinds, part_at, plain}
+use Rattle.bsv_design.specs.scheme.Traces.{kind_at}
 use Rattle.bsv_graph.specs.Orders.{In}
 use Rattle.bsv_guard.specs.ElementLaws.{ElementLaws, IsUse, call_of}
 use Rattle.bsv_guard.specs.Fitting.{RequestFits}
@@ -59,7 +59,7 @@ module _ (S : Scheme) (ok : IsLawful S) (g : Bool) (q : Asking) (requests : (n :
   abbrev pub turns : TurnLaws S
   turns = sound_turns S ok.sound ok.fitting
 
-  pub made_used : (n : ℕ) (ps : List Part) → AllByRecursion (λ c. IsUse S n c.target) (made S q n ps)
+  pub made_used : (n : ℕ) (ps : List Part) → AllByRecursion (λ c. IsUse S n c.target) (calls_made S q n ps)
   made_used n ps =
       all_by_rank S.kinds (λ c. IsUse S n c.target) (calls S q n (plain ps))
       (all_from (λ c. IsUse S n c.target) (calls S q n (plain ps)) (λ k c e. (laws.within q n (plain ps) k c e).0))
@@ -81,23 +81,23 @@ module _ (S : Scheme) (ok : IsLawful S) (g : Bool) (q : Asking) (requests : (n :
   pub run_used : (ns : List ℕ) (ps : List Part) → AllByRecursion (UsedBySome ns) (calls_in_turn S q ps ns)
   run_used [] ps = tt
   run_used (n ∷ ns) ps =
-      all_append (UsedBySome (n ∷ ns)) (made S q n ps) (calls_in_turn S q (run_whole S q n ps) ns)
-      (all_map (λ c. IsUse S n c.target) (UsedBySome (n ∷ ns)) (λ c u. (n, inl refl, u)) (made S q n ps) (made_used n ps))
+      all_append (UsedBySome (n ∷ ns)) (calls_made S q n ps) (calls_in_turn S q (run_whole S q n ps) ns)
+      (all_map (λ c. IsUse S n c.target) (UsedBySome (n ∷ ns)) (λ c u. (n, inl refl, u)) (calls_made S q n ps) (made_used n ps))
       (all_map (UsedBySome ns) (UsedBySome (n ∷ ns)) (λ c u. (u.0, inr u.1, u.2)) (calls_in_turn S q (run_whole S q n ps) ns) (run_used ns (run_whole S q n ps)))
 
   module _ (i : ℕ) (kind : Kind) (is : slice_get S.kinds i ≡ Some kind) where
-    part_behind : (n : ℕ) (ps : List Part) → FitsKinds S.kinds ps → part_at (run_whole S q n ps) i ≡ prim.after_calls (kind_table kind) (part_at ps i) (calls_on i (made S q n ps))
+    part_after : (n : ℕ) (ps : List Part) → FitsKinds S.kinds ps → part_at (run_whole S q n ps) i ≡ prim.after_calls (kind_table kind) (part_at ps i) (calls_on i (calls_made S q n ps))
     unfolding run_whole
-    part_behind n ps h = turns.each_part ps h (made S q n ps) i kind is
+    part_after n ps h = turns.each_part ps h (calls_made S q n ps) i kind is
 
     pub run_part : {ps end : List Part} {ns : List ℕ} → FitsKinds S.kinds ps → Serial g S q ps ns end
         → part_at end i ≡ prim.after_calls (kind_table kind) (part_at ps i) (calls_on i (calls_in_turn S q ps ns))
     run_part h done = refl
     run_part {ps = ps} h (turn {n = n} {ns = ns} r fresh rest) =
         run_part (one_fits n ps h r) rest
-        ∙ ap (λ (p : Part). prim.after_calls (kind_table kind) p (calls_on i (calls_in_turn S q (run_whole S q n ps) ns))) (part_behind n ps h)
-        ∙ sym (orderly.after_calls-append (kind_table kind) (part_at ps i) (calls_on i (made S q n ps)) (calls_on i (calls_in_turn S q (run_whole S q n ps) ns)))
-        ∙ ap (prim.after_calls (kind_table kind) (part_at ps i)) (sym (calls_on-append i (made S q n ps) (calls_in_turn S q (run_whole S q n ps) ns)))
+        ∙ ap (λ (p : Part). prim.after_calls (kind_table kind) p (calls_on i (calls_in_turn S q (run_whole S q n ps) ns))) (part_after n ps h)
+        ∙ sym (orderly.after_calls-append (kind_table kind) (part_at ps i) (calls_on i (calls_made S q n ps)) (calls_on i (calls_in_turn S q (run_whole S q n ps) ns)))
+        ∙ ap (prim.after_calls (kind_table kind) (part_at ps i)) (sym (calls_on-append i (calls_made S q n ps) (calls_in_turn S q (run_whole S q n ps) ns)))
 
     -- a call of an element that goes before others may precede theirs
     precedes : (n : ℕ) (ns : List ℕ) → ((m : ℕ) → In ns m → goes S n m ≡ true) → (c : Called) → IsUse S n c.target → c.target.part ≡ i
@@ -118,11 +118,11 @@ module _ (S : Scheme) (ok : IsLawful S) (g : Bool) (q : Asking) (requests : (n :
         → IsOrderly (kind_table kind) (part_at ps i) (calls_on i (calls_in_turn S q ps ns))
     run_orderly h done go = tt
     run_orderly {ps = ps} h (turn {n = n} {ns = ns} r fresh rest) go =
-        subst (IsOrderly (kind_table kind) (part_at ps i)) (sym (calls_on-append i (made S q n ps) (calls_in_turn S q (run_whole S q n ps) ns)))
-        (orderly_append (kind_table kind) (part_at ps i) (calls_on i (made S q n ps)) (calls_on i (calls_in_turn S q (run_whole S q n ps) ns))
+        subst (IsOrderly (kind_table kind) (part_at ps i)) (sym (calls_on-append i (calls_made S q n ps) (calls_in_turn S q (run_whole S q n ps) ns)))
+        (orderly_append (kind_table kind) (part_at ps i) (calls_on i (calls_made S q n ps)) (calls_on i (calls_in_turn S q (run_whole S q n ps) ns))
         (turns.in_turn g q n ps (is_turn n ps h r) i kind is)
-        (subst (λ (p : Part). IsOrderly (kind_table kind) p (calls_on i (calls_in_turn S q (run_whole S q n ps) ns))) (part_behind n ps h) (run_orderly (one_fits n ps h r) rest go.1))
-        (each_before n ns go.0 (made S q n ps) (made_used n ps) (calls_in_turn S q (run_whole S q n ps) ns) (run_used ns (run_whole S q n ps))))
+        (subst (λ (p : Part). IsOrderly (kind_table kind) p (calls_on i (calls_in_turn S q (run_whole S q n ps) ns))) (part_after n ps h) (run_orderly (one_fits n ps h r) rest go.1))
+        (each_before n ns go.0 (calls_made S q n ps) (made_used n ps) (calls_in_turn S q (run_whole S q n ps) ns) (run_used ns (run_whole S q n ps))))
 
     -- all calls of the run may precede those of an element that they go before
     pub run_before : (ns : List ℕ) (n : ℕ) → AllGo S ns n → (ps : List Part) (t : Target) → IsUse S n t → t.part ≡ i → (y : Call) → y.method ≡ t.method

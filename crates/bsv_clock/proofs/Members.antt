@@ -4,7 +4,7 @@ use Rattle.std.specs.Prelude.{filter, ◌==◌}
 use Rattle.std.specs.List.{list_any, AllByRecursion, IsDistinct}
 use Rattle.std.proofs.lemmas.Bool.{cases_eq, eq-eqb, eqb-true, ne_eqb, false_from_ne_true, or_cases, or_left, or_right, or_parts}
 use Rattle.std.proofs.lemmas.Map.Steps.{length-le_from_distinct_below}
-use Rattle.bsv_design.specs.Serial.{IsIn}
+use Rattle.bsv_design.specs.scheme.Serial.{IsIn}
 use Rattle.bsv_graph.specs.Orders.{In, IsOnce, place_of}
 use Rattle.bsv_graph.proofs.OrderedLemmas.{place_here, place_there}
 use Rattle.bsv_clock.specs.Clocks.{is_in}

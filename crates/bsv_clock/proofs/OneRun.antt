@@ -5,10 +5,10 @@ use Rattle.bsv_prim.specs.declared.part.Part.{Part}
 use Rattle.bsv_design.specs.declared.fired.Fired.{Fired}
 use Rattle.bsv_design.specs.declared.kind.Kind.{Kind}
 use Rattle.bsv_design.specs.declared.schedule.Schedule.{Schedule}
-use Rattle.bsv_design.specs.Kinds.{kind_laws}
-use Rattle.bsv_design.specs.Schemes.{Scheme, Asking}
-use Rattle.bsv_design.specs.States.{FitsKinds, opening, emptied}
-use Rattle.bsv_graph.specs.Orders.{IsOnce, StandsBefore}
+use Rattle.bsv_design.specs.tree.Kinds.{kind_laws}
+use Rattle.bsv_design.specs.scheme.Schemes.{Scheme, Asking}
+use Rattle.bsv_design.specs.scheme.States.{FitsKinds, opening, emptied}
+use Rattle.bsv_graph.specs.Orders.{IsOnce, IsBefore}
 use Rattle.bsv_graph.proofs.OrderedLemmas.{place_before}
 use Rattle.bsv_guard.specs.Fitting.{RequestFits}
 use Rattle.bsv_schedule.specs.stopping.Firing.{StopsIn}
@@ -27,7 +27,7 @@ module _ (S : Scheme) (made : Schedule) (fired : List ℕ) (once : IsOnce made.u
   same_stopper : (x y : ℕ × ℕ) → IsFirstStopper S made fired x → IsFirstStopper S made fired y → x.0 ≡ y.0 → x.1 ≡ y.1
   same_stopper x y h k e = of (h.first y.1 k.fires (subst (StopsIn S made y.1) (sym e) k.stops)) (k.first x.1 h.fires (subst (StopsIn S made x.1) e h.stops))
     where
-      of : (y.1 ≡ x.1) ⊎ StandsBefore made.urgency x.1 y.1 → (x.1 ≡ y.1) ⊎ StandsBefore made.urgency y.1 x.1 → x.1 ≡ y.1
+      of : (y.1 ≡ x.1) ⊎ IsBefore made.urgency x.1 y.1 → (x.1 ≡ y.1) ⊎ IsBefore made.urgency y.1 x.1 → x.1 ≡ y.1
       of (inl f) _ = sym f
       of (inr b) (inl f) = f
       of (inr b) (inr c) = absurd (let l = place_before made.urgency x.1 y.1 once b in let m = place_before made.urgency y.1 x.1 once c in omega arith)
@@ -69,7 +69,7 @@ module _ (g : Bool) (S : Scheme) (made : Schedule) (steady : IsSteady g S) where
     belong : (q : Asking) (s : List Part) → ((n : ℕ) → RequestFits S q n) → FitsKinds S.kinds s → BelongTogether S made q s
     belong q s requests parts = record { lawful = lawful; schedule = scheduled; fit = record { requests = requests; parts = parts } }
 
-    -- the parts fit behind a clock
+    -- the parts fit after a clock
     still_fits : (q : Asking) (s : List Part) → BelongTogether S made q s → (row : Row) → Happens g S made q s row.fired row.after → FitsKinds S.kinds row.after
     still_fits q s there row h = subst (FitsKinds S.kinds) (sym (only_after g S made q s there steady row.fired.list.items row.after h.clock)) (fed q s there).end_fits
 

@@ -6,12 +6,12 @@ use Rattle.std.proofs.Math.Bridge.{le_prop}
 use Rattle.bsv_lemmas.proofs.Choices.{option_set}
 use mathlib.Core.List.{is_set as list_set}
 use Rattle.bsv_bits.specs.Words.{Bits}
-use Rattle.bsv_design.specs.Branches.{AreSameSites, AreSameDemands}
+use Rattle.bsv_design.specs.design.Branches.{AreSameSites, AreSameDemands}
 use Rattle.bsv_design.specs.declared.node.Branch.{Branch}
 use Rattle.bsv_design.specs.declared.kind.Kind.{Kind}
-use Rattle.bsv_design.specs.Bodies.{Target}
-use Rattle.bsv_design.specs.Schemes.{Scheme}
-use Rattle.bsv_design.specs.Traces.{Site, Demand, Trace}
+use Rattle.bsv_design.specs.design.Bodies.{Target}
+use Rattle.bsv_design.specs.scheme.Schemes.{Scheme}
+use Rattle.bsv_design.specs.scheme.Traces.{Site, Demand, Trace}
 use Rattle.bsv_guard.specs.Fitting.{IsFitting, IsMethodOf, IsFitCall}
 use Rattle.bsv_guard.specs.Sound.{IsSound, Place}
 use Rattle.bsv_clock.specs.Grounds.{IsLawful}

@@ -8,14 +8,14 @@ use Rattle.bsv_design.specs.declared.element.Role.{Role}
 use Rattle.bsv_design.specs.declared.element.Role.TheVariants as role
 use Rattle.bsv_design.specs.declared.kind.Kind.{Kind}
 use Rattle.bsv_design.specs.declared.schedule.Schedule.{Schedule}
-use Rattle.bsv_design.specs.Bodies.{Target}
-use Rattle.bsv_design.specs.Kinds.{kind_laws}
-use Rattle.bsv_design.specs.Relations.{goes, for_all, may_precede, may_precede_of, no_answers}
-use Rattle.bsv_design.specs.Roles.{is_rule, is_value}
-use Rattle.bsv_design.specs.Schemes.{Scheme, Outline, filled, ports_of}
-use Rattle.bsv_design.specs.Traces.{Site, acts, kind_at}
+use Rattle.bsv_design.specs.design.Bodies.{Target}
+use Rattle.bsv_design.specs.tree.Kinds.{kind_laws}
+use Rattle.bsv_design.specs.scheme.Relations.{goes, for_all, may_precede, may_precede_of, no_answers}
+use Rattle.bsv_design.specs.tree.Roles.{is_rule, is_value}
+use Rattle.bsv_design.specs.scheme.Schemes.{Scheme, Outline, filled, ports_of}
+use Rattle.bsv_design.specs.scheme.Traces.{Site, acts, kind_at}
 use Rattle.bsv_schedule.specs.relating.Elements.{relating, has_role}
-use Rattle.bsv_graph.specs.Orders.{In, IsOrderOf, StandsBefore}
+use Rattle.bsv_graph.specs.Orders.{In, IsOrderOf, IsBefore}
 use Rattle.bsv_schedule.specs.relating.Relating.{Relating, value_edges, early_edges, feed_edges, is_value_edge, is_one_value, goes_only, value_of}
 use Rattle.bsv_schedule.specs.stopping.Stops.{Clash}
 use Rattle.bsv_graph.proofs.EdgeLemmas.{where_has}
@@ -103,7 +103,7 @@ module _ (S : Scheme) (made : Schedule) (sound : IsSound S) (scheduled : IsSched
   within_order a l = (execution_order S made scheduled).each a l
 
   -- of a value method and another element, that go one way alone, the first in that way is executed first
-  executed_first : (a b : ℕ) → a < r.count → b < r.count → is_one_value r a b ≡ true → r.goes a b ≡ true → r.goes b a ≡ false → StandsBefore made.execution a b
+  executed_first : (a b : ℕ) → a < r.count → b < r.count → is_one_value r a b ≡ true → r.goes a b ≡ true → r.goes b a ≡ false → IsBefore made.execution a b
   executed_first a b l m one go back =
       let x = scheduled.executes.order in
       respects_before x.0 made.execution a b x.2.respects (within_order a l) (within_order b m)
@@ -125,7 +125,7 @@ module _ (S : Scheme) (made : Schedule) (sound : IsSound S) (scheduled : IsSched
   one_way : (a b : ℕ) → a < r.count → b < r.count → r.value a ≡ true → r.value b ≡ false → r.goes a b ≡ false → r.goes b a ≡ false → ⊥
   one_way a b l m is other out back = scheduled.executes.values a l (is, inl (b, m, other, out, back))
 
-  goes_first : (a b : ℕ) → (r.value a || r.value b) ≡ true → StandsBefore made.execution a b → r.goes a b ≡ true
+  goes_first : (a b : ℕ) → (r.value a || r.value b) ≡ true → IsBefore made.execution a b → r.goes a b ≡ true
   unfolding relating
   goes_first a b some h = true_from_ne_false (r.goes a b) (λ out. of out (r.value a) (r.value b) refl refl)
     where
@@ -138,7 +138,7 @@ module _ (S : Scheme) (made : Schedule) (sound : IsSound S) (scheduled : IsSched
       m : b < length S.elements
       m = o.below b (before_in made.execution a b h).1
 
-      behind : StandsBefore made.execution b a → ⊥
+      behind : IsBefore made.execution b a → ⊥
       behind k = let p = place_before made.execution a b o.once h in let q = place_before made.execution b a o.once k in omega arith
 
       back : is_one_value r b a ≡ true → r.goes a b ≡ false → (r.goes b a ≡ false → ⊥) → ⊥

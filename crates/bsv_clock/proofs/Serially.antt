@@ -2,10 +2,10 @@
 use Rattle.std.proofs.Common.{◌≡◌, ◌∙◌, ℕ, inl, inr, Bool, true, List, [], ◌∷◌, ◌++◌, refl, sym, ap, append_assoc}
 use Rattle.bsv_bits.specs.Words.{Bits}
 use Rattle.bsv_prim.specs.declared.part.Part.{Part}
-use Rattle.bsv_design.specs.Relations.{goes}
-use Rattle.bsv_design.specs.Schemes.{Scheme, Asking, Called, ready, value}
-use Rattle.bsv_design.specs.Serial.{Serial, done, turn, IsIn, made, run_whole}
-use Rattle.bsv_design.specs.States.{plain, after_calls}
+use Rattle.bsv_design.specs.scheme.Relations.{goes}
+use Rattle.bsv_design.specs.scheme.Schemes.{Scheme, Asking, Called, ready, value}
+use Rattle.bsv_design.specs.scheme.Serial.{Serial, done, turn, IsIn, calls_made, run_whole}
+use Rattle.bsv_design.specs.scheme.States.{plain, after_calls}
 use Rattle.bsv_graph.specs.Orders.{In}
 use Rattle.bsv_graph.proofs.LeastLemmas.{in_parts}
 use Rattle.bsv_clock.specs.Events.{gives, results_in_turn}
@@ -16,29 +16,29 @@ use Rattle.bsv_clock.proofs.Members.{find_again, found_again}
 
 module _ (S : Scheme) (q : Asking) where
   -- what elements that are run one after the other leave
-  pub behind_turns : (ps : List Part) (n : ℕ) (ns : List ℕ) → after_calls S.kinds ps (calls_in_turn S q ps (n ∷ ns)) ≡ after_calls S.kinds (run_whole S q n ps) (calls_in_turn S q (run_whole S q n ps) ns)
+  pub after_turns : (ps : List Part) (n : ℕ) (ns : List ℕ) → after_calls S.kinds ps (calls_in_turn S q ps (n ∷ ns)) ≡ after_calls S.kinds (run_whole S q n ps) (calls_in_turn S q (run_whole S q n ps) ns)
   unfolding run_whole
-  behind_turns ps n ns = after_calls-append S.kinds ps (made S q n ps) (calls_in_turn S q (run_whole S q n ps) ns)
+  after_turns ps n ns = after_calls-append S.kinds ps (calls_made S q n ps) (calls_in_turn S q (run_whole S q n ps) ns)
 
   pub turns_append : (ps : List Part) (ms ns : List ℕ) → calls_in_turn S q ps (ms ++ ns) ≡ calls_in_turn S q ps ms ++ calls_in_turn S q (after_calls S.kinds ps (calls_in_turn S q ps ms)) ns
   turns_append ps [] ns = refl
   turns_append ps (m ∷ ms) ns =
-      ap (λ (cs : List Called). made S q m ps ++ cs)
+      ap (λ (cs : List Called). calls_made S q m ps ++ cs)
       (turns_append (run_whole S q m ps) ms ns
-      ∙ ap (λ (end : List Part). calls_in_turn S q (run_whole S q m ps) ms ++ calls_in_turn S q end ns) (sym (behind_turns ps m ms)))
-      ∙ sym (append_assoc (made S q m ps) (calls_in_turn S q (run_whole S q m ps) ms) (calls_in_turn S q (after_calls S.kinds ps (calls_in_turn S q ps (m ∷ ms))) ns))
+      ∙ ap (λ (end : List Part). calls_in_turn S q (run_whole S q m ps) ms ++ calls_in_turn S q end ns) (sym (after_turns ps m ms)))
+      ∙ sym (append_assoc (calls_made S q m ps) (calls_in_turn S q (run_whole S q m ps) ms) (calls_in_turn S q (after_calls S.kinds ps (calls_in_turn S q ps (m ∷ ms))) ns))
 
   pub results_append : (ps : List Part) (ms ns : List ℕ) → results_in_turn S q ps (ms ++ ns) ≡ results_in_turn S q ps ms ++ results_in_turn S q (after_calls S.kinds ps (calls_in_turn S q ps ms)) ns
   results_append ps [] ns = refl
   results_append ps (m ∷ ms) ns =
       ap (λ (xs : List (ℕ × Bits)). gives m (value S q m (plain ps)) ++ xs)
       (results_append (run_whole S q m ps) ms ns
-      ∙ ap (λ (end : List Part). results_in_turn S q (run_whole S q m ps) ms ++ results_in_turn S q end ns) (sym (behind_turns ps m ms)))
+      ∙ ap (λ (end : List Part). results_in_turn S q (run_whole S q m ps) ms ++ results_in_turn S q end ns) (sym (after_turns ps m ms)))
       ∙ sym (append_assoc (gives m (value S q m (plain ps))) (results_in_turn S q (run_whole S q m ps) ms) (results_in_turn S q (after_calls S.kinds ps (calls_in_turn S q ps (m ∷ ms))) ns))
 
   pub serial_end : (g : Bool) {ps end : List Part} {ns : List ℕ} → Serial g S q ps ns end → end ≡ after_calls S.kinds ps (calls_in_turn S q ps ns)
   serial_end g done = refl
-  serial_end g {ps = ps} (turn {n = n} {ns = ns} r fresh rest) = serial_end g rest ∙ sym (behind_turns ps n ns)
+  serial_end g {ps = ps} (turn {n = n} {ns = ns} r fresh rest) = serial_end g rest ∙ sym (after_turns ps n ns)
 
   -- one more element
   pub serial_more : (g : Bool) {ps end : List Part} {ns : List ℕ} (n : ℕ) → Serial g S q ps ns end → ready g S q n (plain end) ≡ true → ¬ In ns n → Serial g S q ps (ns ++ n ∷ []) (run_whole S q n end)

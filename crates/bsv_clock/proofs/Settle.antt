@@ -6,10 +6,10 @@ use Rattle.std.proofs.lemmas.Bool.{both_ways, cases_lt}
 use Rattle.std.proofs.lemmas.Option.{slice_get_past}
 use Rattle.bsv_prim.specs.declared.part.Part.{Part}
 use Rattle.bsv_design.specs.declared.schedule.Schedule.{Schedule}
-use Rattle.bsv_design.specs.Bodies.{Target}
-use Rattle.bsv_design.specs.Schemes.{Scheme, Outline, Asking, Called, ready, calls}
-use Rattle.bsv_design.specs.Serial.{by_rank}
-use Rattle.bsv_design.specs.States.{emptied}
+use Rattle.bsv_design.specs.design.Bodies.{Target}
+use Rattle.bsv_design.specs.scheme.Schemes.{Scheme, Outline, Asking, Called, ready, calls}
+use Rattle.bsv_design.specs.scheme.Serial.{by_rank}
+use Rattle.bsv_design.specs.scheme.States.{emptied}
 use Rattle.bsv_graph.specs.Orders.{place_of}
 use Rattle.bsv_guard.specs.ElementLaws.{ElementLaws, IsUse}
 use Rattle.bsv_guard.proofs.Keeps.{sound_keeps}

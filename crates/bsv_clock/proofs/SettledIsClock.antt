@@ -4,10 +4,10 @@ use Rattle.std.specs.Prelude.{filter}
 use Rattle.std.proofs.lemmas.Bool.{and_parts, and_from, not-true, both_ways, cases_Bool, false_from_ne_true}
 use Rattle.bsv_prim.specs.declared.part.Part.{Part}
 use Rattle.bsv_design.specs.declared.schedule.Schedule.{Schedule}
-use Rattle.bsv_design.specs.Bodies.{Target}
-use Rattle.bsv_design.specs.Schemes.{Scheme, Asking, Called, ready, calls}
-use Rattle.bsv_design.specs.Serial.{Serial, by_rank}
-use Rattle.bsv_design.specs.States.{emptied, after_calls}
+use Rattle.bsv_design.specs.design.Bodies.{Target}
+use Rattle.bsv_design.specs.scheme.Schemes.{Scheme, Asking, Called, ready, calls}
+use Rattle.bsv_design.specs.scheme.Serial.{Serial, by_rank}
+use Rattle.bsv_design.specs.scheme.States.{emptied, after_calls}
 use Rattle.bsv_schedule.specs.relating.Elements.{relating}
 use Rattle.bsv_graph.specs.Orders.{In}
 use Rattle.bsv_guard.specs.ElementLaws.{IsUse}

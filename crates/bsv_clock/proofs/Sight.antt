@@ -8,11 +8,11 @@ use Rattle.std.proofs.lemmas.Option.{same_Some}
 use Rattle.bsv_lemmas.proofs.Places.{all_from}
 use Rattle.bsv_prim.specs.declared.part.Part.{Part}
 use Rattle.bsv_design.specs.declared.kind.Kind.{Kind}
-use Rattle.bsv_design.specs.Bodies.{Target}
-use Rattle.bsv_design.specs.Relations.{feeds, for_some, is_seen}
-use Rattle.bsv_design.specs.Schemes.{Scheme, Asking, Called, Look, calls}
-use Rattle.bsv_design.specs.Serial.{by_rank, run_whole, made}
-use Rattle.bsv_design.specs.States.{plain, part_at, after_calls}
+use Rattle.bsv_design.specs.design.Bodies.{Target}
+use Rattle.bsv_design.specs.scheme.Relations.{feeds, for_some, is_seen}
+use Rattle.bsv_design.specs.scheme.Schemes.{Scheme, Asking, Called, Look, calls}
+use Rattle.bsv_design.specs.scheme.Serial.{by_rank, run_whole, calls_made}
+use Rattle.bsv_design.specs.scheme.States.{plain, part_at, after_calls}
 use Rattle.bsv_graph.specs.Orders.{In}
 use Rattle.bsv_guard.specs.ElementLaws.{ElementLaws, IsUse}
 use Rattle.bsv_guard.proofs.Ranks.{all_by_rank}
@@ -36,7 +36,7 @@ pub look_same : (ks : List Kind) (ps : List Part) (t : Target) (cs ds : List Cal
 unfolding look_after
 look_same ks ps t cs ds h = ap (λ (es : List Called). part_at (after_calls ks ps es) t.part) h
 
--- calls behind that are not seen
+-- calls after that are not seen
 pub look_cut : (ks : List Kind) (ps : List Part) (t : Target) (cs ds : List Called) → seen_by ks t ds ≡ [] → look_after ks ps (cs ++ ds) t ≡ look_after ks ps cs t
 look_cut ks ps t cs ds h =
     look_same ks ps t (cs ++ ds) cs
@@ -89,9 +89,9 @@ module _ (S : Scheme) (n : ℕ) (t : Target) (use_ : IsUse S n t) where
   unfolding seen_by
   blind_turns laws q ps [] none = refl
   blind_turns laws q ps (f ∷ fs) none =
-      seen_by-append S.kinds t (made S q f ps) (calls_in_turn S q (run_whole S q f ps) fs)
+      seen_by-append S.kinds t (calls_made S q f ps) (calls_in_turn S q (run_whole S q f ps) fs)
       ∙ ap₂ (λ (cs ds : List Called). cs ++ ds)
-      (blind f (none f (inl refl)) (made S q f ps) (ranked_uses S laws q f (plain ps)))
+      (blind f (none f (inl refl)) (calls_made S q f ps) (ranked_uses S laws q f (plain ps)))
       (blind_turns laws q (run_whole S q f ps) fs (λ g i. none g (inr i)))
 
   -- what is seen rests on what the elements do that feed it

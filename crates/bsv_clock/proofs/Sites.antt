@@ -9,10 +9,10 @@ use Rattle.bsv_bits.specs.Words.{Bits, zero_word}
 use Rattle.bsv_prim.specs.declared.part.Part.{Part}
 use Rattle.bsv_prim.specs.Table.{IsWordOf}
 use Rattle.bsv_design.specs.declared.kind.Kind.{Kind}
-use Rattle.bsv_design.specs.Bodies.{Target, Answers}
-use Rattle.bsv_design.specs.Kinds.{kind_table, kind_laws}
-use Rattle.bsv_design.specs.Schemes.{Scheme, Asking, Look, is_open, guard_of, result_of, no_result, answers, given, ready}
-use Rattle.bsv_design.specs.Traces.{Site, Trace, acts, kind_at}
+use Rattle.bsv_design.specs.design.Bodies.{Target, Answers}
+use Rattle.bsv_design.specs.tree.Kinds.{kind_table, kind_laws}
+use Rattle.bsv_design.specs.scheme.Schemes.{Scheme, Asking, Look, is_open, guard_of, result_of, no_result, answers, given, ready}
+use Rattle.bsv_design.specs.scheme.Traces.{Site, Trace, acts, kind_at}
 use Rattle.bsv_guard.specs.ElementLaws.{IsUse, ActsAlike}
 use Rattle.bsv_guard.specs.Fitting.{IsFitCall, IsFitAnswer, AnswersFit, RequestFits, IsFitting, StaysOpenWhereFit}
 use Rattle.bsv_guard.specs.Sound.{IsSound}

@@ -6,12 +6,12 @@ use Rattle.bsv_prim.specs.Calls.{IsReady}
 use Rattle.bsv_prim.specs.Table.{Call, CallFits}
 use Rattle.bsv_prim.specs.declared.part.Part.{Part}
 use Rattle.bsv_design.specs.declared.kind.Kind.{Kind}
-use Rattle.bsv_design.specs.Bodies.{Target}
-use Rattle.bsv_design.specs.Kinds.{kind_table, kind_laws}
-use Rattle.bsv_design.specs.Schemes.{Scheme, Asking, Called, Look, is_open, guard_of, result_of, ready}
-use Rattle.bsv_design.specs.Serial.{Serial}
-use Rattle.bsv_design.specs.States.{FitsKinds, emptied, part_at, plain}
-use Rattle.bsv_design.specs.Traces.{acts, kind_at}
+use Rattle.bsv_design.specs.design.Bodies.{Target}
+use Rattle.bsv_design.specs.tree.Kinds.{kind_table, kind_laws}
+use Rattle.bsv_design.specs.scheme.Schemes.{Scheme, Asking, Called, Look, is_open, guard_of, result_of, ready}
+use Rattle.bsv_design.specs.scheme.Serial.{Serial}
+use Rattle.bsv_design.specs.scheme.States.{FitsKinds, emptied, part_at, plain}
+use Rattle.bsv_design.specs.scheme.Traces.{acts, kind_at}
 use Rattle.bsv_guard.specs.ElementLaws.{IsUse, ActsAlike}
 use Rattle.bsv_guard.specs.Fitting.{FittingLaws, IsFitCall, IsFitAnswer, IsMethodOf, RequestFits, StaysOpenWhereFit}
 use Rattle.bsv_guard.specs.Turns.{calls_on}
@@ -37,7 +37,7 @@ module _ (S : Scheme) (ok : IsLawful S) (g : Bool) (q : Asking) (requests : (n :
   abbrev pub fits : FittingLaws S
   fits = fitting_keeps S ok.sound ok.fitting
 
-  -- the part at which a method looks behind a run
+  -- the part at which a method looks after a run
   pub looked_at : (ps : List Part) → FitsKinds S.kinds ps → (cs : List Called) (t : Target) (kind : Kind) → kind_at S.kinds t ≡ Some kind
       → look_after S.kinds ps cs t ≡ prim.look (kind_table kind) t.method (part_at ps t.part) (calls_on t.part cs)
   unfolding look_after
@@ -52,7 +52,7 @@ module _ (S : Scheme) (ok : IsLawful S) (g : Bool) (q : Asking) (requests : (n :
     end_fits : FitsKinds S.kinds end
     end_fits = run_fits S ok g q requests parts serial
 
-    -- a method that is open behind just the calls that it sees is open behind all, and gives the same
+    -- a method that is open after just the calls that it sees is open after all, and gives the same
     module _ (t : Target) (u : IsUse S n t) (kind : Kind) (is : kind_at S.kinds t ≡ Some kind) where
       abbrev done : List Call
       done = calls_on t.part (calls_in_turn S q ps ns)

@@ -4,8 +4,8 @@ use Rattle.std.specs.Prelude.{slice_get}
 use Rattle.std.proofs.lemmas.Bool.{and_parts, and_cases, both_ways, cases_lt}
 use Rattle.std.proofs.lemmas.Option.{slice_get_past}
 use Rattle.bsv_design.specs.declared.schedule.Schedule.{Schedule}
-use Rattle.bsv_design.specs.Relations.{feeds}
-use Rattle.bsv_design.specs.Schemes.{Scheme}
+use Rattle.bsv_design.specs.scheme.Relations.{feeds}
+use Rattle.bsv_design.specs.scheme.Schemes.{Scheme}
 use Rattle.bsv_schedule.specs.relating.Elements.{relating}
 use Rattle.bsv_graph.specs.Orders.{In, IsOrderOf, place_of}
 use Rattle.bsv_schedule.specs.stopping.Stops.{Picks, Ordered}

@@ -7,11 +7,11 @@ use Rattle.std.proofs.lemmas.List.Elements.{filter-append}
 use Rattle.bsv_bits.specs.Words.{Bits}
 use Rattle.bsv_prim.specs.declared.part.Part.{Part}
 use Rattle.bsv_design.specs.declared.schedule.Schedule.{Schedule}
-use Rattle.bsv_design.specs.Bodies.{Target}
-use Rattle.bsv_design.specs.Schemes.{Scheme, Asking, Called, Look, ready, calls, value}
-use Rattle.bsv_design.specs.Serial.{Serial, done, by_rank, run_whole}
-use Rattle.bsv_design.specs.Serial as serial
-use Rattle.bsv_design.specs.States.{emptied, plain, after_calls}
+use Rattle.bsv_design.specs.design.Bodies.{Target}
+use Rattle.bsv_design.specs.scheme.Schemes.{Scheme, Asking, Called, Look, ready, calls, value}
+use Rattle.bsv_design.specs.scheme.Serial.{Serial, done, by_rank, run_whole}
+use Rattle.bsv_design.specs.scheme.Serial as serial
+use Rattle.bsv_design.specs.scheme.States.{emptied, plain, after_calls}
 use Rattle.bsv_schedule.specs.relating.Elements.{relating}
 use Rattle.bsv_graph.specs.Orders.{In}
 use Rattle.bsv_graph.proofs.LeastLemmas.{in_left, in_right, once_apart}
@@ -33,12 +33,12 @@ use Rattle.bsv_clock.proofs.Stopping.{ordered, execution_order}
 abbrev pub does : Scheme → Asking → (ℕ → Bool) → Look → Doing
 does S q test look n = cond (test n) (Some (by_rank S.kinds (calls S q n look))) None
 
--- the part of the execution order that stands before an element
+-- the part of the execution order that comes before an element
 abbrev pub StandsAt : Schedule → List ℕ → ℕ → List ℕ → Type 0
 StandsAt made before n behind = made.execution ≡ before ++ (n ∷ behind)
 
--- The elements that pass the test are ready under the look, and none stops another. To each of them, the look is one behind
--- the calls of those that stand before it.
+-- The elements that pass the test are ready under the look, and none stops another. To each of them, the look is one after
+-- the calls of those that come before it.
 pub record AreReady (g : Bool) (S : Scheme) (made : Schedule) (q : Asking) (s : List Part) (test : ℕ → Bool) (look : Look) : Type 0 where
   pub is_ready : (n : ℕ) → In made.execution n → test n ≡ true → ready g S q n look ≡ true
   pub free : (a b : ℕ) → In made.execution a → In made.execution b → test a ≡ true → test b ≡ true → ¬ StopsIn S made a b
@@ -133,7 +133,7 @@ module _ (g : Bool) (S : Scheme) (made : Schedule) (q : Asking) (s : List Part) 
             same_value = local.same_value ∙ now.same_value;
           }
 
-      made_here : serial.made S q n end ≡ deed (D n)
+      made_here : serial.calls_made S q n end ≡ deed (D n)
       made_here =
           ap (by_rank S.kinds) (sym acts.same_calls)
           ∙ sym (ap (λ (b : Bool). deed (cond b (Some (by_rank S.kinds (calls S q n look))) None)) is)
@@ -153,8 +153,8 @@ module _ (g : Bool) (S : Scheme) (made : Schedule) (q : Asking) (s : List Part) 
       more_calls : calls_in_turn S q start (filter test before ++ n ∷ []) ≡ deeds D before ++ deed (D n)
       more_calls =
           turns_append S q start (filter test before) (n ∷ [])
-          ∙ ap (λ (cs : List Called). cs ++ (serial.made S q n (after_calls S.kinds start cs) ++ [])) h.same_calls
-          ∙ ap (λ (cs : List Called). deeds D before ++ cs) (append-nil (serial.made S q n end) ∙ made_here)
+          ∙ ap (λ (cs : List Called). cs ++ (serial.calls_made S q n (after_calls S.kinds start cs) ++ [])) h.same_calls
+          ∙ ap (λ (cs : List Called). deeds D before ++ cs) (append-nil (serial.calls_made S q n end) ∙ made_here)
 
       more_results : results_in_turn S q start (filter test before ++ n ∷ []) ≡ results_under S q look (filter test before ++ n ∷ [])
       more_results =

@@ -2,7 +2,7 @@
 use Rattle.std.specs.Prelude.{◌≡◌, ℕ, Bool, true, List}
 use Rattle.bsv_prim.specs.declared.part.Part.{Part}
 use Rattle.bsv_design.specs.declared.tree.Attribute.TheVariants as attribute
-use Rattle.bsv_design.specs.Schemes.{Scheme, Asking}
+use Rattle.bsv_design.specs.scheme.Schemes.{Scheme, Asking}
 use Rattle.bsv_graph.specs.Orders.{In}
 use Rattle.bsv_schedule.specs.relating.Marks.{IsMarked, IsPaired}
 use Rattle.bsv_clock.specs.Clocks.{is_candidate}

@@ -6,11 +6,11 @@ use Rattle.bsv_bits.specs.Words.{Bits}
 use Rattle.bsv_prim.specs.declared.part.Part.{Part}
 use Rattle.bsv_design.specs.declared.fired.Fired.{Fired}
 use Rattle.bsv_design.specs.declared.schedule.Schedule.{Schedule}
-use Rattle.bsv_design.specs.Schemes.{Scheme, Asking, Look, ready, value}
-use Rattle.bsv_design.specs.Serial.{run_whole}
-use Rattle.bsv_design.specs.States.{emptied, plain}
+use Rattle.bsv_design.specs.scheme.Schemes.{Scheme, Asking, Look, ready, value}
+use Rattle.bsv_design.specs.scheme.Serial.{run_whole}
+use Rattle.bsv_design.specs.scheme.States.{emptied, plain}
 use Rattle.bsv_graph.specs.Edges.{numbers_below}
-use Rattle.bsv_graph.specs.Orders.{In, StandsBefore}
+use Rattle.bsv_graph.specs.Orders.{In, IsBefore}
 use Rattle.bsv_schedule.specs.stopping.Firing.{StopsIn}
 use Rattle.bsv_clock.specs.Clocks.{IsClock, is_in, is_asked, is_candidate}
 use Rattle.bsv_clock.specs.Looks.{clock_look}
@@ -19,7 +19,7 @@ use Rattle.bsv_clock.specs.Looks.{clock_look}
 pub record IsFirstStopper (S : Scheme) (made : Schedule) (fired : List ℕ) (stopped : ℕ × ℕ) : Type 0 where
   pub fires : In fired stopped.1
   pub stops : StopsIn S made stopped.1 stopped.0
-  pub first : (f : ℕ) → In fired f → StopsIn S made f stopped.0 → (f ≡ stopped.1) ⊎ StandsBefore made.urgency stopped.1 f
+  pub first : (f : ℕ) → In fired f → StopsIn S made f stopped.0 → (f ≡ stopped.1) ⊎ IsBefore made.urgency stopped.1 f
 
 -- the elements that are ready and do not fire, by urgency
 abbrev pub stopped_in : Bool → Scheme → Schedule → Asking → List Part → List ℕ → List ℕ

@@ -6,11 +6,11 @@ use Rattle.bsv_prim.specs.Calls.{IsOrderly}
 use Rattle.bsv_prim.specs.declared.part.Part.{Part}
 use Rattle.bsv_design.specs.declared.kind.Kind.{Kind}
 use Rattle.bsv_design.specs.declared.schedule.Schedule.{Schedule}
-use Rattle.bsv_design.specs.Bodies.{Target}
-use Rattle.bsv_design.specs.Kinds.{kind_table}
-use Rattle.bsv_design.specs.Schemes.{Scheme, Called, is_open}
-use Rattle.bsv_design.specs.States.{FitsKinds, FitLook, emptied, part_at}
-use Rattle.bsv_design.specs.Traces.{acts, kind_at}
+use Rattle.bsv_design.specs.design.Bodies.{Target}
+use Rattle.bsv_design.specs.tree.Kinds.{kind_table}
+use Rattle.bsv_design.specs.scheme.Schemes.{Scheme, Called, is_open}
+use Rattle.bsv_design.specs.scheme.States.{FitsKinds, FitLook, emptied, part_at}
+use Rattle.bsv_design.specs.scheme.Traces.{acts, kind_at}
 use Rattle.bsv_guard.specs.Fitting.{IsFitCall}
 use Rattle.bsv_guard.specs.Turns.{calls_on}
 use Rattle.bsv_clock.specs.Looks.{seen_by}
@@ -31,6 +31,6 @@ pub record IsFed (S : Scheme) (made : Schedule) (s : List Part) (D : Doing) : Ty
       → IsFitCall (kind_at S.kinds c.target) c.target.method c.arguments
   pub open_in_look : (k : ℕ) (c : Called) → slice_get (deeds D made.execution) k ≡ Some c
       → is_open S.kinds (look_of S made s D) c.target ≡ true
-  -- the parts fit in the look, and behind the clock
+  -- the parts fit in the look, and after the clock
   pub look_fits : FitLook S.kinds (look_of S made s D)
   pub end_fits : FitsKinds S.kinds (end_of S made s D)

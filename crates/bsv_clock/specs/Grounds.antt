@@ -2,14 +2,14 @@
 use Rattle.std.specs.Prelude.{ℕ, IsTrue, List}
 use Rattle.bsv_prim.specs.declared.part.Part.{Part}
 use Rattle.bsv_design.specs.declared.schedule.Schedule.{Schedule}
-use Rattle.bsv_design.specs.Relations.{KeepsTheRule}
-use Rattle.bsv_design.specs.Schemes.{Scheme, Asking}
-use Rattle.bsv_design.specs.States.{FitsKinds}
+use Rattle.bsv_design.specs.scheme.Relations.{KeepsTheRule}
+use Rattle.bsv_design.specs.scheme.Schemes.{Scheme, Asking}
+use Rattle.bsv_design.specs.scheme.States.{FitsKinds}
 use Rattle.bsv_schedule.specs.relating.Elements.{relating}
-use Rattle.bsv_schedule.specs.executing.Orders.{Executes}
+use Rattle.bsv_schedule.specs.execution_order.Orders.{Executes}
 use Rattle.bsv_schedule.specs.relating.Relating.{Relating, Agrees}
 use Rattle.bsv_schedule.specs.stopping.Stops.{AreStops}
-use Rattle.bsv_schedule.specs.urging.Orders.{Urges}
+use Rattle.bsv_schedule.specs.urgency_order.Orders.{Urges}
 use Rattle.bsv_guard.specs.Fitting.{RequestFits, IsFitting}
 use Rattle.bsv_guard.specs.Sound.{IsSound}
 

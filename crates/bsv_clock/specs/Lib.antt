@@ -9,4 +9,4 @@ pub mod Events
 pub mod Runs
 pub mod Obeying
 pub mod Attributes
-pub mod Hardware
+pub mod Shows

@@ -3,9 +3,9 @@
 use Rattle.std.specs.Prelude.{◌≡◌, ℕ, Bool, true, false, not, List, filter}
 use Rattle.bsv_design.specs.declared.schedule.Schedule.{Schedule}
 use Rattle.bsv_design.specs.declared.tree.Attribute.TheVariants as attribute
-use Rattle.bsv_design.specs.Schemes.{Scheme, Asking, Look, ready, seen, all_hold}
-use Rattle.bsv_design.specs.Traces.{Demand, has_name}
-use Rattle.bsv_graph.specs.Orders.{In, StandsBefore}
+use Rattle.bsv_design.specs.scheme.Schemes.{Scheme, Asking, Look, ready, seen, all_hold}
+use Rattle.bsv_design.specs.scheme.Traces.{Demand, has_name}
+use Rattle.bsv_graph.specs.Orders.{In, IsBefore}
 use Rattle.bsv_schedule.specs.stopping.Firing.{NoMemberStops, OthersAreStopped}
 use Rattle.bsv_schedule.specs.relating.Marks.{IsMarked, IsPaired}
 
@@ -15,11 +15,11 @@ own ds = filter (λ d. not (has_name d)) ds
 
 pub record Obeys (S : Scheme) (s : Schedule) : Type 0 where
   -- of adjacent names the first is the more urgent one
-  pub descending_urgency : (a b : ℕ) → IsPaired S.pairs attribute.DescendingUrgency a b → StandsBefore s.urgency a b
+  pub descending_urgency : (a b : ℕ) → IsPaired S.pairs attribute.DescendingUrgency a b → IsBefore s.urgency a b
   -- of adjacent names the first takes effect first
-  pub execution_order : (a b : ℕ) → IsPaired S.pairs attribute.ExecutionOrder a b → StandsBefore s.execution a b
+  pub execution_order : (a b : ℕ) → IsPaired S.pairs attribute.ExecutionOrder a b → IsBefore s.execution a b
   -- the left one is the more urgent one
-  pub preempts : (a b : ℕ) → IsPaired S.pairs attribute.Preempts a b → StandsBefore s.urgency a b
+  pub preempts : (a b : ℕ) → IsPaired S.pairs attribute.Preempts a b → IsBefore s.urgency a b
   -- and the right one fires in no clock in which the left one does
   pub preempted : (a b : ℕ) → IsPaired S.pairs attribute.Preempts a b
       → (fired : List ℕ) → NoMemberStops S s fired → In fired a → ¬ In fired b

@@ -1,15 +1,15 @@
--- Whole runs: from the opening state, each clock goes from the state behind the clock before it.
+-- Whole runs: from the opening state, each clock goes from the state after the clock before it.
 use Rattle.std.specs.Prelude.{◌≡◌, ℕ, Bool, List, [], ◌∷◌}
 use Rattle.std.specs.List.{AllByRecursion}
 use Rattle.bsv_prim.specs.declared.part.Part.{Part}
 use Rattle.bsv_design.specs.declared.fired.Fired.{Fired}
 use Rattle.bsv_design.specs.declared.schedule.Schedule.{Schedule}
-use Rattle.bsv_design.specs.Schemes.{Scheme, Asking}
-use Rattle.bsv_design.specs.States.{opening}
+use Rattle.bsv_design.specs.scheme.Schemes.{Scheme, Asking}
+use Rattle.bsv_design.specs.scheme.States.{opening}
 use Rattle.bsv_guard.specs.Fitting.{RequestFits}
 use Rattle.bsv_clock.specs.Events.{Happens, TellAlike}
 
--- a clock of a run: what happened, and the state behind it
+-- a clock of a run: what happened, and the state after it
 pub record Row : Type 0 where
   pub fired : Fired
   pub after : List Part

@@ -4,10 +4,10 @@ use Rattle.std.specs.Prelude.{◌≡◌, ◌<◌, ℕ, zero, suc, Bool, cond, no
 use Rattle.std.specs.List.{list_any, flat_map}
 use Rattle.bsv_prim.specs.declared.part.Part.{Part}
 use Rattle.bsv_design.specs.declared.schedule.Schedule.{Schedule}
-use Rattle.bsv_design.specs.Bodies.{Target}
-use Rattle.bsv_design.specs.Schemes.{Scheme, Asking, Called, Look, ready, calls}
-use Rattle.bsv_design.specs.Serial.{by_rank}
-use Rattle.bsv_design.specs.States.{emptied, after_calls}
+use Rattle.bsv_design.specs.design.Bodies.{Target}
+use Rattle.bsv_design.specs.scheme.Schemes.{Scheme, Asking, Called, Look, ready, calls}
+use Rattle.bsv_design.specs.scheme.Serial.{by_rank}
+use Rattle.bsv_design.specs.scheme.States.{emptied, after_calls}
 use Rattle.bsv_graph.specs.Orders.{place_of}
 use Rattle.bsv_guard.specs.ElementLaws.{IsUse}
 use Rattle.bsv_clock.specs.Clocks.{is_in, may_fire}
@@ -88,6 +88,6 @@ the_clock aggressive S made q s = rounds aggressive S made q s (suc (length S.el
 unfoldable pub fired_in : Schedule → Doing → List ℕ
 fired_in made D = filter (fires D) made.execution
 
--- the parts behind the clock
+-- the parts after the clock
 unfoldable pub end_of : Scheme → Schedule → List Part → Doing → List Part
 end_of S made s D = after_calls S.kinds (emptied S.kinds s) (deeds D made.execution)

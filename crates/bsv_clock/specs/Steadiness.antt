@@ -1,11 +1,11 @@
--- The law of steadiness: an element that is ready under the look behind elements that go before it is ready behind them.
+-- The law of steadiness: an element that is ready under the look after elements that go before it is ready after them.
 use Rattle.std.specs.Prelude.{◌≡◌, ℕ, Bool, true, List, [], ◌∷◌}
 use Rattle.bsv_prim.specs.declared.part.Part.{Part}
-use Rattle.bsv_design.specs.Bodies.{Target}
-use Rattle.bsv_design.specs.Relations.{goes}
-use Rattle.bsv_design.specs.Schemes.{Scheme, Asking, Look, ready}
-use Rattle.bsv_design.specs.Serial.{Serial}
-use Rattle.bsv_design.specs.States.{emptied, plain}
+use Rattle.bsv_design.specs.design.Bodies.{Target}
+use Rattle.bsv_design.specs.scheme.Relations.{goes}
+use Rattle.bsv_design.specs.scheme.Schemes.{Scheme, Asking, Look, ready}
+use Rattle.bsv_design.specs.scheme.Serial.{Serial}
+use Rattle.bsv_design.specs.scheme.States.{emptied, plain}
 use Rattle.bsv_graph.specs.Orders.{In}
 use Rattle.bsv_guard.specs.ElementLaws.{IsUse, ActsAlike}
 use Rattle.bsv_clock.specs.Grounds.{Fit}
@@ -21,7 +21,7 @@ GoInOrder S [] = Unit {0}
 GoInOrder S (f ∷ fired) = ((n : ℕ) → In fired n → goes S f n ≡ true) × GoInOrder S fired
 
 -- Elements were run one after the other, each of which goes before each later one and before this element. Where it is
--- ready under the look behind them, it is ready as things stand behind them, and does the same as under that look.
+-- ready under the look after them, it is ready as things come after them, and does the same as under that look.
 abbrev pub IsSteady : Bool → Scheme → Type 0
 IsSteady aggressive S =
     (q : Asking) (s end : List Part) (fired : List ℕ) (n : ℕ) → Fit S q s

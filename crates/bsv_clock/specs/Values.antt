@@ -3,7 +3,7 @@ use Rattle.std.specs.Prelude.{◌≡◌, ℕ, Bool, false, List, slice_get, Some
 use Rattle.bsv_prim.specs.declared.part.Part.{Part}
 use Rattle.bsv_design.specs.declared.element.Role.TheVariants as role
 use Rattle.bsv_design.specs.declared.schedule.Schedule.{Schedule}
-use Rattle.bsv_design.specs.Schemes.{Scheme, Outline, Asking, given}
+use Rattle.bsv_design.specs.scheme.Schemes.{Scheme, Outline, Asking, given}
 use Rattle.bsv_clock.specs.Clocks.{may_fire}
 use Rattle.bsv_clock.specs.Settling.{the_clock, deeds, stops_in}
 

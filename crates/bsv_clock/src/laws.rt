@@ -1,17 +1,17 @@
 ghost use Rattle.std.specs.Prelude.{◌≡◌, ℕ, Bool, List};
 ghost use Rattle.bsv_bits.specs.Words.{Bits};
 ghost use Rattle.bsv_clock.specs.Obeying.{Obeys};
-ghost use Rattle.bsv_design.specs.Seen.{blueprint};
+ghost use Rattle.bsv_design.specs.tree.Seen.{design_data};
 ghost use Rattle.bsv_design.specs.declared.design.Design.{Design as TheDesign};
-ghost use Rattle.bsv_design.specs.Schemes.{Scheme, Asking, AreAlike, design_scheme};
-ghost use Rattle.bsv_design.specs.States.{emptied};
+ghost use Rattle.bsv_design.specs.scheme.Schemes.{Scheme, Asking, AreAlike, design_scheme};
+ghost use Rattle.bsv_design.specs.scheme.States.{emptied};
 ghost use Rattle.bsv_design.specs.declared.fired.Fired.{Fired};
 ghost use Rattle.bsv_design.specs.declared.schedule.Schedule.{Schedule};
 ghost use Rattle.bsv_schedule.specs.relating.Elements.{relating};
 ghost use Rattle.bsv_schedule.specs.relating.Relating.{Agrees};
 ghost use Rattle.bsv_prim.specs.declared.part.Part.{Part};
 ghost use Rattle.bsv_clock.specs.Attributes.{ObeysInClock};
-ghost use Rattle.bsv_clock.specs.Hardware.{Carries, Cell, Given};
+ghost use Rattle.bsv_clock.specs.Shows.{Carries, Cell, Given};
 ghost use Rattle.bsv_clock.specs.Clocks.{IsClock};
 ghost use Rattle.bsv_clock.specs.Events.{Happens, TellAlike, results_in_turn, results_under};
 ghost use Rattle.bsv_clock.specs.Feeding.{IsFed};
@@ -28,10 +28,10 @@ ghost use Rattle.bsv_clock.specs.Values.{AreQuiet, AskAlike, HappenAlike};
 /// What the laws of a clock ask holds of every design in which no two calls of one element break the
 /// rule of one element, and of what is like such a design, as the tree from which it was made.
 pub fn lawful()
-    ensures designs { (d : TheDesign) → KeepsRules (design_scheme (blueprint d))
-        → IsLawful (design_scheme (blueprint d)) }
-    ensures agrees { (d : TheDesign) → Agrees (relating (design_scheme (blueprint d))) }
-    ensures named { (d : TheDesign) → PreemptsNameRules (relating (design_scheme (blueprint d))) }
+    ensures designs { (d : TheDesign) → KeepsRules (design_scheme (design_data d))
+        → IsLawful (design_scheme (design_data d)) }
+    ensures agrees { (d : TheDesign) → Agrees (relating (design_scheme (design_data d))) }
+    ensures named { (d : TheDesign) → PreemptsNameRules (relating (design_scheme (design_data d))) }
     ensures alike { (S T : Scheme) → AreAlike S T → IsLawful S → IsLawful T }
     ensures schedule_alike { (S T : Scheme) (made : Schedule) → AreAlike S T
         → IsScheduleOf S made → IsScheduleOf T made }
@@ -39,8 +39,8 @@ pub fn lawful()
         → Fit S q s → Fit T q s }
 {}
 
-/// The law of steadiness: an element that is ready under the look behind elements that go before it and
-/// each other is ready behind them, and does the same. What an element does rests on the parts alone at
+/// The law of steadiness: an element that is ready under the look after elements that go before it and
+/// each other is ready after them, and does the same. What an element does rests on the parts alone at
 /// which its methods look.
 pub fn steady()
     ensures steady { (aggressive : Bool) (S : Scheme) → IsLawful S → IsSteady aggressive S }
@@ -75,7 +75,7 @@ pub fn settled()
 {}
 
 /// From each state that fits, with requests that fit, there is exactly one clock: one list of elements
-/// that fire, and one state behind it.
+/// that fire, and one state after it.
 pub fn one_clock()
     ensures some { (aggressive : Bool) (S : Scheme) (made : Schedule) (q : Asking) (s : List Part)
         → BelongTogether S made q s

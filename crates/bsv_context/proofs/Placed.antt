@@ -49,10 +49,10 @@ named_there name hs k h e there =
     let header : p.header ≡ h = cc in
     p.is ∙ ap (λ (x : MethodHeader). Some (k, header_signature x)) header
 
--- no place is behind the end
-named_behind : (name : List ℕ) (hs : List MethodHeader) (k : ℕ) → place_of name hs ≡ Some k → slice_get hs k ≡ None →
+-- no place is after the end
+named_after : (name : List ℕ) (hs : List MethodHeader) (k : ℕ) → place_of name hs ≡ Some k → slice_get hs k ≡ None →
     method_from 0 name (map header_signature hs) ≡ None
-named_behind name hs k e there =
+named_after name hs k e there =
     let p = placed_from 0 k name hs e in
     let zero : 0 + p.steps ≡ p.steps = omega arith in
     let same : k ≡ p.steps = p.far ∙ zero in
@@ -66,7 +66,7 @@ at_place hs (Some k) = header_at k (slice_get hs k)
 
 signed_is : (name : List ℕ) (hs : List MethodHeader) (k : ℕ) (o : Option MethodHeader) → place_of name hs ≡ Some k → slice_get hs k ≡ o →
     method_from 0 name (map header_signature hs) ≡ header_at k o
-signed_is name hs k None e there = named_behind name hs k e there
+signed_is name hs k None e there = named_after name hs k e there
 signed_is name hs k (Some h) e there = named_there name hs k h e there
 
 at_place_is : (name : List ℕ) (hs : List MethodHeader) (o : Option ℕ) → place_of name hs ≡ o → method_from 0 name (map header_signature hs) ≡ at_place hs o

@@ -10,12 +10,12 @@ use Rattle.bsv_types.specs.Operators.{◌>>=◌}
 use Rattle.bsv_types.specs.Expressions.{Slot}
 
 -- a typed expression, with its type
-pub record Made : Type 0 where
+pub record TypedExpr : Type 0 where
   pub kind : Kind
   pub expr : Expr
 
 -- a typed expression of the expected type, if there is one
-abbrev pub wanted : Option Kind → Made → Option Made
+abbrev pub wanted : Option Kind → TypedExpr → Option TypedExpr
 wanted None m = Some m
 wanted (Some k) m = if same_kind m.kind k then Some m else None
 
@@ -71,13 +71,13 @@ packed g (down n) = Some (down n)
 packed g (maybe k) = packed g k >>= beside (bit 1)
 packed g k = width_by g.shapes.enums g.shapes.structs k >>= λ n. Some (bit n)
 
--- no more than so many Maybes stand in each other
+-- no more than so many Maybes are in each other
 unfoldable pub nests_within : ℕ → Kind → Bool
 nests_within zero (maybe k) = false
 nests_within (suc n) (maybe k) = nests_within n k
 nests_within n k = true
 
--- where widths are left aside, a type may be as wide as it likes, but Maybes stand in each other at most so deep
+-- where widths are left aside, a type may be as wide as it likes, but Maybes are in each other at most so deep
 unfoldable pub most_maybes : ℕ
 most_maybes = 1024
 
@@ -90,19 +90,19 @@ abbrev pub is_typed_value : Limits → Kind → Bool
 is_typed_value g integer = true
 is_typed_value g k = has_bits g k
 
-unfoldable pub in_order : Limits → Made → Option Made
+unfoldable pub in_order : Limits → TypedExpr → Option TypedExpr
 in_order g m = if is_typed_value g m.kind then Some m else None
 
-abbrev pub literal : Kind → ℕ → Made
+abbrev pub literal : Kind → ℕ → TypedExpr
 literal k number = record { kind = k; expr = Literal (type_of k) number }
 
-abbrev pub applied : Kind → List Op → List Expr → Made
+abbrev pub applied : Kind → List Op → List Expr → TypedExpr
 applied k os xs = record { kind = k; expr = Apply (type_of k) os xs }
 
-abbrev pub called : Kind → ℕ → List Expr → Made
+abbrev pub called : Kind → ℕ → List Expr → TypedExpr
 called k number xs = record { kind = k; expr = Call (type_of k) number xs }
 
-abbrev pub chosen : Kind → List Expr → List Expr → Made
+abbrev pub chosen : Kind → List Expr → List Expr → TypedExpr
 chosen k conditions values = record { kind = k; expr = Choice (type_of k) conditions values }
 
 -- an unsized literal of this type, if it fits
@@ -114,7 +114,7 @@ fits g number (int n) = not g.strict || nat_lt (2 * number) (2 ^ n)
 fits g number integer = not g.strict || nat_lt number (2 ^ 63)
 fits g number _ = false
 
--- the same behind `-`
+-- the same after `-`
 unfoldable pub fits_negated : Limits → ℕ → Kind → Bool
 fits_negated g number (int n) = not g.strict || nat_le (2 * number) (2 ^ n)
 fits_negated g number k = fits g number k

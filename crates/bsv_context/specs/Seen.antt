@@ -12,7 +12,7 @@ use Rattle.bsv_scopes.specs.Scopes.{Entries, found}
 use Rattle.bsv_scopes.specs.Seen.{entries, scopes}
 use Rattle.bsv_context.specs.declared.fail.Fail.{Fail}
 use Rattle.bsv_context.specs.declared.fail.Fail.TheVariants as fail
-use Rattle.bsv_context.specs.declared.made.Made as code_made
+use Rattle.bsv_context.specs.declared.made.TypedExpr as code_made
 use Rattle.bsv_context.specs.declared.context.Context.{Context}
 use Rattle.bsv_context.specs.declared.context.FunctionHeader.{FunctionHeader}
 use Rattle.bsv_context.specs.declared.context.Label.{Label}
@@ -24,7 +24,7 @@ use Rattle.bsv_context.specs.declared.methods.Params.TheVariants as params
 use Rattle.bsv_context.specs.declared.methods.MethodEffect.{MethodEffect}
 use Rattle.bsv_context.specs.declared.methods.MethodEffect.TheVariants as effect
 use Rattle.bsv_context.specs.declared.methods.FoundMethod.{FoundMethod}
-use Rattle.bsv_context.specs.Env.{Made, Env, Limits, structure_of, variable_in, in_reach}
+use Rattle.bsv_context.specs.Env.{TypedExpr, Env, Limits, structure_of, variable_in, in_reach}
 use Rattle.bsv_context.specs.Written.{TypeNames}
 
 -- what a function that fails leaves open: nothing where there is no typing
@@ -37,7 +37,7 @@ abbrev pub Gives : {X Y : Type 0} → (X → Y) → Result X Fail → Option Y �
 Gives view (Ok x) given = given ≡ Some (view x)
 Gives view (Err e) given = Fails e given
 
-abbrev pub made : code_made.Made → Made
+abbrev pub made : code_made.TypedExpr → TypedExpr
 made m = record { kind = kind m.ty; expr = m.expr }
 
 abbrev pub slot_of : code_slot.Slot → Slot

@@ -140,7 +140,7 @@ pub fn fits(context: &Context, number: u128, ty: &Ty) -> bool
     }
 }
 
-/// Whether an unsized literal behind `-` fits the type.
+/// Whether an unsized literal after `-` fits the type.
 #[tactic(auto, unfolding(crate::specs::Env::fits_negated, crate::specs::Env::fits))]
 pub fn fits_negated(context: &Context, number: u128, ty: &Ty) -> bool
     ensures { result ≡ types.fits_negated (limits context.now) number (kind ty.now) }

@@ -7,7 +7,7 @@ ghost use Rattle.bsv_context.specs.Seen.{Gives, limits, header, made, shapes, fu
 
 use crate::classes::beside;
 use crate::fail::Fail;
-use crate::made::Made;
+use crate::made::TypedExpr;
 use bsv_bits::Name;
 use bsv_scopes::Scope;
 use bsv_types::{Enum, Interface, Items, Struct, Ty, counted_width};
@@ -143,7 +143,7 @@ impl Context {
 
     /// The typed expression, if its type is in order.
     #[tactic(auto, unfolding(crate::specs::Env::in_order))]
-    pub fn in_order(&self, typed: Made) -> Result<Made, Fail>
+    pub fn in_order(&self, typed: TypedExpr) -> Result<TypedExpr, Fail>
         ensures { Gives made result (spec.in_order (limits self.now) (made typed)) }
     {
         if self.is_typed_value(&typed.ty) {
@@ -154,10 +154,10 @@ impl Context {
     }
 }
 
-/// The most Maybes that stand in each other where widths are left aside. Walks over types go as deep.
+/// The most Maybes that are in each other where widths are left aside. Walks over types go as deep.
 const MOST_MAYBES: u32 = 1024;
 
-/// No more than so many Maybes stand in each other.
+/// No more than so many Maybes are in each other.
 #[tactic(auto, unfolding(crate::specs::Env::nests_within))]
 fn nests_within(most: u32, ty: &Ty) -> bool
     ensures { result ≡ spec.nests_within most (kind ty.now) }

@@ -26,7 +26,7 @@ pub use classes::{
 pub use context::{Context, FunctionHeader, Label, Slot, Variable};
 pub use fail::Fail;
 pub use made::{
-    Made, applied, applied_to_one, applied_to_two, as_wanted, called, chosen, literal, one,
+    TypedExpr, applied, applied_to_one, applied_to_two, as_wanted, called, chosen, literal, one,
     with_suffix,
 };
 pub use methods::{FoundMethod, MethodEffect, Params, method_count, method_named};

@@ -12,18 +12,18 @@ use std::alloc::{AllocError, Global};
 
 /// A typed expression, with its type.
 #[derive(Drop)]
-pub struct Made {
+pub struct TypedExpr {
     pub ty: Ty,
     pub expr: Expr,
 }
 
 /// A literal of the type.
 #[tactic(auto, using(crate::proofs::TypesBack::types_back))]
-pub fn literal(alloc: Global, ty: Ty, number: u128) -> Result<Made, AllocError>
+pub fn literal(alloc: Global, ty: Ty, number: u128) -> Result<TypedExpr, AllocError>
     ensures { IfOk result (λ m. made m ≡ spec.literal (kind ty) number) }
 {
     let own = ty.copy(alloc)?;
-    Ok(Made {
+    Ok(TypedExpr {
         ty,
         expr: Expr::Literal(own, number),
     })
@@ -36,11 +36,11 @@ pub fn applied(
     ty: Ty,
     operators: Items<Op>,
     operands: Items<Expr>,
-) -> Result<Made, AllocError>
+) -> Result<TypedExpr, AllocError>
     ensures { IfOk result (λ m. made m ≡ spec.applied (kind ty) operators operands) }
 {
     let own = ty.copy(alloc)?;
-    Ok(Made {
+    Ok(TypedExpr {
         ty,
         expr: Expr::Apply(own, operators, operands),
     })
@@ -53,11 +53,11 @@ pub fn called(
     ty: &Ty,
     number: u32,
     operands: Items<Expr>,
-) -> Result<Made, AllocError>
+) -> Result<TypedExpr, AllocError>
     ensures { IfOk result (λ m. made m ≡ spec.called (kind ty.now) number operands) }
 {
     let own = ty.copy(alloc)?;
-    Ok(Made {
+    Ok(TypedExpr {
         ty: ty.copy(alloc)?,
         expr: Expr::Call(own, number, operands),
     })
@@ -70,18 +70,18 @@ pub fn chosen(
     ty: Ty,
     conditions: Items<Expr>,
     values: Items<Expr>,
-) -> Result<Made, AllocError>
+) -> Result<TypedExpr, AllocError>
     ensures { IfOk result (λ m. made m ≡ spec.chosen (kind ty) conditions values) }
 {
     let own = ty.copy(alloc)?;
-    Ok(Made {
+    Ok(TypedExpr {
         ty,
         expr: Expr::Choice(own, conditions, values),
     })
 }
 
 /// One operator with one operand, of the type.
-pub fn applied_to_one(alloc: Global, ty: Ty, op: Op, operand: Expr) -> Result<Made, AllocError>
+pub fn applied_to_one(alloc: Global, ty: Ty, op: Op, operand: Expr) -> Result<TypedExpr, AllocError>
     ensures { IfOk result (λ m. made m ≡ spec.applied (kind ty) (op ∷ []) (operand ∷ [])) }
 {
     let operands = one(alloc, operand)?;
@@ -96,7 +96,7 @@ pub fn applied_to_two(
     op: Op,
     first: Expr,
     second: Expr,
-) -> Result<Made, AllocError>
+) -> Result<TypedExpr, AllocError>
     ensures { IfOk result (λ m. made m ≡ spec.applied (kind ty) (op ∷ []) (first ∷ second ∷ [])) }
 {
     let mut operands = one(alloc, first)?;
@@ -105,7 +105,7 @@ pub fn applied_to_two(
     applied(alloc, ty, operators, operands)
 }
 
-/// Whether the operator stands behind its operand.
+/// Whether the operator comes after its operand.
 fn is_suffix(op: Op) -> bool
     ensures { result ≡ is_suffix op }
 {
@@ -140,14 +140,14 @@ fn suffixes(alloc: Global, expr: Expr) -> Result<(Items<Op>, Items<Expr>), Alloc
     }
 }
 
-/// One suffix more behind an expression, with the place of an index, of the type.
+/// One suffix more after an expression, with the place of an index, of the type.
 pub fn with_suffix(
     alloc: Global,
     ty: Ty,
     op: Op,
     place: Items<Expr>,
     operand: Expr,
-) -> Result<Made, AllocError>
+) -> Result<TypedExpr, AllocError>
     ensures { IfOk result (λ m. made m ≡ suffix.with_suffix (kind ty) op place operand) }
 {
     let (mut operators, mut operands) = suffixes(alloc, operand)?;
@@ -166,7 +166,7 @@ pub fn one<T: Drop>(alloc: Global, item: T) -> Result<Items<T>, AllocError>
 }
 
 /// The typed expression, if it has the expected type.
-pub fn as_wanted(want: Option<&Ty>, typed: Made) -> Result<Made, Fail>
+pub fn as_wanted(want: Option<&Ty>, typed: TypedExpr) -> Result<TypedExpr, Fail>
     ensures { Gives made result (wanted (expected want.entry) (made typed)) }
 {
     match want {

@@ -10,12 +10,12 @@ use Rattle.bsv_bits.proofs.Modulo.{IsWord_zero}
 use Rattle.bsv_design.specs.declared.design.Design.{Design}
 use Rattle.bsv_design.specs.declared.element.Element.{Element}
 use Rattle.bsv_design.specs.declared.element.Port.{Port}
-use Rattle.bsv_design.specs.Designs.{Blueprint, IsDesign}
-use Rattle.bsv_design.specs.Roles.{is_rule}
-use Rattle.bsv_design.specs.Seen.{blueprint}
-use Rattle.bsv_design.specs.Schemes.{Asking}
-use Rattle.bsv_design.specs.States.{methods_in, AskingFits, nothing_asked, AreWordsOf, FitMethods, zeros}
-use Rattle.bsv_design.specs.Widths.{port_fits}
+use Rattle.bsv_design.specs.design.Designs.{DesignData, IsDesign}
+use Rattle.bsv_design.specs.tree.Roles.{is_rule}
+use Rattle.bsv_design.specs.tree.Seen.{design_data}
+use Rattle.bsv_design.specs.scheme.Schemes.{Asking}
+use Rattle.bsv_design.specs.scheme.States.{methods_in, AskingFits, nothing_asked, AreWordsOf, FitMethods, zeros}
+use Rattle.bsv_design.specs.design.Widths.{port_fits}
 
 abbrev pub fit_ports : Element → Bool
 fit_ports e = list_all port_fits e.arguments
@@ -24,11 +24,11 @@ all_from : (es : List Element) → ((n : ℕ) (e : Element) → slice_get es n �
 all_from [] h = refl
 all_from (e ∷ es) h = ap (λ b. b && list_all fit_ports es) (h 0 e refl) ∙ all_from es (λ n. h (suc n))
 
-of_design : (b : Blueprint) → IsDesign b → list_all fit_ports b.elements ≡ true
+of_design : (b : DesignData) → IsDesign b → list_all fit_ports b.elements ≡ true
 of_design b d = all_from b.elements (λ n e at. (d.elements n e at).fits.ports)
 
 pub ports_right : (d : Design) → IsTrue (list_all fit_ports d.elements)
-ports_right d = ∥∥₁_elim d.right (Bool-set _ _) (of_design (blueprint d))
+ports_right d = ∥∥₁_elim d.right (Bool-set _ _) (of_design (design_data d))
 
 -- ---- one port
 

@@ -5,12 +5,12 @@ use Rattle.std.specs.Prelude.{slice_get}
 use Rattle.std.proofs.lemmas.Option.{slice_get_read}
 use Rattle.bsv_bits.specs.Words.{Bits}
 use Rattle.bsv_prim.specs.declared.part.Part.{Part}
-use Rattle.bsv_design.specs.Bodies.{Target, target}
-use Rattle.bsv_design.specs.Guards.{is_guarded}
-use Rattle.bsv_design.specs.Kinds.{kind_laws}
-use Rattle.bsv_design.specs.Schemes.{filled, guard_of}
-use Rattle.bsv_design.specs.States.{AreWordsOf}
-use Rattle.bsv_design.specs.Traces.{Site, site_at}
+use Rattle.bsv_design.specs.design.Bodies.{Target, target}
+use Rattle.bsv_design.specs.design.Guards.{is_guarded}
+use Rattle.bsv_design.specs.tree.Kinds.{kind_laws}
+use Rattle.bsv_design.specs.scheme.Schemes.{filled, guard_of}
+use Rattle.bsv_design.specs.scheme.States.{AreWordsOf}
+use Rattle.bsv_design.specs.scheme.Traces.{Site, site_at}
 use Rattle.bsv_design.specs.declared.design.Design.{Design}
 use Rattle.bsv_design.specs.declared.element.Call.{Call}
 use Rattle.bsv_design.specs.declared.element.Element.{Element}

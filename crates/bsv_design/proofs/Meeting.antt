@@ -5,7 +5,7 @@ use Rattle.bsv_types.specs.declared.types.PartTy.{PartTy}
 use Rattle.bsv_types.specs.declared.types.PartTy.TheVariants as part_type
 use Rattle.bsv_design.specs.declared.kind.Kind.{Kind}
 use Rattle.bsv_design.specs.declared.kind.Kind.TheVariants as kinds
-use Rattle.bsv_design.specs.Calls.{interface_names, is_kind_of, part_method}
+use Rattle.bsv_design.specs.carrying.Calls.{interface_names, is_kind_of, part_method}
 
 pub meets : (p : PartTy) (k : Kind) (n : ℕ) → is_kind_of p k ≡ true → n < length (interface_names p) → is_some (part_method p k n) ≡ true
 unfolding part_method

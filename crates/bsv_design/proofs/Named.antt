@@ -9,10 +9,10 @@ use Rattle.bsv_design.specs.declared.design.Design.{Design}
 use Rattle.bsv_design.specs.declared.element.Call.{Call}
 use Rattle.bsv_design.specs.declared.element.Element.{Element}
 use Rattle.bsv_design.specs.declared.kind.Kind.{Kind}
-use Rattle.bsv_design.specs.Designs.{IsDesign}
-use Rattle.bsv_design.specs.Schemes.{kinds_of}
-use Rattle.bsv_design.specs.Seen.{blueprint}
-use Rattle.bsv_design.specs.Widths.{has_method, call_named, call_fits, method_fits, has_width}
+use Rattle.bsv_design.specs.design.Designs.{IsDesign}
+use Rattle.bsv_design.specs.scheme.Schemes.{kinds_of}
+use Rattle.bsv_design.specs.tree.Seen.{design_data}
+use Rattle.bsv_design.specs.design.Widths.{has_method, call_named, call_fits, method_fits, has_width}
 
 fits_names : (k : Option Kind) (ws : List ℕ) (c : Call) → method_fits k ws c ≡ true → has_method k c.method ≡ true
 fits_names None ws c h = h
@@ -26,6 +26,6 @@ fit_named ks ws (c ∷ cs) h =
     let here : call_named ks c ≡ true = fits_names (slice_get ks c.part) ws c method.1 in
     ap (λ b. b && list_all (call_named ks) cs) here ∙ fit_named ks ws cs fits.1
 
-pub calls_named : (d : Design) (n : ℕ) (e : Element) → slice_get d.elements n ≡ Some e → IsTrue (list_all (call_named (kinds_of (blueprint d))) e.calls)
+pub calls_named : (d : Design) (n : ℕ) (e : Element) → slice_get d.elements n ≡ Some e → IsTrue (list_all (call_named (kinds_of (design_data d))) e.calls)
 calls_named d n e at =
-    ∥∥₁_elim d.right (Bool-set _ _) (λ (right : IsDesign (blueprint d)). fit_named _ _ e.calls (right.elements n e at).fits.calls)
+    ∥∥₁_elim d.right (Bool-set _ _) (λ (right : IsDesign (design_data d)). fit_named _ _ e.calls (right.elements n e at).fits.calls)

@@ -1,5 +1,5 @@
 ghost use Rattle.std.specs.Prelude.{◌≡◌};
-ghost use Rattle.bsv_design.specs.Designs.{IsDesign};
+ghost use Rattle.bsv_design.specs.design.Designs.{IsDesign};
 
 use crate::element::Element;
 use crate::kind::Kind;
@@ -15,7 +15,7 @@ pub struct NamedPart {
     pub kind: Kind,
 }
 
-/// A design whose elements are flat bodies. Methods stand before rules. Names are in order, each node has
+/// A design whose elements are flat bodies. Methods come before rules. Names are in order, each node has
 /// the words that it needs, calls in different arms of one choice are never both taken, and a call that is
 /// not taken decides nothing.
 #[derive(Drop)]

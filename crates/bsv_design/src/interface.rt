@@ -1,6 +1,6 @@
 ghost use Rattle.std.specs.Prelude.{◌≡◌, ◌<◌, length, IsTrue, IsSome, option_map, slice_get};
-ghost use Rattle.bsv_design.specs.Calls.{interface_names, is_kind_of, number_from, part_method};
-ghost use Rattle.bsv_design.specs.MethodNames.{method_names};
+ghost use Rattle.bsv_design.specs.carrying.Calls.{interface_names, is_kind_of, number_from, part_method};
+ghost use Rattle.bsv_design.specs.tree.MethodNames.{method_names};
 ghost use Rattle.bsv_types.specs.declared.types.PartTy.TheVariants as part_type;
 
 use crate::kind::Kind;
@@ -107,7 +107,7 @@ fn number_named(kind: Kind, name: &str) -> Option<u32>
 }
 
 /// The number that the kind has for a method of an interface: the two have one name.
-#[tactic(auto, unfolding(crate::specs::Calls::part_method))]
+#[tactic(auto, unfolding(crate::specs::carrying::Calls::part_method))]
 fn same_named(part: PartTy, kind: Kind, number: u32) -> Option<u32>
     ensures { result ≡ part_method part kind number }
 {

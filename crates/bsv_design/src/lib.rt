@@ -5,7 +5,7 @@
 //! left to do of an element), `values` (what carrying out speaks of), `tree` (the instances), `paths` (the text of a path), `whole` (the tree, and
 //! what holds of it), `node` and `element` (an element as a flat body), `source` (an element as it was
 //! carried out), `design` (the design of such bodies, and what holds of it), `state`, `requests`,
-//! `fired` and `schedule` (what a clock takes and gives). The tables stand in `specs/Kinds.antt`, the
+//! `fired` and `schedule` (what a clock takes and gives). The tables are in `specs/Kinds.antt`, the
 //! names in `specs/MethodNames.antt`, and what all later definitions speak of in `specs/Schemes.antt`.
 #![tactic(auto)]
 

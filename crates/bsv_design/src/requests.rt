@@ -1,8 +1,8 @@
 ghost use Rattle.std.specs.Prelude.{◌≡◌, IfOk, IsTrue};
 ghost use Rattle.std.specs.List.{list_all};
-ghost use Rattle.bsv_design.specs.Seen.{asking};
-ghost use Rattle.bsv_design.specs.States as states;
-ghost use Rattle.bsv_design.specs.Widths.{port_fits};
+ghost use Rattle.bsv_design.specs.tree.Seen.{asking};
+ghost use Rattle.bsv_design.specs.scheme.States as states;
+ghost use Rattle.bsv_design.specs.design.Widths.{port_fits};
 
 use crate::design::Design;
 use crate::element::Port;

@@ -1,7 +1,7 @@
 ghost use Rattle.std.specs.Prelude.{◌≡◌, IfOk, map};
-ghost use Rattle.bsv_design.specs.Schemes.{kinds_of};
-ghost use Rattle.bsv_design.specs.Seen.{blueprint};
-ghost use Rattle.bsv_design.specs.States as states;
+ghost use Rattle.bsv_design.specs.scheme.Schemes.{kinds_of};
+ghost use Rattle.bsv_design.specs.tree.Seen.{design_data};
+ghost use Rattle.bsv_design.specs.scheme.States as states;
 
 use crate::design::{Design, NamedPart};
 use bsv_bits::OutOfMemory;
@@ -18,7 +18,7 @@ impl State {
     /// The state before the first clock: start values, empty queues and empty wires.
     pub fn opening(alloc: Global, design: &Design) -> Result<State, OutOfMemory>
         ensures { IfOk result (λ state.
-            state.parts.items ≡ states.opening (kinds_of (blueprint design.now))) }
+            state.parts.items ≡ states.opening (kinds_of (design_data design.now))) }
     {
         let parts = openings(alloc, design.parts.as_slice())?;
         Ok(State { parts })

@@ -31,20 +31,20 @@ pub struct MethodPlace {
     pub method: u32,
 }
 
-/// What is left to do of an element once all that is static is decided. Values stand in one list, to which a
+/// What is left to do of an element once all that is static is decided. Values are in one list, to which a
 /// step adds what it gives.
 #[cycle(steps)]
 #[derive(Drop)]
 pub enum Step {
     /// It gives one value.
     Let(Compute),
-    /// A call of a value method of a primitive, with the steps of its arguments, which stand behind it in
+    /// A call of a value method of a primitive, with the steps of its arguments, which come after it in
     /// the order of the text. It gives one value.
     Read(MethodPlace, Items<Atom>, Items<Step>),
     /// A call of an action method of a primitive, in the same way. It gives none.
     Act(MethodPlace, Items<Atom>, Items<Step>),
     /// The word has to be 1: the condition of the user method, or of the element itself, with the steps of
-    /// the condition, which stand behind it in the order of the text.
+    /// the condition, which come after it in the order of the text.
     Need(Option<MethodPlace>, Atom, Items<Step>),
     Choose(Choice),
 }
@@ -53,8 +53,8 @@ pub enum Step {
 #[cycle(steps)]
 #[derive(Drop)]
 pub struct Choice {
-    /// Each condition behind the first one stands in the last arm of a choice of the one before it, as in a
-    /// chain of `?:`. Else all conditions stand in front of the choice.
+    /// Each condition after the first one is in the last arm of a choice of the one before it, as in a
+    /// chain of `?:`. Else all conditions come before the choice.
     pub nested: bool,
     pub arms: Items<Arm>,
     pub last: Items<Step>,
@@ -62,7 +62,7 @@ pub struct Choice {
     pub gives: Items<Atom>,
 }
 
-/// An arm of a choice. Behind the choice stand, in the place of all values of its arms, those that the
+/// An arm of a choice. After the choice stand, in the place of all values of its arms, those that the
 /// taken arm gives.
 #[cycle(steps)]
 #[derive(Drop)]

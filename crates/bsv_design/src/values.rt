@@ -36,14 +36,14 @@ pub struct Count {
     pub slots: u32,
 }
 
-/// Steps, and the count behind them.
+/// Steps, and the count after them.
 #[derive(Drop)]
 pub struct Work {
     pub steps: Items<Step>,
     pub count: Count,
 }
 
-/// An arm that was carried out, with its variables behind it.
+/// An arm that was carried out, with its variables after it.
 #[derive(Drop)]
 pub struct Pending {
     pub condition: Items<Step>,

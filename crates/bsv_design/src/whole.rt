@@ -1,5 +1,5 @@
 ghost use Rattle.std.specs.Prelude.{◌≡◌};
-ghost use Rattle.bsv_design.specs.Trees.{IsTree};
+ghost use Rattle.bsv_design.specs.tree.Trees.{IsTree};
 
 use crate::tree::{Assert, Instance, Pair};
 use bsv_types::Typed;

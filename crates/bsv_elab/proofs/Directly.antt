@@ -108,7 +108,7 @@ direct_is x xs = by (out-ModuleStmt x) refl where
   by (ModuleStmt-F.Rule n) is = rw is
   by (ModuleStmt-F.Method n) is = rw is
 
--- the method stands between these statements
+-- the method is between these statements
 pub record StandsIn (body : List ModuleStmt) (number : ℕ) : Type 0 where
   pub before : List ModuleStmt
   pub own : ModuleStmt

@@ -23,7 +23,7 @@ use Rattle.bsv_types.specs.Statements.{inner}
 use Rattle.bsv_design.specs.declared.statics.Binding.{Binding}
 use Rattle.bsv_design.specs.declared.tree.BuiltRule.{BuiltRule}
 use Rattle.bsv_design.specs.declared.tree.Instance.{Instance}
-use Rattle.bsv_design.specs.Trees.{shapes, world, AllFit, RuleAgrees}
+use Rattle.bsv_design.specs.tree.Trees.{shapes, world, AllFit, RuleAgrees}
 use Rattle.bsv_elab.specs.declared.state.Done.{Done}
 use Rattle.bsv_elab.specs.declared.state.Grown.{Grown}
 use Rattle.bsv_elab.specs.declared.state.Marks.{Marks}

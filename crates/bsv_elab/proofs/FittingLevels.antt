@@ -1,4 +1,4 @@
--- Behind the body of a module each method sees the variables of a scope in which it is typed.
+-- After the body of a module each method sees the variables of a scope in which it is typed.
 use Rattle.std.proofs.Common.{◌≡◌, ◌∙◌, ℕ, ◌≤◌, true, List, [], ◌∷◌, ◌++◌, map, length, take, Some, Ok, refl, sym, ap, subst, arith, ◌⊎◌, inl, inr}
 use Rattle.std.specs.Prelude.{slice_get}
 use Rattle.std.proofs.lemmas.Bool.{cases_eq}
@@ -16,7 +16,7 @@ use Rattle.bsv_types.specs.Modules.{header, concatenated, method_right, module_s
 use Rattle.bsv_types.specs.Operators as options
 use Rattle.bsv_types.specs.Statements as typing
 use Rattle.bsv_types.specs.Statements.{Run}
-use Rattle.bsv_design.specs.Trees.{world}
+use Rattle.bsv_design.specs.tree.Trees.{world}
 use Rattle.bsv_elab.specs.declared.state.State.{State}
 use Rattle.bsv_elab.specs.Statics.{Here, Builds, weigh, put_at}
 use Rattle.bsv_elab.specs.Making.{Bodies}
@@ -45,9 +45,9 @@ split : (x : ModuleStmt) (xs : List ModuleStmt) (n : ℕ) (before : List ModuleS
 split x xs n [] own after e is = let h = head_is x own xs after e in inl (ap (λ (z : ModuleStmt). out-ModuleStmt z) h.0 ∙ is)
 split x xs n (y ∷ before) own after e is = let h = head_is x y xs (before ++ own ∷ after) e in inr (record { before = before; own = own; after = after; body_is = h.1; is_method = is })
 
--- it is the first one, or stands behind it
-first_or_behind : (x : ModuleStmt) (xs : List ModuleStmt) (n : ℕ) → StandsIn (x ∷ xs) n → (out-ModuleStmt x ≡ ModuleStmt-F.Method n) ⊎ StandsIn xs n
-first_or_behind x xs n h = split x xs n h.before h.own h.after h.body_is h.is_method
+-- it is the first one, or comes after it
+first_or_after : (x : ModuleStmt) (xs : List ModuleStmt) (n : ℕ) → StandsIn (x ∷ xs) n → (out-ModuleStmt x ≡ ModuleStmt-F.Method n) ⊎ StandsIn xs n
+first_or_after x xs n h = split x xs n h.before h.own h.after h.body_is h.is_method
 
 same_number : (y : ModuleStmt-F ModuleStmt ModuleBranch) (n : ℕ) → y ≡ ModuleStmt-F.Method n → own_number y ≡ n ∷ []
 same_number y n e = ap (λ (z : ModuleStmt-F ModuleStmt ModuleBranch). own_number z) e
@@ -59,7 +59,7 @@ no_number : (n : ℕ) → [] ≡ n ∷ [] → ⊥
 no_number n e = absurd cc
 
 module _ (t : Typed) (m : Module) where
-  abbrev site : rules.Site
+  abbrev site : rules.ModuleContext
   site = rules.site_of (world t) (map header t.modules) m
 
   -- the method is typed in the scope up to this level
@@ -160,7 +160,7 @@ module _ (t : Typed) (m : Module) where
               let one = λ (there : Level f s.scope.levels i ⊎ (own_number (out-ModuleStmt x) ≡ i ∷ [])). one_level x i s q.0 f n.0 (out-ModuleStmt x) refl only.0 h n.1 q.1 there in
               elim before [
                 | inl c ↦ b.levels i (inl (one (inl c)))
-                | inr c ↦ elim (first_or_behind x xs i c) [
+                | inr c ↦ elim (first_or_after x xs i c) [
                   | inl d ↦ b.levels i (inl (one (inr (same_number (out-ModuleStmt x) i d))))
                   | inr d ↦ b.levels i (inr d)
                 ]

@@ -25,9 +25,9 @@ use Rattle.bsv_design.specs.declared.statics.Static.{Static}
 use Rattle.bsv_design.specs.declared.tree.Built.{Built}
 use Rattle.bsv_design.specs.declared.tree.Instance.{Instance}
 use Rattle.bsv_design.specs.declared.tree.Made.TheVariants as made
-use Rattle.bsv_design.specs.Calls.{made_of}
-use Rattle.bsv_design.specs.Traces.{with_dot}
-use Rattle.bsv_design.specs.Trees.{shapes, world, interface_of, Provides, Stands, AllFit, Agrees}
+use Rattle.bsv_design.specs.carrying.Calls.{made_of}
+use Rattle.bsv_design.specs.scheme.Traces.{with_dot}
+use Rattle.bsv_design.specs.tree.Trees.{shapes, world, interface_of, Provides, Stands, AllFit, Agrees}
 use Rattle.bsv_elab.specs.declared.refused.Refused.{Refused}
 use Rattle.bsv_elab.specs.declared.state.Done.{Done}
 use Rattle.bsv_elab.specs.declared.state.Grown.{Grown}
@@ -142,7 +142,7 @@ module _ (t : Typed) where
       pub moved : Moved t m f s f q.1 []
       pub stands : Stands t q.1.grown.instances k q.0
 
-    -- instances come behind, and names
+    -- instances come after, and names
     grown_moved : (s : State) (names : Named) (marks : Marks) (g : Grown) → Fit t m f s → Grew t s.grown.instances g.instances
         → Moved t m f s f (record { grown = g; scope = record s.scope { instances = names; marks = marks } }) []
     grown_moved s names marks g h grew =
@@ -228,7 +228,7 @@ module _ (t : Typed) where
           subst (Makes s k) (ok_is (l.0, behind l.0 (instance n.0.0 (made.Module d.0.built)) d.0.grown d.0.marks n.0.1.scope) q d.2)
           (subst (λ (z : State). Makes s k (l.0, behind l.0 (instance n.0.0 (made.Module d.0.built)) d.0.grown d.0.marks z.scope)) (sym names.1) numbered)
 
-      abbrev site : rules.Site
+      abbrev site : rules.ModuleContext
       site = rules.site_of (world t) (map header t.modules) m
 
       -- the weight alone changed before

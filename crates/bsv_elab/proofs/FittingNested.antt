@@ -20,7 +20,7 @@ use Rattle.bsv_types.specs.Modules.{header, concatenated, or_empty, module_stmt_
 use Rattle.bsv_types.specs.Operators as options
 use Rattle.bsv_types.specs.Statements as typing
 use Rattle.bsv_types.specs.Statements.{Run, if_right, inner, all_inner, inner_too, assigns, in_loop}
-use Rattle.bsv_design.specs.Trees.{world}
+use Rattle.bsv_design.specs.tree.Trees.{world}
 use Rattle.bsv_elab.specs.declared.refused.Refused.{Refused}
 use Rattle.bsv_elab.specs.declared.state.State.{State}
 use Rattle.bsv_elab.specs.Statics.{Here, Builds, constant_in, truth_in, held, bind, cut, inside}
@@ -71,7 +71,7 @@ module _ (t : Typed) (m : Module) where
     abbrev here : Here
     here = home t number path around first
 
-    abbrev site : rules.Site
+    abbrev site : rules.ModuleContext
     site = rules.site_of (world t) (map header t.modules) m
 
     abbrev branch_run : ModuleBranch → Run

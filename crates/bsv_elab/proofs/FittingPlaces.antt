@@ -15,10 +15,10 @@ use Rattle.bsv_design.specs.declared.statics.Static.TheVariants as static
 use Rattle.bsv_design.specs.declared.values.Count.{Count}
 use Rattle.bsv_design.specs.declared.values.Fault.{Fault}
 use Rattle.bsv_design.specs.declared.values.Local.{Local}
-use Rattle.bsv_design.specs.Calls.{Site, Caller, static_fault, placed, placed_at, set_place}
-use Rattle.bsv_design.specs.Carrying.{Carried, Placing, expression, place, expr_step, place_step, index_of}
-use Rattle.bsv_design.specs.Working.{no_steps}
-use Rattle.bsv_design.specs.Trees.{world, Stands, Fits, AllFit}
+use Rattle.bsv_design.specs.carrying.Calls.{Context, Caller, static_fault, placed, placed_at, set_place}
+use Rattle.bsv_design.specs.carrying.Carrying.{Carried, Placing, expression, place, expr_step, place_step, index_of}
+use Rattle.bsv_design.specs.carrying.Working.{no_steps}
+use Rattle.bsv_design.specs.tree.Trees.{world, Stands, Fits, AllFit}
 use Rattle.bsv_elab.specs.Statics.{binding}
 use Rattle.bsv_elab.proofs.FittingScopes.{fit_at, stands_may}
 use Rattle.bsv_elab.proofs.FittingSteps.{went}
@@ -39,20 +39,20 @@ many_of (one j ∷ f) zero k e = absurd cc
 many_of (s ∷ f) (suc level) k e = many_of f level k e
 
 -- an index is an Integer
-behind_index : (level : ℕ) (o : Option Sort) (f : Frame) (k : Sort) → place_at level (Some (λ g. o)) f ≡ Some k → many_at f level ≡ Some k
-behind_index level (Some integer) f k e = e
-behind_index level None f k e = absurd cc
-behind_index level (Some (bit n)) f k e = absurd cc
-behind_index level (Some (down n)) f k e = absurd cc
-behind_index level (Some (uint n)) f k e = absurd cc
-behind_index level (Some (int n)) f k e = absurd cc
-behind_index level (Some bool) f k e = absurd cc
-behind_index level (Some (enum n)) f k e = absurd cc
-behind_index level (Some (struct n)) f k e = absurd cc
-behind_index level (Some (maybe j)) f k e = absurd cc
-behind_index level (Some (interface n)) f k e = absurd cc
-behind_index level (Some (part p j)) f k e = absurd cc
-behind_index level (Some (bare p)) f k e = absurd cc
+after_index : (level : ℕ) (o : Option Sort) (f : Frame) (k : Sort) → place_at level (Some (λ g. o)) f ≡ Some k → many_at f level ≡ Some k
+after_index level (Some integer) f k e = e
+after_index level None f k e = absurd cc
+after_index level (Some (bit n)) f k e = absurd cc
+after_index level (Some (down n)) f k e = absurd cc
+after_index level (Some (uint n)) f k e = absurd cc
+after_index level (Some (int n)) f k e = absurd cc
+after_index level (Some bool) f k e = absurd cc
+after_index level (Some (enum n)) f k e = absurd cc
+after_index level (Some (struct n)) f k e = absurd cc
+after_index level (Some (maybe j)) f k e = absurd cc
+after_index level (Some (interface n)) f k e = absurd cc
+after_index level (Some (part p j)) f k e = absurd cc
+after_index level (Some (bare p)) f k e = absurd cc
 
 -- ---- what is there
 
@@ -92,7 +92,7 @@ placed_at_is f (Some b) at n e = let h = placed_at_value f b.name b.value at n e
 
 -- ---- places
 
-module _ (t : Typed) (call : Caller) (site : Site) (f : Frame) (fits : AllFit t site.instances f site.bindings) where
+module _ (t : Typed) (call : Caller) (site : Context) (f : Frame) (fits : AllFit t site.instances f site.bindings) where
   one_stands : (level : ℕ) (k : Sort) (n : ℕ) → one_at f level ≡ Some k → placed (static_fault site) (slice_get site.bindings level) ≡ Ok n → Stands t site.instances k n
   one_stands level k n typed e =
       let h = placed_is (static_fault site) (slice_get site.bindings level) n e in
@@ -119,7 +119,7 @@ module _ (t : Typed) (call : Caller) (site : Site) (f : Frame) (fits : AllFit t 
       let at = went (index_of call site v.0.0) _ r v.2 in
       let n = went (placed_at (static_fault site) (slice_get site.bindings level) at.0) _ r at.2 in
       subst (λ (q : ℕ × Count). Stands t site.instances k q.0) (same_ok (n.0, v.0.1.count) r n.2)
-      (each_stands level at.0 k n.0 (behind_index level (typed.typing (world t) x f) f k is_typed) n.1)
+      (each_stands level at.0 k n.0 (after_index level (typed.typing (world t) x f) f k is_typed) n.1)
 
   pub place_stands : (p : Place) (vs : List Local) (c : Count) (k : Sort) (r : ℕ × Count) → place_typing (world t) p f ≡ Some k → place call site p vs c ≡ Ok r → Stands t site.instances k r.0
   unfolding place expression

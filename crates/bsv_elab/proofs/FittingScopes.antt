@@ -1,4 +1,4 @@
--- Variables that fit their scope fit it when one comes behind, when one is set, and when the scope is cut.
+-- Variables that fit their scope fit it when one comes after, when one is set, and when the scope is cut.
 use Rattle.std.proofs.Common.{◌≡◌, ℕ, zero, suc, true, false, List, [], ◌∷◌, ◌++◌, Bool, length, take, set, replicate, Option, Some, None, refl, sym, ap, subst, arith}
 use Rattle.std.specs.Prelude.{nat_lt, slice_get, if◌then◌else◌}
 use Rattle.std.proofs.lemmas.Bool.{ltb-false}
@@ -14,8 +14,8 @@ use Rattle.bsv_design.specs.declared.statics.Static.TheVariants as static
 use Rattle.bsv_design.specs.declared.tree.Instance.{Instance}
 use Rattle.bsv_design.specs.declared.values.Constant.{Constant}
 use Rattle.bsv_design.specs.declared.values.Constant.TheVariants as constant
-use Rattle.bsv_design.specs.Applied.{width}
-use Rattle.bsv_design.specs.Trees.{shapes, Stands, AllMayStand, Fits, AllFit}
+use Rattle.bsv_design.specs.carrying.Applied.{width}
+use Rattle.bsv_design.specs.tree.Trees.{shapes, Stands, AllMayStand, Fits, AllFit}
 use Rattle.bsv_elab.specs.Statics.{Here, put_at, held, held_as, next_value}
 use Rattle.bsv_elab.specs.Making.{width_in}
 use Rattle.bsv_elab.specs.Bodies.{or_one}
@@ -42,7 +42,7 @@ put_there_if : {A : Type 0} (c : Bool) (xs ys : List A) (at n : ℕ) (x y : A) �
 put_there_if true xs ys at n x y is same e = set_there ys at n x y (subst (λ zs. slice_get zs n ≡ Some y) same e)
 put_there_if false xs ys at n x y is same e = let within = slice_get_within ys n y e in let past = ltb-false at (length ys) is in (λ i. absurd (omega arith), λ i. e)
 
--- what stands in a list where a thing was put
+-- what is in a list where a thing was put
 pub put_there : {A : Type 0} (xs : List A) (at n : ℕ) (x y : A) → slice_get (put_at at x xs) n ≡ Some y → (n ≡ at → x ≡ y) × ((n ≡ at → ⊥) → slice_get xs n ≡ Some y)
 unfolding put_at
 put_there xs at n x y e = put_there_if (nat_lt at (length xs)) (set xs at x) xs at n x y refl refl e

@@ -23,7 +23,7 @@ use Rattle.bsv_design.specs.declared.statics.Static.TheVariants as static
 use Rattle.bsv_design.specs.declared.tree.BuiltRule.{BuiltRule}
 use Rattle.bsv_design.specs.declared.tree.Instance.{Instance}
 use Rattle.bsv_design.specs.declared.values.Constant.{Constant}
-use Rattle.bsv_design.specs.Trees.{shapes, world, Stands, AllMayStand, Fits, RuleAgrees}
+use Rattle.bsv_design.specs.tree.Trees.{shapes, world, Stands, AllMayStand, Fits, RuleAgrees}
 use Rattle.bsv_elab.specs.declared.refused.Refused.{Refused}
 use Rattle.bsv_elab.specs.declared.state.State.{State}
 use Rattle.bsv_elab.specs.Names.{Named, new_name, take_name}
@@ -88,7 +88,7 @@ module _ (t : Typed) (m : Module) where
     abbrev here : Here
     here = home t number path around first
 
-    abbrev site : rules.Site
+    abbrev site : rules.ModuleContext
     site = rules.site_of (world t) (map header t.modules) m
 
     abbrev Good : Builds → Run → List ℕ → Type 0
@@ -209,7 +209,7 @@ module _ (t : Typed) (m : Module) where
         let c = if_right_is (rule_right (world t) f (slice_get m.rules n)) f g typed in
         subst (λ z. Moved t m f s z r []) c.1 (rule_from_moved f s r n (slice_get (rules_of (here_module place)) n) h c.0 e)
 
-    -- the state behind a method
+    -- the state after a method
     pub record MethodMet (s r : State) (n : ℕ) : Type 0 where
       pub names : Named
       pub is : r ≡ with_level n (length s.scope.bindings) (with_elements names s)

@@ -11,7 +11,7 @@ use Rattle.bsv_types.specs.Expressions.{Slot, Frame}
 use Rattle.bsv_types.specs.Statements.{Run, inner}
 use Rattle.bsv_design.specs.declared.statics.Binding.{Binding}
 use Rattle.bsv_design.specs.declared.statics.Static.{Static}
-use Rattle.bsv_design.specs.Trees.{Fits, AllFit}
+use Rattle.bsv_design.specs.tree.Trees.{Fits, AllFit}
 use Rattle.bsv_elab.specs.declared.state.State.{State}
 use Rattle.bsv_elab.specs.Statics.{Builds, weigh, at_weight, bind, binding, with_binding, cut, inside}
 use Rattle.bsv_elab.proofs.FittingTrees.{RulesAgree, Grew, grew_none, grew_more}
@@ -37,7 +37,7 @@ module _ (t : Typed) (m : Module) where
   abbrev pub Preserves : Builds → Run → List ℕ → Type 0
   Preserves a x ns = (s r : State) (f g : Frame) → Fit f s → x f ≡ Some g → a s ≡ Ok r → Moved f s g r ns
 
-  -- the same for a part whose variables are cut behind it
+  -- the same for a part whose variables are cut after it
   abbrev pub PreservesInside : Builds → Run → List ℕ → Type 0
   PreservesInside a x ns = (s r : State) (f : Frame) → Fit f s → inner x f ≡ true → inside a s ≡ Ok r → Moved f s f r ns
 

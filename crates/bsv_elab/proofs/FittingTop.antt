@@ -10,7 +10,7 @@ use Rattle.bsv_types.specs.Modules.{param_slots}
 use Rattle.bsv_design.specs.declared.tree.Built.{Built}
 use Rattle.bsv_design.specs.declared.tree.Instance.{Instance}
 use Rattle.bsv_design.specs.declared.tree.Made.TheVariants as made
-use Rattle.bsv_design.specs.Trees.{Hierarchy, AllFit, IsModuleAt, Agrees, IsTop}
+use Rattle.bsv_design.specs.tree.Trees.{TreeData, AllFit, IsModuleAt, Agrees, IsTop}
 use Rattle.bsv_elab.specs.declared.state.Done.{Done}
 use Rattle.bsv_elab.specs.Statics.{put_at, countable}
 use Rattle.bsv_elab.specs.Making.{instance, with_instance, unbuilt, inner}
@@ -56,7 +56,7 @@ top_at name (m ∷ ms) first n e = here_or_later (is_top name m) refl e (top_at 
 
 module _ (t : Typed) where
   -- the top is there, and all modules agree
-  pub record Rooted (h : Hierarchy) : Type 0 where
+  pub record Rooted (h : TreeData) : Type 0 where
     pub built : Built
     pub top : IsTop h.typed h.top h.instances built
     pub all : AllAgree h.typed h.instances h.instances
@@ -89,7 +89,7 @@ module _ (t : Typed) where
       let b = bodies_right t most_modules first number [] (number ∷ []) source [] start d.0 there fits d.1 in
       subst (λ (q : Done × ℕ). BodyMade t number start q.0) (same_ok (d.0, w.0) r w.2) b
 
-  pub built_rooted : (name : List ℕ) (h : Hierarchy) → building t name ≡ Ok h → Rooted h
+  pub built_rooted : (name : List ℕ) (h : TreeData) → building t name ≡ Ok h → Rooted h
   unfolding building
   built_rooted name h e =
       let r = went (carried_out t name) _ h e in
@@ -105,8 +105,8 @@ module _ (t : Typed) where
       subst Rooted (same_ok (tree t r.0.0 r.0.1 r.0.2) h r.2) (subst (λ (q : ℕ × Done × ℕ). Rooted (tree t q.0 q.1 q.2)) at rooted)
 
   -- the fields of a tree
-  pub top_is : (name : List ℕ) (h : Hierarchy) → building t name ≡ Ok h → (b : Built) × IsTop h.typed h.top h.instances b
+  pub top_is : (name : List ℕ) (h : TreeData) → building t name ≡ Ok h → (b : Built) × IsTop h.typed h.top h.instances b
   top_is name h e = let r = built_rooted name h e in (r.built, r.top)
 
-  pub modules_agree : (name : List ℕ) (h : Hierarchy) → building t name ≡ Ok h → (n : ℕ) (b : Built) → IsModuleAt h.instances n b → Agrees h.typed h.instances b
+  pub modules_agree : (name : List ℕ) (h : TreeData) → building t name ≡ Ok h → (n : ℕ) (b : Built) → IsModuleAt h.instances n b → Agrees h.typed h.instances b
   modules_agree name h e n b there = agrees_at h.typed h.instances h.instances n b (built_rooted name h e).all there

@@ -1,4 +1,4 @@
--- What stands in a tree stands there too when more instances come behind it, or an instance of a module is built.
+-- What is in a tree is there too when more instances come after it, or an instance of a module is built.
 use Rattle.std.proofs.Common.{◌≡◌, ◌∙◌, ℕ, zero, suc, List, [], ◌∷◌, ◌++◌, Option, Some, None, refl, sym, ap, subst, append-nil, append_assoc, ◌⊎◌, inl, inr}
 use Rattle.std.specs.Prelude.{take, slice_get}
 use Rattle.std.proofs.lemmas.Option.{same_Some}
@@ -14,10 +14,10 @@ use Rattle.bsv_design.specs.declared.tree.BuiltRule.{BuiltRule}
 use Rattle.bsv_design.specs.declared.tree.Instance.{Instance}
 use Rattle.bsv_design.specs.declared.tree.Made.{Made}
 use Rattle.bsv_design.specs.declared.tree.Made.TheVariants as made
-use Rattle.bsv_design.specs.Calls.{made_of}
-use Rattle.bsv_design.specs.Trees.{Provides, Stands, MayStand, AllMayStand, Fits, AllFit, RuleAgrees, Agrees, interface_of}
+use Rattle.bsv_design.specs.carrying.Calls.{made_of}
+use Rattle.bsv_design.specs.tree.Trees.{Provides, Stands, MayStand, AllMayStand, Fits, AllFit, RuleAgrees, Agrees, interface_of}
 
--- the same thing stands there with more behind
+-- the same thing is there with more after
 pub made_front : (is more : List Instance) (n : ℕ) (what : Made) → made_of (slice_get is n) ≡ Some what → made_of (slice_get (is ++ more) n) ≡ Some what
 made_front [] more n what e = absurd cc
 made_front (i ∷ is) more zero what e = e
@@ -32,7 +32,7 @@ made_put (x ∷ is) more u i zero what e = inl e
 made_put (x ∷ is) more u i (suc n) what e = made_put is more u i n what e
 
 module _ (t : Typed) where
-  -- what stands in the first tree stands in the second one
+  -- what is in the first tree is in the second one
   abbrev pub Keeps : List Instance → List Instance → Type 0
   Keeps is js = (k : Sort) (n : ℕ) → Stands t is k n → Stands t js k n
 
@@ -134,7 +134,7 @@ module _ (t : Typed) where
   agrees_at is (i ∷ xs) zero b h e = made_agrees is i.made (made.Module b) (same_Some i.made (made.Module b) e) h.0
   agrees_at is (i ∷ xs) (suc n) b h e = agrees_at is xs n b h.1 e
 
-  -- instances that agree come behind
+  -- instances that agree come after
   pub record Grew (is js : List Instance) : Type 0 where
     pub more : List Instance
     pub are : js ≡ is ++ more

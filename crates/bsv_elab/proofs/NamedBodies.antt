@@ -25,7 +25,7 @@ use Rattle.bsv_types.specs.Names.{distinct, lower_names, countable, of_module}
 use Rattle.bsv_types.specs.Modules.{Header, param_names, param_slots, param_right, module_stmt_run, numbers_right, site_of, module_right}
 use Rattle.bsv_design.specs.declared.statics.Binding.{Binding}
 use Rattle.bsv_design.specs.declared.tree.BuiltRule.{BuiltRule}
-use Rattle.bsv_design.specs.Trees.{joined}
+use Rattle.bsv_design.specs.tree.Trees.{joined}
 use Rattle.bsv_design.proofs.Dotted.{AreLower}
 use Rattle.bsv_elab.specs.declared.state.Done.{Done}
 use Rattle.bsv_elab.specs.declared.state.Grown.{Grown}
@@ -122,7 +122,7 @@ apart_by front rest before behind name fresh taken h g i r (in_second k is e) sa
     names_differ name r.name behind.scope.elements.taken taken (g k r e) (sym same)
 
 module _ (ms : List Module) (bodies : Bodies) (here : Here) (base : List (List ℕ)) where
-  -- rules before it and behind it have other names
+  -- rules before it and after it have other names
   directly_apart : (xs : List Builds) (a : Builds) (ys : List Builds) (s z : State) (number : ℕ) (m : Method)
       → EachGood ms bodies here base (xs ++ a ∷ ys) → Lows s.scope.bindings → s.scope.rules ≡ []
       → slice_get (methods_of (here_module here)) number ≡ Some m → a ≡ stmt_step bodies here (ModuleStmt-F.Method number)

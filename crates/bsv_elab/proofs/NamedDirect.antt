@@ -5,7 +5,7 @@ use Rattle.bsv_lemmas.proofs.Places.{passes_at}
 use Rattle.bsv_types.specs.declared.typed.Typed.{Typed}
 use Rattle.bsv_types.specs.Modules.{header, module_right}
 use Rattle.bsv_design.specs.declared.tree.Built.{Built}
-use Rattle.bsv_design.specs.Trees.{Hierarchy, IsModuleAt, AreNamed, world}
+use Rattle.bsv_design.specs.tree.Trees.{TreeData, IsModuleAt, AreNamed, world}
 use Rattle.bsv_elab.specs.Building.{building}
 use Rattle.bsv_elab.proofs.Directly.{method_stands}
 use Rattle.bsv_elab.proofs.NamedBodies.{module_tests}
@@ -19,6 +19,6 @@ all_direct t k number m x is has =
     let stands = method_stands m tests.numbers number (slice_get_within m.methods number x has) in
     record { before = stands.before; statement = stands.own; after = stands.after; is = stands.body_is; out = stands.is_method }
 
-pub all_named : (t : Typed) (name : List ℕ) (h : Hierarchy) → building t name ≡ Ok h → (n : ℕ) (b : Built)
+pub all_named : (t : Typed) (name : List ℕ) (h : TreeData) → building t name ≡ Ok h → (n : ℕ) (b : Built)
     → IsModuleAt h.instances n b → AreNamed h.typed b
 all_named t name h e n b at = named t name h e (all_direct t) n b at

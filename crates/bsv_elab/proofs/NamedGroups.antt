@@ -15,7 +15,7 @@ use Rattle.bsv_design.specs.declared.tree.BuiltRule.{BuiltRule}
 use Rattle.bsv_design.specs.declared.tree.Built.{Built}
 use Rattle.bsv_design.specs.declared.tree.Instance.{Instance}
 use Rattle.bsv_design.specs.declared.tree.Made.TheVariants as made
-use Rattle.bsv_design.specs.Trees.{joined}
+use Rattle.bsv_design.specs.tree.Trees.{joined}
 use Rattle.bsv_design.proofs.Dotted.{AreLower, lower_parted, joined_same}
 use Rattle.bsv_elab.specs.Making.{is_around}
 use Rattle.bsv_elab.proofs.NamedLists.{not_empty, ends, Found, in_first, in_second, found, only_one, none_there, is_in, Longer, fresh_before, taken_after}
@@ -38,7 +38,7 @@ pub record BuiltNamed (ms : List Module) (b : Built) : Type 0 where
 
 -- ---- paths
 
--- the path of an instance begins with a name that was free before and is taken behind
+-- the path of an instance begins with a name that was free before and is taken after
 pub record Under (base before after : List (List ℕ)) (i : Instance) : Type 0 where
   pub name : List ℕ
   pub rest : List (List ℕ)
@@ -83,7 +83,7 @@ same_name base a b c d i j u v r =
     let joins = sym (append_assoc base (u.name ∷ u.rest) r.extra) ∙ ap (λ (z : List (List ℕ)). z ++ r.extra) (sym out) ∙ whole in
     same_head u.name v.name (u.rest ++ r.extra) v.rest (append_cancel_left base (u.name ∷ (u.rest ++ r.extra)) (v.name ∷ v.rest) joins)
 
--- ---- nothing, and one group behind the other
+-- ---- nothing, and one group after the other
 
 pub group_none : (ms : List Module) (base : List (List ℕ)) (around : List ℕ) (names : List (List ℕ)) → Group ms base around names names []
 group_none ms base around names = record {

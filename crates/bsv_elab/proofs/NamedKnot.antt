@@ -18,15 +18,15 @@ use Rattle.bsv_types.specs.Expressions.{Frame, one, many, World, has_type}
 use Rattle.bsv_types.specs.Statements.{Run, if_right, inner, all_inner, inner_too, assigns, in_loop, acts_right}
 use Rattle.bsv_types.specs.Statements as typed
 use Rattle.bsv_types.specs.Names.{of_rule}
-use Rattle.bsv_types.specs.Modules.{Site, makes, condition_right, rule_right, module_stmt_step, module_branch_step}
-use Rattle.bsv_design.specs.Trees.{joined}
+use Rattle.bsv_types.specs.Modules.{ModuleContext, makes, condition_right, rule_right, module_stmt_step, module_branch_step}
+use Rattle.bsv_design.specs.tree.Trees.{joined}
 use Rattle.bsv_design.proofs.Dotted.{AreLower}
 use Rattle.bsv_elab.specs.Statics.{Here, Builds, weigh}
 use Rattle.bsv_elab.specs.Making.{Bodies, width_in}
 use Rattle.bsv_elab.specs.Elements.{rules_of, here_module}
 use Rattle.bsv_elab.specs.Bodies.{Branched, run, stmt_case, stmt_step, branch_step, stmt}
 use Rattle.bsv_elab.proofs.NamedMakes.{Good}
-use Rattle.bsv_elab.proofs.NamedStill.{weigh_still, truth_still, still_ran, ran_behind, inside_good}
+use Rattle.bsv_elab.proofs.NamedStill.{weigh_still, truth_still, still_ran, ran_after, inside_good}
 use Rattle.bsv_elab.proofs.NamedMaking.{GoodBodies, LowParameters}
 use Rattle.bsv_elab.proofs.NamedElements.{rule_good, method_good}
 use Rattle.bsv_elab.proofs.NamedStatements.{EachGood, GoodArm, EachArm, run_good, chain_good, set_good, looped_good, instance_good, array_good, place_good, declare_good}
@@ -38,7 +38,7 @@ right_is : (b : Bool) (frame next : Frame) → if_right b frame ≡ Some next �
 right_is true frame next e = refl
 right_is false frame next e = absurd cc
 
--- one step behind the other
+-- one step after the other
 record Went (x y : Run) (frame last : Frame) : Type 0 where
   next : Frame
   first : x frame ≡ Some next
@@ -56,7 +56,7 @@ enters w h frame next e = by (is_lower h.variable) refl where
   by true is = is
   by false is = let never = rw is at e in absurd cc
 
-module _ (ms : List Module) (bodies : Bodies) (here : Here) (base : List (List ℕ)) (site : Site) where
+module _ (ms : List Module) (bodies : Bodies) (here : Here) (base : List (List ℕ)) (site : ModuleContext) where
   abbrev ran : ModuleStmt → Run
   ran = fold-ModuleStmt Run Run (module_stmt_step site) (module_branch_step site)
 
@@ -103,7 +103,7 @@ module _ (ms : List Module) (bodies : Bodies) (here : Here) (base : List (List �
       let r = through (weigh 1 s) _ z e in
       let still = weigh_still 1 s r.0 r.1 in
       let first = still_ran ms here base s r.0 lows still in
-      ran_behind ms here base s r.0 z still (good r.0 z first.lows r.2)
+      ran_after ms here base s r.0 z still (good r.0 z first.lows r.2)
 
   module _ (good : GoodBodies ms bodies) (params : LowParameters ms) (same : here.modules ≡ ms) (path : here.path ≡ joined base)
       (lower : AreLower base) (own : Option Module) (own_is : here_module here ≡ own) (rules_are : site.rules ≡ rules_of own) where

@@ -1,4 +1,4 @@
--- What a part of building makes, from the state before it to the state behind it: instances with names of their own,
+-- What a part of building makes, from the state before it to the state after it: instances with names of their own,
 -- rules with names and positions of their own, and attributes of rules that were made.
 use Rattle.std.proofs.Common.{◌≡◌, ◌∙◌, ℕ, ◌+◌, ◌<◌, ◌≤◌, true, List, [], ◌∷◌, ◌++◌, ◌&&◌, length, Ok, refl, sym, ap, arith}
 use Rattle.std.specs.List.{list_all}
@@ -12,7 +12,7 @@ use Rattle.bsv_design.specs.declared.tree.Assert.{Assert}
 use Rattle.bsv_design.specs.declared.tree.BuiltRule.{BuiltRule}
 use Rattle.bsv_design.specs.declared.tree.Instance.{Instance}
 use Rattle.bsv_design.specs.declared.tree.Pair.{Pair}
-use Rattle.bsv_design.specs.Trees.{rule_count}
+use Rattle.bsv_design.specs.tree.Trees.{rule_count}
 use Rattle.bsv_elab.specs.declared.state.Marks.{Marks}
 use Rattle.bsv_elab.specs.declared.state.State.{State}
 use Rattle.bsv_elab.specs.Statics.{Here, Builds}

@@ -21,8 +21,8 @@ use Rattle.bsv_design.specs.declared.tree.Instance.{Instance}
 use Rattle.bsv_design.specs.declared.tree.Made.{Made}
 use Rattle.bsv_design.specs.declared.tree.Made.TheVariants as made
 use Rattle.bsv_design.specs.declared.values.Fault.TheVariants as fault
-use Rattle.bsv_design.specs.Traces.{with_dot}
-use Rattle.bsv_design.specs.Trees.{joined, rule_count}
+use Rattle.bsv_design.specs.scheme.Traces.{with_dot}
+use Rattle.bsv_design.specs.tree.Trees.{joined, rule_count}
 use Rattle.bsv_design.proofs.Dotted.{AreLower, lower_both, path_is}
 use Rattle.bsv_elab.specs.declared.refused.Refused.TheVariants as refused
 use Rattle.bsv_elab.specs.declared.state.Done.{Done}
@@ -171,13 +171,13 @@ module _ (ms : List Module) (here : Here) (base : List (List ℕ)) where
   abbrev child_result : ℕ → Done → List ℕ × State → ℕ × State
   child_result number d n = (number, behind number (instance n.0 (made.Module d.built)) d.grown d.marks n.1.scope)
 
-  abbrev begun : ℕ → List ℕ × State → Grown
-  begun k n = with_instance (instance n.0 (unbuilt k)) n.1.grown
+  abbrev with_unbuilt : ℕ → List ℕ × State → Grown
+  with_unbuilt k n = with_instance (instance n.0 (unbuilt k)) n.1.grown
 
   child_one : (s : State) (name : List ℕ) (k : ℕ) (q : List ℕ × Named) (number : ℕ) (d : Done)
       → here.path ≡ joined base → AreLower base → is_lower name ≡ true
       → is_around k here.around ≡ false → number ≡ length s.grown.instances → NewName name s.scope.instances q
-      → BodyMade ms (inner here k (with_dot here.path q.0)) (base ++ q.0 ∷ []) (begun k (with_dot here.path q.0, with_names q.1 s)) d
+      → BodyMade ms (inner here k (with_dot here.path q.0)) (base ++ q.0 ∷ []) (with_unbuilt k (with_dot here.path q.0, with_names q.1 s)) d
       → One ms here base s (child_result number d (with_dot here.path q.0, with_names q.1 s))
   child_one s name k q number d path lower low outside at h b =
       let own : AreLower (base ++ q.0 ∷ []) = lower_both base (q.0 ∷ []) lower (and_from (is_lower q.0) true (h.lower low) refl) in
@@ -226,7 +226,7 @@ module _ (ms : List Module) (here : Here) (base : List (List ℕ)) where
       let a = not_refused (is_around k here.around) _ (refused.Recursion k) r e in
       let n = went (named_instance here name s) _ r a.1 in
       let c = went (next_number n.0.1.grown) _ r n.2 in
-      let d = went (bodies (inner here k n.0.0) (parameters (params_of (slice_get here.modules k)) xs) (begun k n.0))
+      let d = went (bodies (inner here k n.0.0) (parameters (params_of (slice_get here.modules k)) xs) (with_unbuilt k n.0))
       (λ z. Ok (child_result c.0 z n.0)) r c.2 in
       let found = named_instance_is here name s n.0 n.1 in
       let q = found.0 in
@@ -235,9 +235,9 @@ module _ (ms : List Module) (here : Here) (base : List (List ℕ)) where
       let lows = subst (λ z. Lows (parameters (params_of (slice_get z k)) xs)) (sym same) (parameters_of_low ms k xs params) in
       let back = sym found.2 in
       let ran = subst (λ (z : List ℕ × State). bodies (inner here k z.0) (parameters (params_of (slice_get here.modules k)) xs)
-      (begun k z) ≡ Ok d.0) {x = n.0} back d.1 in
+      (with_unbuilt k z) ≡ Ok d.0) {x = n.0} back d.1 in
       let made_there = good (inner here k (with_dot here.path q.0)) (base ++ q.0 ∷ []) (parameters (params_of (slice_get here.modules k)) xs)
-      (begun k (with_dot here.path q.0, with_names q.1 s)) d.0 same path_there own lows ran in
+      (with_unbuilt k (with_dot here.path q.0, with_names q.1 s)) d.0 same path_there own lows ran in
       let number = countable_is (length n.0.1.grown.instances) c.0 c.1 ∙ ap (λ (z : List ℕ × State). length z.1.grown.instances) back in
       let one = child_one s name k q c.0 d.0 path lower low a.0 number found.1 made_there in
       subst (One ms here base s) {x = child_result c.0 d.0 n.0} (same_ok (child_result c.0 d.0 n.0) r d.2)

@@ -13,7 +13,7 @@ use Rattle.bsv_types.specs.Kinds.{Kind as Sort}
 use Rattle.bsv_design.specs.declared.statics.Binding.{Binding}
 use Rattle.bsv_design.specs.declared.statics.Static.TheVariants as static
 use Rattle.bsv_design.specs.declared.values.Fault.TheVariants as fault
-use Rattle.bsv_design.specs.Trees.{joined}
+use Rattle.bsv_design.specs.tree.Trees.{joined}
 use Rattle.bsv_design.proofs.Dotted.{AreLower}
 use Rattle.bsv_elab.specs.declared.refused.Refused.{Refused}
 use Rattle.bsv_elab.specs.declared.refused.Refused.TheVariants as refused
@@ -23,11 +23,11 @@ use Rattle.bsv_elab.specs.Making.{Bodies, make}
 use Rattle.bsv_elab.specs.Bodies.{most_turns, length_of, no_places, places, name_of, or_one, index_in, set_place, run, one_instance, array, place_from, one_place, declare, set, Branched, chain, turn, turns, first_and_turns, looped}
 use Rattle.bsv_elab.proofs.NamedLists.{chosen}
 use Rattle.bsv_elab.proofs.NamedMakes.{Lows, Ran, Good, ran_none, ran_both}
-use Rattle.bsv_elab.proofs.NamedStill.{Still, constant_still, number_still, truth_still, low_at, still_ran, ran_behind, bound_ran, assigned_ran, placed_ran, inside_good}
+use Rattle.bsv_elab.proofs.NamedStill.{Still, constant_still, number_still, truth_still, low_at, still_ran, ran_after, bound_ran, assigned_ran, placed_ran, inside_good}
 use Rattle.bsv_elab.proofs.NamedMaking.{GoodBodies, LowParameters, One, make_made}
 use Rattle.bsv_elab.proofs.FittingSteps.{went}
 
--- ---- one behind the other, arms and loops
+-- ---- one after the other, arms and loops
 
 module _ (ms : List Module) (bodies : Bodies) (here : Here) (base : List (List ℕ)) where
   abbrev pub EachGood : List Builds → Type 0
@@ -64,7 +64,7 @@ module _ (ms : List Module) (bodies : Bodies) (here : Here) (base : List (List �
       let first = each.0 in
       let still = first.asks s t.0 t.1 in
       let h = still_ran ms here base s t.0.1 lows still in
-      ran_behind ms here base s t.0.1 z still (chosen t.0.0 (inside b.arm t.0.1) (chain bodies here last bs t.0.1) z (Ran ms here base t.0.1 z)
+      ran_after ms here base s t.0.1 z still (chosen t.0.0 (inside b.arm t.0.1) (chain bodies here last bs t.0.1) z (Ran ms here base t.0.1 z)
       (λ f. inside_good ms here base b.arm first.arm t.0.1 z h.lows f) (λ f. chain_good last bs ends each.1 t.0.1 z h.lows f) t.2)
 
   pub set_good : (level : ℕ) (x : Expr) → Good ms here base (set bodies here level x)
@@ -95,11 +95,11 @@ module _ (ms : List Module) (bodies : Bodies) (here : Here) (base : List (List �
       chosen t.0.0 (turn bodies here h a t.0.1 >>= turns bodies here n h a) (Ok t.0.1) z (Ran ms here base s z)
       (λ f. let r = went (turn bodies here h a t.0.1) (turns bodies here n h a) z f in
       let next = turn_good h a good t.0.1 r.0 first.lows r.1 in
-      ran_behind ms here base s t.0.1 z still (ran_both ms here base t.0.1 r.0 z next (turns_good n h a good r.0 z next.lows r.2)))
+      ran_after ms here base s t.0.1 z still (ran_both ms here base t.0.1 r.0 z next (turns_good n h a good r.0 z next.lows r.2)))
       (λ f. subst (Ran ms here base s) (same_ok t.0.1 z f) first) t.2
 
-  begun_good : (h : Head) (a : Builds) → is_lower h.variable ≡ true → Good ms here base a → Good ms here base (first_and_turns bodies here h a)
-  begun_good h a low good s z lows e =
+  started_good : (h : Head) (a : Builds) → is_lower h.variable ≡ true → Good ms here base a → Good ms here base (first_and_turns bodies here h a)
+  started_good h a low good s z lows e =
       let r = went (constant_in here h.first s) _ z e in
       let first = still_ran ms here base s r.0.1 lows (constant_still here h.first s r.0 r.1) in
       let bound = bound_ran ms here base s r.0.1 h.variable (held r.0.0) 0 first low in
@@ -108,7 +108,7 @@ module _ (ms : List Module) (bodies : Bodies) (here : Here) (base : List (List �
 
   pub looped_good : (h : Head) (a : Builds) → is_lower h.variable ≡ true → Good ms here base a → Good ms here base (looped bodies here h a)
   unfolding looped
-  looped_good h a low good s z lows e = inside_good ms here base (first_and_turns bodies here h a) (begun_good h a low good) s z lows e
+  looped_good h a low good s z lows e = inside_good ms here base (first_and_turns bodies here h a) (started_good h a low good) s z lows e
 
 -- ---- what is made or declared
 
@@ -159,7 +159,7 @@ module _ (ms : List Module) (bodies : Bodies) (here : Here) (base : List (List �
       let r = went (number_in here x s) _ z e in
       let still = number_still here x s r.0 r.1 in
       let first = still_ran ms here base s r.0.1 lows still in
-      ran_behind ms here base s r.0.1 z still (place_from_ran level r.0.0 m r.0.1 z first.lows r.2)
+      ran_after ms here base s r.0.1 z still (place_from_ran level r.0.0 m r.0.1 z first.lows r.2)
 
   pub declare_good : (k : Sort) (name : List ℕ) (x : Expr) → is_lower name ≡ true → Good ms here base (declare bodies here k name x)
   declare_good k name x low s z lows e =

@@ -16,7 +16,7 @@ use Rattle.bsv_design.specs.declared.statics.Binding.{Binding}
 use Rattle.bsv_design.specs.declared.statics.Static.{Static}
 use Rattle.bsv_design.specs.declared.statics.Static.TheVariants as static
 use Rattle.bsv_design.specs.declared.values.Constant.{Constant}
-use Rattle.bsv_design.specs.Working.{tick}
+use Rattle.bsv_design.specs.carrying.Working.{tick}
 use Rattle.bsv_elab.specs.declared.state.State.{State}
 use Rattle.bsv_elab.specs.Statics.{Here, Builds, static_fault, count, carried, at_weight, weigh, put_at, known, carried_in, constant_in, as_number, number_in, as_truth, truth_in, held_as, binding, bind, next_value, assigned, assign, cut, inside}
 use Rattle.bsv_elab.specs.Making.{placed_in, argument_in, arguments_from, arguments}
@@ -115,9 +115,9 @@ module _ (ms : List Module) (here : Here) (base : List (List ℕ)) where
   still_ran s z low h =
       record { makes = subst (Makes ms here base (kept s)) (sym h.same) (makes_none ms here base (kept s)); lows = subst Lows (sym h.bindings) low }
 
-  -- the same behind a state that keeps all
-  pub ran_behind : (s m z : State) → Still s m → Ran ms here base m z → Ran ms here base s z
-  ran_behind s m z h g = record { makes = subst (λ k. Makes ms here base k (kept z)) h.same g.makes; lows = g.lows }
+  -- the same after a state that keeps all
+  pub ran_after : (s m z : State) → Still s m → Ran ms here base m z → Ran ms here base s z
+  ran_after s m z h g = record { makes = subst (λ k. Makes ms here base k (kept z)) h.same g.makes; lows = g.lows }
 
   pub bound_ran : (s m : State) (name : List ℕ) (x : Static) (width : ℕ) → Ran ms here base s m → is_lower name ≡ true
       → Ran ms here base s (bind name x width m)

@@ -10,13 +10,13 @@ use Rattle.bsv_types.specs.Programs.{all_countable, names_right, shapes_right, e
 use Rattle.bsv_design.specs.declared.tree.Instance.{Instance}
 use Rattle.bsv_design.specs.declared.tree.Made.TheVariants as made
 use Rattle.bsv_design.specs.declared.values.Fault.TheVariants as fault
-use Rattle.bsv_design.specs.Trees.{Hierarchy, shapes, world, rule_count}
+use Rattle.bsv_design.specs.tree.Trees.{TreeData, shapes, world, rule_count}
 use Rattle.bsv_elab.specs.declared.refused.Refused.TheVariants as refused
 use Rattle.bsv_elab.specs.declared.state.Done.{Done}
 use Rattle.bsv_elab.specs.Statics.{Here, put_at}
 use Rattle.bsv_elab.specs.Making.{instance, unbuilt, inner}
 use Rattle.bsv_elab.specs.Elements.{most_elements, here_module, methods_of}
-use Rattle.bsv_elab.specs.Building.{body_at, most_modules, top_from, first_rule, first_rule_in, outside, begun, methods_from, tree, from_top, carried_out, building}
+use Rattle.bsv_elab.specs.Building.{body_at, most_modules, top_from, first_rule, first_rule_in, outside, top_alone, methods_from, tree, from_top, carried_out, building}
 use Rattle.bsv_elab.proofs.NamedGroups.{BuiltNamed, Group}
 use Rattle.bsv_elab.proofs.NamedMakes.{MarksWithin}
 use Rattle.bsv_elab.proofs.NamedMaking.{BodyMade, put_there}
@@ -38,28 +38,28 @@ abbrev top_here : Typed → ℕ → ℕ → Here
 top_here t number first = inner (outside t number first) number []
 
 -- what was built, and how
-pub record Whole (t : Typed) (h : Hierarchy) : Type 0 where
+pub record Whole (t : Typed) (h : TreeData) : Type 0 where
   pub number : ℕ
   pub first : ℕ
   pub done : Done
   pub weight : ℕ
   pub is : tree t number done weight ≡ h
   pub first_is : first ≡ length (methods_of (slice_get t.modules number))
-  pub body : BodyMade t.modules (top_here t number first) [] (begun number) done
+  pub body : BodyMade t.modules (top_here t number first) [] (top_alone number) done
 
 -- the tree by its parts
-tree_is : (t : Typed) (n : ℕ) (d : Done) (weight : ℕ) (q : Done × ℕ) (r : ℕ × Done × ℕ) (h : Hierarchy) → (d, weight) ≡ q → (n, q.0, q.1) ≡ r
+tree_is : (t : Typed) (n : ℕ) (d : Done) (weight : ℕ) (q : Done × ℕ) (r : ℕ × Done × ℕ) (h : TreeData) → (d, weight) ≡ q → (n, q.0, q.1) ≡ r
     → tree t r.0 r.1 r.2 ≡ h → tree t n d weight ≡ h
 tree_is t n d weight q r h e f g = ap (λ (z : Done × ℕ). tree t n z.0 z.1) e ∙ ap (λ (z : ℕ × Done × ℕ). tree t z.0 z.1 z.2) f ∙ g
 
-pub whole : (t : Typed) (name : List ℕ) (h : Hierarchy) → building t name ≡ Ok h → Whole t h
+pub whole : (t : Typed) (name : List ℕ) (h : TreeData) → building t name ≡ Ok h → Whole t h
 unfolding building
 whole t name h e =
     let r = went (carried_out t name) _ h e in
     let n = went (top_from 0 name t.modules) _ r.0 r.1 in
     let f = went (first_rule_in t n.0) _ r.0 n.2 in
     let q = went (from_top (body_at most_modules) (outside t n.0 f.0)) _ r.0 f.2 in
-    let b = went (body_at most_modules (top_here t n.0 f.0) [] (begun n.0)) _ q.0 q.1 in
+    let b = went (body_at most_modules (top_here t n.0 f.0) [] (top_alone n.0)) _ q.0 q.1 in
     let w = went (methods_from (outside t n.0 f.0) b.0 b.0.grown.weight 0 (methods_of (here_module (outside t n.0 f.0)))) _ q.0 b.2 in
     record {
       number = n.0;
@@ -69,7 +69,7 @@ whole t name h e =
       is = tree_is t n.0 b.0 w.0 q.0 r.0 h (same_ok (b.0, w.0) q.0 w.2) (same_ok (n.0, q.0.0, q.0.1) r.0 q.2) (same_ok (tree t r.0.0 r.0.1 r.0.2) h r.2);
       first_is = first_rule_is (length (methods_of (slice_get t.modules n.0))) f.0 f.1;
       body = body_at_good t.modules (world t) (map header t.modules) (modules_right t) most_modules (top_here t n.0 f.0) [] []
-          (begun n.0) b.0 refl refl refl refl b.1;
+          (top_alone n.0) b.0 refl refl refl refl b.1;
     }
 
 -- ---- the top and the others
@@ -87,7 +87,7 @@ pub record Parts (t : Typed) (number first : ℕ) (d : Done) : Type 0 where
   pub marks : MarksWithin first (first + rule_count (top_of d ∷ more)) d.marks
   pub number_is : d.built.«module» ≡ number
 
-pub parts : (t : Typed) (number first : ℕ) (d : Done) → BodyMade t.modules (top_here t number first) [] (begun number) d → Parts t number first d
+pub parts : (t : Typed) (number first : ℕ) (d : Done) → BodyMade t.modules (top_here t number first) [] (top_alone number) d → Parts t number first d
 parts t number first d b =
     let w = b.makes in
     let rules_are : d.built.rules ≡ w.rules = b.rules ∙ w.rules_are in

@@ -11,8 +11,8 @@ use Rattle.bsv_design.specs.declared.tree.Built.{Built}
 use Rattle.bsv_design.specs.declared.tree.BuiltRule.{BuiltRule}
 use Rattle.bsv_design.specs.declared.tree.Instance.{Instance}
 use Rattle.bsv_design.specs.declared.tree.Made.TheVariants as made
-use Rattle.bsv_design.specs.Calls.{made_of}
-use Rattle.bsv_design.specs.Trees.{Hierarchy, IsModuleAt, IsPath, IsInside, AreNamed, joined, methods_of}
+use Rattle.bsv_design.specs.carrying.Calls.{made_of}
+use Rattle.bsv_design.specs.tree.Trees.{TreeData, IsModuleAt, IsPath, IsInside, AreNamed, joined, methods_of}
 use Rattle.bsv_design.proofs.Dotted.{AreLower}
 use Rattle.bsv_elab.specs.declared.state.Done.{Done}
 use Rattle.bsv_elab.specs.Building.{building}
@@ -78,7 +78,7 @@ module _ (t : Typed) (number first : ℕ) (d : Done) (p : Parts t number first d
 
 -- ---- of what is built
 
-module _ (t : Typed) (name : List ℕ) (h : Hierarchy) (e : building t name ≡ Ok h) where
+module _ (t : Typed) (name : List ℕ) (h : TreeData) (e : building t name ≡ Ok h) where
   abbrev found_whole : Whole t h
   found_whole = whole t name h e
 
@@ -86,13 +86,13 @@ module _ (t : Typed) (name : List ℕ) (h : Hierarchy) (e : building t name ≡ 
   found_parts = parts t found_whole.number found_whole.first found_whole.done found_whole.body
 
   pub instances_are : h.instances ≡ top_of found_whole.done ∷ found_parts.more
-  instances_are = ap (λ (z : Hierarchy). z.instances) (sym found_whole.is) ∙ found_parts.instances_are
+  instances_are = ap (λ (z : TreeData). z.instances) (sym found_whole.is) ∙ found_parts.instances_are
 
   back : (n : ℕ) (i : Instance) → slice_get h.instances n ≡ Some i → slice_get (top_of found_whole.done ∷ found_parts.more) n ≡ Some i
   back n i at = ap (λ (is : List Instance). slice_get is n) (sym instances_are) ∙ at
 
   pub typed_is : h.typed ≡ t
-  typed_is = ap (λ (z : Hierarchy). z.typed) (sym found_whole.is)
+  typed_is = ap (λ (z : TreeData). z.typed) (sym found_whole.is)
 
   pub paths : (n : ℕ) (i : Instance) → slice_get h.instances n ≡ Some i → IsPath i.path
   paths n i at = path_of_one t found_whole.number found_whole.first found_whole.done found_parts n i (back n i at)

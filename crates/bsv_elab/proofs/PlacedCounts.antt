@@ -7,8 +7,8 @@ use Rattle.bsv_design.specs.declared.tree.BuiltRule.{BuiltRule}
 use Rattle.bsv_design.specs.declared.tree.Instance.{Instance}
 use Rattle.bsv_design.specs.declared.tree.Made.{Made}
 use Rattle.bsv_design.specs.declared.tree.Made.TheVariants as made
-use Rattle.bsv_design.specs.Trees.{rule_count}
-use Rattle.bsv_design.specs.Traces.{one_if}
+use Rattle.bsv_design.specs.tree.Trees.{rule_count}
+use Rattle.bsv_design.specs.scheme.Traces.{one_if}
 
 abbrev pub occurs : ℕ → List BuiltRule → ℕ
 occurs p [] = 0

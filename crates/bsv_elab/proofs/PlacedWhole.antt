@@ -1,4 +1,4 @@
--- The rules of a tree have positions of their own behind the methods of the top, and attributes name them.
+-- The rules of a tree have positions of their own after the methods of the top, and attributes name them.
 use Rattle.std.proofs.Common.{◌≡◌, ◌∙◌, ℕ, ◌+◌, ◌≤◌, ◌<◌, List, [], ◌∷◌, length, Some, Ok, refl, sym, ap, subst, arith}
 use Rattle.std.specs.Prelude.{slice_get}
 use Rattle.std.proofs.lemmas.Option.{same_Some}
@@ -10,8 +10,8 @@ use Rattle.bsv_design.specs.declared.tree.Instance.{Instance}
 use Rattle.bsv_design.specs.declared.tree.Made.{Made}
 use Rattle.bsv_design.specs.declared.tree.Made.TheVariants as made
 use Rattle.bsv_design.specs.declared.tree.Pair.{Pair}
-use Rattle.bsv_design.specs.Calls.{made_of}
-use Rattle.bsv_design.specs.Trees.{Hierarchy, HasRule, methods_of, rule_count, ArePlaced, IsRule, PairsNameRules, AssertsNameRules}
+use Rattle.bsv_design.specs.carrying.Calls.{made_of}
+use Rattle.bsv_design.specs.tree.Trees.{TreeData, HasRule, methods_of, rule_count, ArePlaced, IsRule, PairsNameRules, AssertsNameRules}
 use Rattle.bsv_elab.specs.Building.{building}
 use Rattle.bsv_elab.proofs.NamedMakes.{Within, PairsWithin, AssertsWithin}
 use Rattle.bsv_elab.proofs.NamedTop.{whole, parts}
@@ -87,14 +87,14 @@ module _ (is : List Instance) (low high : ℕ) (fills : Fills low high (λ p. oc
 -- ---- of what is built
 
 -- what the tree's instances and marks are
-pub record Line (t : Typed) (h : Hierarchy) : Type 0 where
+pub record Line (t : Typed) (h : TreeData) : Type 0 where
   pub first : ℕ
   pub first_is : first ≡ length (methods_of (slice_get h.typed.modules h.top))
   pub fills : Fills first (first + rule_count h.instances) (λ p. occurs_in p h.instances)
   pub pairs : PairsWithin first (first + rule_count h.instances) h.pairs
   pub asserts : AssertsWithin first (first + rule_count h.instances) h.asserts
 
-pub lined : (t : Typed) (name : List ℕ) (h : Hierarchy) → building t name ≡ Ok h → Line t h
+pub lined : (t : Typed) (name : List ℕ) (h : TreeData) → building t name ≡ Ok h → Line t h
 lined t name h e =
     let w = whole t name h e in
     let p = parts t w.number w.first w.done w.body in
@@ -108,7 +108,7 @@ lined t name h e =
       asserts = subst (λ (is : List Instance). AssertsWithin w.first (w.first + rule_count is) w.done.marks.asserts) line marks.asserts;
     })
 
-pub placed : (t : Typed) (name : List ℕ) (h : Hierarchy) → building t name ≡ Ok h
+pub placed : (t : Typed) (name : List ℕ) (h : TreeData) → building t name ≡ Ok h
     → ArePlaced (length (methods_of (slice_get h.typed.modules h.top))) h.instances
 placed t name h e =
     let l = lined t name h e in
@@ -118,8 +118,8 @@ placed t name h e =
       alone = alone_there h.instances l.first (l.first + rule_count h.instances) l.fills;
     })
 
-pub pairs : (t : Typed) (name : List ℕ) (h : Hierarchy) → building t name ≡ Ok h → PairsNameRules h.instances h.pairs
+pub pairs : (t : Typed) (name : List ℕ) (h : TreeData) → building t name ≡ Ok h → PairsNameRules h.instances h.pairs
 pairs t name h e = let l = lined t name h e in pairs_there h.instances l.first (l.first + rule_count h.instances) l.fills h.pairs l.pairs
 
-pub asserts : (t : Typed) (name : List ℕ) (h : Hierarchy) → building t name ≡ Ok h → AssertsNameRules h.instances h.asserts
+pub asserts : (t : Typed) (name : List ℕ) (h : TreeData) → building t name ≡ Ok h → AssertsNameRules h.instances h.asserts
 asserts t name h e = let l = lined t name h e in asserts_there h.instances l.first (l.first + rule_count h.instances) l.fills h.asserts l.asserts

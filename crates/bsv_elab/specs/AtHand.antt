@@ -127,7 +127,7 @@ place_from b level index m s = bodies.place_from (inner b) (here b) level index 
 abbrev pub params_of : Builder → ℕ → List Param
 params_of b k = making.params_of (slice_get b.typed.now.modules k)
 
--- what the attributes of a module and of its rules ask for, behind the end of its body
+-- what the attributes of a module and of its rules ask for, after the end of its body
 abbrev pub own_body : Builder → Module → State → Result (Marks × State) Refused
 own_body b m s =
     bodies.run (inner b) (here b) (map (bodies.stmt (inner b) (here b)) m.body) s >>= λ z.
@@ -145,8 +145,8 @@ inner_body b k path bs g = inner b (making.inner (here b) k path) bs g
 abbrev pub own_methods : Builder → List Method
 own_methods b = methods_of (here_module (here b))
 
-abbrev pub outermost : Builder → Result Done Refused
-outermost b = inner_body b b.«module» [] [] (building.begun b.«module»)
+abbrev pub top_instance : Builder → Result Done Refused
+top_instance b = inner_body b b.«module» [] [] (building.top_alone b.«module»)
 
 abbrev pub top : Builder → Result (Done × ℕ) Refused
 top b = building.from_top (inner b) (here b)

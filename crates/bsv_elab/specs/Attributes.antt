@@ -62,7 +62,7 @@ with_sides rs m lefts rights =
     positions attribute.Preempts rs lefts >>= λ ls. positions attribute.Preempts rs rights >>= λ rights.
     Ok (with_pairs m (each_with_each ls rights))
 
--- an attribute that stands before the module, or before the rule of a position
+-- an attribute that comes before the module, or before the rule of a position
 abbrev pub marked : List BuiltRule → ℕ → Marks → Asked → Result Marks Refused
 marked rs rule m asked.Synthesize = Ok m
 marked rs rule m (asked.DescendingUrgency names) = with_list attribute.DescendingUrgency rs m names

@@ -27,7 +27,7 @@ abbrev pub GivesDone : Result (Built × Marks) (Fail Refused) → State → Stat
 GivesDone (Ok x) after before given = (given ≡ Ok (record { built = x.0; grown = after.grown; marks = x.1 })) × (after.scope ≡ before.scope)
 GivesDone (Err e) after before given = Fails e given
 
--- the instance behind the end of its body, from what its own attributes ask for, where that is known
+-- the instance after the end of its body, from what its own attributes ask for, where that is known
 abbrev pub Finishes : ℕ → Scope → Result Marks (Fail Refused) → Result (Built × Marks) (Fail Refused) → Type 0
 Finishes number s (Ok own) (Ok x) = (x.0 ≡ built number s) × (x.1 ≡ both own s.marks)
 Finishes number s (Ok own) (Err e) = e ≡ fail.Memory

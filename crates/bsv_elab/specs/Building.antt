@@ -10,8 +10,8 @@ use Rattle.bsv_design.specs.declared.statics.Binding.{Binding}
 use Rattle.bsv_design.specs.declared.tree.Built.{Built}
 use Rattle.bsv_design.specs.declared.tree.Made.TheVariants as made
 use Rattle.bsv_design.specs.declared.values.Fault.TheVariants as fault
-use Rattle.bsv_design.specs.Carrying.{top_method}
-use Rattle.bsv_design.specs.Trees.{Hierarchy}
+use Rattle.bsv_design.specs.carrying.Carrying.{top_method}
+use Rattle.bsv_design.specs.tree.Trees.{TreeData}
 use Rattle.bsv_elab.specs.declared.refused.LimitKind.TheVariants as limit
 use Rattle.bsv_elab.specs.declared.refused.Refused.{Refused}
 use Rattle.bsv_elab.specs.declared.refused.Refused.TheVariants as refused
@@ -113,12 +113,12 @@ method_at here d weight number m =
     Ok w.1.count.weight)
     else Err (refused.Limit limit.Elements most_elements)
 
--- the weight behind the methods of the top from this number on, in the order of the interface
+-- the weight after the methods of the top from this number on, in the order of the interface
 unfoldable pub methods_from : Here → Done → ℕ → ℕ → List Method → Result ℕ Refused
 methods_from here d weight number [] = Ok weight
 methods_from here d weight number (m ∷ ms) = method_at here d weight number m >>= λ weight. methods_from here d weight (number + 1) ms
 
-abbrev pub tree : Typed → ℕ → Done → ℕ → Hierarchy
+abbrev pub tree : Typed → ℕ → Done → ℕ → TreeData
 tree t number d weight = record {
   typed = t;
   top = number;
@@ -129,13 +129,13 @@ tree t number d weight = record {
 }
 
 -- the tree as it begins, with the top alone
-abbrev pub begun : ℕ → Grown
-begun top = with_instance (instance [] (unbuilt top)) nothing_grown
+abbrev pub top_alone : ℕ → Grown
+top_alone top = with_instance (instance [] (unbuilt top)) nothing_grown
 
 -- the top is carried out as an instance without parameters, and its methods come last
 abbrev pub from_top : Bodies → Here → Result (Done × ℕ) Refused
 from_top bodies here =
-    bodies (inner here here.within []) [] (begun here.within) >>= λ d.
+    bodies (inner here here.within []) [] (top_alone here.within) >>= λ d.
     methods_from here d d.grown.weight 0 (methods_of (here_module here)) >>= λ weight. Ok (d, weight)
 
 abbrev pub carried_out : Typed → List ℕ → Result (ℕ × Done × ℕ) Refused
@@ -143,5 +143,5 @@ carried_out t name =
     top_from 0 name t.modules >>= λ number. first_rule_in t number >>= λ first.
     from_top (body_at most_modules) (outside t number first) >>= λ r. Ok (number, r.0, r.1)
 
-unfoldable pub building : Typed → List ℕ → Result Hierarchy Refused
+unfoldable pub building : Typed → List ℕ → Result TreeData Refused
 building t name = carried_out t name >>= λ r. Ok (tree t r.0 r.1 r.2)

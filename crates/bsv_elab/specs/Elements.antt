@@ -1,12 +1,12 @@
--- A rule and a method where they stand in the body of a module (Bluespec reference guide, "Rules", "Methods").
+-- A rule and a method where they are in the body of a module (Bluespec reference guide, "Rules", "Methods").
 use Rattle.std.specs.Prelude.{ℕ, ◌+◌, nat_lt, List, [], ◌∷◌, ◌++◌, length, slice_get, Option, Some, None, Result, Ok, Err, if◌then◌else◌}
 use Rattle.bsv_fail.specs.Given.{◌>>=◌}
 use Rattle.bsv_types.specs.declared.modules.Method.{Method}
 use Rattle.bsv_types.specs.declared.modules.Module.{Module}
 use Rattle.bsv_types.specs.declared.modules.Rule.{Rule}
 use Rattle.bsv_design.specs.declared.tree.BuiltRule.{BuiltRule}
-use Rattle.bsv_design.specs.Working.{no_steps}
-use Rattle.bsv_design.specs.Carrying as carrying
+use Rattle.bsv_design.specs.carrying.Working.{no_steps}
+use Rattle.bsv_design.specs.carrying.Carrying as carrying
 use Rattle.bsv_elab.specs.declared.refused.LimitKind.TheVariants as limit
 use Rattle.bsv_elab.specs.declared.refused.Refused.{Refused}
 use Rattle.bsv_elab.specs.declared.refused.Refused.TheVariants as refused

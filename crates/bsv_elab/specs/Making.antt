@@ -24,10 +24,10 @@ use Rattle.bsv_design.specs.declared.tree.Instance.{Instance}
 use Rattle.bsv_design.specs.declared.tree.Made.{Made}
 use Rattle.bsv_design.specs.declared.tree.Made.TheVariants as made
 use Rattle.bsv_design.specs.declared.values.Count.{Count}
-use Rattle.bsv_design.specs.Applied.{width}
-use Rattle.bsv_design.specs.Frames.{no_variables}
-use Rattle.bsv_design.specs.Carrying.{module_place}
-use Rattle.bsv_design.specs.Traces.{with_dot}
+use Rattle.bsv_design.specs.carrying.Applied.{width}
+use Rattle.bsv_design.specs.carrying.Frames.{no_variables}
+use Rattle.bsv_design.specs.carrying.Carrying.{module_place}
+use Rattle.bsv_design.specs.scheme.Traces.{with_dot}
 use Rattle.bsv_elab.specs.declared.refused.LimitKind.TheVariants as limit
 use Rattle.bsv_elab.specs.declared.refused.Refused.{Refused}
 use Rattle.bsv_elab.specs.declared.refused.Refused.TheVariants as refused
@@ -162,7 +162,7 @@ params_of (Some m) = m.params
 abbrev pub inner : Here → ℕ → List ℕ → Here
 inner here number path = record here { within = number; path = path; around = here.around ++ number ∷ [] }
 
--- the instance stands before those inside it, and its attributes before theirs
+-- the instance comes before those inside it, and its attributes before theirs
 abbrev pub behind : ℕ → Instance → Grown → Marks → Scope → State
 behind number i g inside scope = record {
   grown = record g { instances = put_at number i g.instances };

@@ -6,7 +6,7 @@ use Rattle.std.specs.Str.{bytes_eq}
 use Rattle.indexmap.specs.IndexMap.{insert_entry}
 use Rattle.bsv_fail.specs.Given.{◌>>=◌}
 use Rattle.bsv_design.specs.declared.values.Fault.TheVariants as fault
-use Rattle.bsv_design.specs.Traces.{with_dot}
+use Rattle.bsv_design.specs.scheme.Traces.{with_dot}
 use Rattle.bsv_elab.specs.declared.refused.Refused.{Refused}
 use Rattle.bsv_elab.specs.declared.refused.Refused.TheVariants as refused
 
@@ -28,7 +28,7 @@ or_never (Some times) = times
 abbrev pub times : Named → List ℕ → ℕ
 times n name = or_never (lookup (bytes_eq name) n.given)
 
--- of what is made with one name, the first has the name, and the k-th behind it the name, `_` and k
+-- of what is made with one name, the first has the name, and the k-th after it the name, `_` and k
 abbrev pub with_number : List ℕ → ℕ → List ℕ
 with_number name k = if k == 0 then name else name ++ (codes "_" ++ decimal k)
 

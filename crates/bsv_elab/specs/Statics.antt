@@ -18,10 +18,10 @@ use Rattle.bsv_design.specs.declared.values.Fault.TheVariants as fault
 use Rattle.bsv_design.specs.declared.values.Value.{Value}
 use Rattle.bsv_design.specs.declared.values.Value.TheVariants as value
 use Rattle.bsv_design.specs.declared.values.Work.{Work}
-use Rattle.bsv_design.specs.Working.{tick, no_steps}
-use Rattle.bsv_design.specs.Frames.{no_variables}
-use Rattle.bsv_design.specs.Calls.{Site}
-use Rattle.bsv_design.specs.Carrying.{module_expr}
+use Rattle.bsv_design.specs.carrying.Working.{tick, no_steps}
+use Rattle.bsv_design.specs.carrying.Frames.{no_variables}
+use Rattle.bsv_design.specs.carrying.Calls.{Context}
+use Rattle.bsv_design.specs.carrying.Carrying.{module_expr}
 use Rattle.bsv_elab.specs.declared.refused.Refused.{Refused}
 use Rattle.bsv_elab.specs.declared.refused.Refused.TheVariants as refused
 use Rattle.bsv_elab.specs.declared.state.Grown.{Grown}
@@ -47,7 +47,7 @@ Builds = State → Result State Refused
 abbrev pub static_fault : Here → Refused
 static_fault here = refused.Carried (fault.Static here.within)
 
-abbrev pub site_in : Here → Grown → List Binding → Site
+abbrev pub site_in : Here → Grown → List Binding → Context
 site_in here g bs = record {
   shapes = here.shapes;
   functions = here.functions;
@@ -57,7 +57,7 @@ site_in here g bs = record {
   bindings = bs;
 }
 
-abbrev pub site : Here → State → Site
+abbrev pub site : Here → State → Context
 site here s = site_in here s.grown s.scope.bindings
 
 abbrev pub count : State → Count
@@ -70,7 +70,7 @@ carried r = over refused.Carried r
 unfoldable pub countable : ℕ → Result ℕ Refused
 countable n = if nat_lt n 4294967296 then Ok n else Err (refused.Carried fault.Weight)
 
--- the weight, behind what was carried out
+-- the weight, after what was carried out
 abbrev pub at_weight : ℕ → State → State
 at_weight weight s = record { grown = record s.grown { weight = weight }; scope = s.scope }
 

@@ -7,7 +7,7 @@ use Rattle.bsv_types.specs.declared.modules.Module.{Module}
 use Rattle.bsv_types.specs.declared.typed.Typed.{Typed}
 use Rattle.bsv_design.specs.declared.values.Fault.{Fault}
 use Rattle.bsv_design.specs.declared.values.Fault.TheVariants as fault
-use Rattle.bsv_design.specs.Trees.{Hierarchy}
+use Rattle.bsv_design.specs.tree.Trees.{TreeData}
 use Rattle.bsv_elab.specs.declared.fault.ElabFault.{ElabFault}
 use Rattle.bsv_elab.specs.declared.fault.ElabFault.TheVariants as told
 use Rattle.bsv_elab.specs.declared.refused.LimitKind.TheVariants as limit
@@ -37,11 +37,11 @@ told_as top ms (refused.Limit kind most) = told.Limit kind most
 told_as top ms (refused.NoSuchRule attribute name) = told.NoSuchRule attribute name
 
 -- the tree of a typed design and of its top, or what refuses it
-abbrev pub Builds : Typed → List ℕ → Result Hierarchy ElabFault
+abbrev pub Builds : Typed → List ℕ → Result TreeData ElabFault
 Builds t top = over (told_as top t.modules) (building t top)
 
 -- a call tells what refuses, unless memory ran out
-abbrev pub Tells : ElabFault → Result Hierarchy ElabFault → Type 0
+abbrev pub Tells : ElabFault → Result TreeData ElabFault → Type 0
 Tells told.OutOfMemory given = Unit {0}
 Tells e given = given ≡ Err e
 

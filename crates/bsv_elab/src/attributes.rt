@@ -66,7 +66,7 @@ fn positions(
     Ok(found)
 }
 
-/// Pairs of those that stand side by side, the first one behind this.
+/// Pairs of those that stand side by side, the first one after this.
 fn side_by_side(
     alloc: Global,
     attribute: Attribute,
@@ -171,7 +171,7 @@ fn with_sides(
     Ok(with_pairs(marks, pairs)?)
 }
 
-/// What an attribute asks for beside the marks; it stands before the module, or before the rule of a position.
+/// What an attribute asks for beside the marks; it comes before the module, or before the rule of a position.
 fn marked(
     alloc: Global,
     rules: &[BuiltRule],

@@ -8,7 +8,7 @@ ghost use Rattle.bsv_elab.specs.Building as building;
 
 use crate::attributes::{add_marks, marks_of, no_marks};
 use crate::builder::Builder;
-use crate::making::{add_instance, instance, is_around, parameters, place_behind, unbuilt};
+use crate::making::{add_instance, instance, is_around, parameters, place_after, unbuilt};
 use crate::names::Names;
 use crate::places::{length_of, name_at, no_places, place_at, set_place, width_at};
 use crate::refused::{Building, LimitKind, Refused};
@@ -91,14 +91,14 @@ fn open(
     Ok(enter(scope, state))
 }
 
-/// What the attributes of the module and of its rules ask for, behind the end of its body.
+/// What the attributes of the module and of its rules ask for, after the end of its body.
 fn own_marks(alloc: Global, module: &Module, state: &State) -> Building<Marks>
     ensures { Gives result (asked.marks_of «module».now state.now.scope.rules) }
 {
     marks_of(alloc, module, state.scope.rules.as_slice())
 }
 
-/// The instance behind the end of its body, and the marks of the instances inside it.
+/// The instance after the end of its body, and the marks of the instances inside it.
 fn built_from(module: u32, scope: Scope) -> (Built, Marks)
     ensures { result ≡ (building.built «module» scope, scope.marks) }
 {
@@ -118,7 +118,7 @@ fn built_from(module: u32, scope: Scope) -> (Built, Marks)
     (built, marks)
 }
 
-/// The instance behind the end of its body, and its own marks before those of the instances inside it.
+/// The instance after the end of its body, and its own marks before those of the instances inside it.
 fn finished(module: u32, scope: Scope, own: Building<Marks>) -> Building<(Built, Marks)>
     ensures { Finishes «module» scope own result }
 {
@@ -138,7 +138,7 @@ impl<'a> Builder<'a> {
         }
     }
 
-    /// The statements of the module, and what its attributes ask for behind them.
+    /// The statements of the module, and what its attributes ask for after them.
     #[cycle(build)]
     #[tactic(auto, using(crate::proofs::Sizes::falls))]
     fn own_body(self, module: &Module, state: &mut State) -> Building<Marks>
@@ -229,7 +229,7 @@ impl<'a> Builder<'a> {
         add_instance(own, &mut state.grown)?;
         let (built, marks) = self.inner_body(module, path.bytes(), bindings, state)?;
         let made = Made::Module(built);
-        place_behind(number, Instance { path, made }, marks, state)?;
+        place_after(number, Instance { path, made }, marks, state)?;
         Ok(number)
     }
 
@@ -434,7 +434,7 @@ impl<'a> Builder<'a> {
         Ok(())
     }
 
-    /// The arm behind a last `else`.
+    /// The arm after a last `else`.
     #[cycle(build)]
     #[tactic(auto, using(crate::proofs::Sizes::falls))]
     fn otherwise(self, last: &Option<Boxed<ModuleStmt>>, state: &mut State) -> Building<()>

@@ -47,7 +47,7 @@ fn copied(alloc: Global, bindings: &[Binding]) -> Result<Items<Binding>, OutOfMe
     Ok(found)
 }
 
-/// The rule of this name, place and position stands behind the others.
+/// The rule of this name, place and position comes after the others.
 fn add_rule(
     alloc: Global,
     name: Name,
@@ -117,7 +117,7 @@ impl<'a> Builder<'a> {
         Ok(own)
     }
 
-    /// The weight behind what the rule carries out.
+    /// The weight after what the rule carries out.
     fn weight_of(self, rule: &Rule, state: &State) -> Building<u64>
         ensures { Gives result (spec.weight_of (at_hand.here self.entry) rule.now state.now) }
     {

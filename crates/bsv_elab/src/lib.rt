@@ -4,7 +4,7 @@
 //! instances, rules and methods), `builder` (what each call has at hand), `values` (of expressions in a module's
 //! body), `variables` (of it), `attributes`, `kinds` (what makers make), `elements` (rules and methods where they
 //! stand), `making` (of instances), `places` (of arrays), `bodies` (the statements of a module), `fault` (what is
-//! told), `law` (what holds of all trees), `whole` (the whole). The definition stands in `specs/`, where
+//! told), `law` (what holds of all trees), `whole` (the whole). The definition is in `specs/`, where
 //! `Building.antt` is its whole, and `Rightness.antt` says what is promised of trees.
 #![tactic(auto)]
 

@@ -133,8 +133,8 @@ pub(crate) fn parameters(
     Ok(found)
 }
 
-/// The instance stands at its number, and its attributes behind those of the others.
-pub(crate) fn place_behind(
+/// The instance is at its number, and its attributes after those of the others.
+pub(crate) fn place_after(
     number: u32,
     instance: Instance,
     inside: Marks,
@@ -161,7 +161,7 @@ pub(crate) fn is_around(module: u32, around: &[u32]) -> bool
 
 impl<'a> Builder<'a> {
     /// The width of what an instance of the type holds.
-    #[tactic(auto, unfolding(bsv_design::specs::Applied::width))]
+    #[tactic(auto, unfolding(bsv_design::specs::carrying::Applied::width))]
     pub(crate) fn width_in(self, ty: &Ty) -> u32
         ensures { result ≡ spec.width_in (at_hand.here self.entry) (kind ty.now) }
     {
@@ -176,7 +176,7 @@ impl<'a> Builder<'a> {
         }
     }
 
-    /// The instance that a place names, and the weight behind it.
+    /// The instance that a place names, and the weight after it.
     fn placed(self, place: &Place, state: &State) -> Building<(u32, Count)>
         ensures { Gives result (spec.placed_in (at_hand.here self.entry) place.now state.now) }
     {

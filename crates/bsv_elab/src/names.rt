@@ -11,7 +11,7 @@ use itoa::Buffer;
 use std::alloc::{AllocError, Global};
 use std::marker::Model;
 
-/// The greatest number behind a name.
+/// The greatest number after a name.
 const MOST_TIMES: u32 = 4_294_967_295;
 
 /// The names of one module's instances, or of its rules and methods.
@@ -31,7 +31,7 @@ impl Model for Names {
     ghost view = { λ names. record { given = names.given.entries; taken = names.taken.keys } };
 }
 
-/// The name, and behind all but the first its number.
+/// The name, and after all but the first its number.
 fn with_number(alloc: Global, name: &[u8], number: u32) -> Result<Name, OutOfMemory>
     ensures { IfOk result (λ own. own ≡ spec.with_number name.now number) }
 {

@@ -5,7 +5,7 @@ use sqlite_items::Items;
 /// The tree so far.
 #[derive(Drop)]
 pub struct Grown {
-    /// A module whose body is still carried out stands there without its variables.
+    /// A module whose body is still carried out is there without its variables.
     pub instances: Items<Instance>,
     /// How many of them are primitives.
     pub primitives: u32,

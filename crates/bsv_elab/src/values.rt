@@ -8,7 +8,7 @@ ghost use Rattle.bsv_elab.specs.Statics as statics;
 use crate::builder::Builder;
 use crate::refused::{Building, Refused, from_carry};
 use crate::state::State;
-use bsv_carry::Site;
+use bsv_carry::Context;
 use bsv_design::{Constant, Count, Fault, Value, Work};
 use bsv_fail::Fail;
 use bsv_steps::{no_steps, no_variables, tick};
@@ -63,12 +63,12 @@ impl<'a> Builder<'a> {
     }
 
     /// What is at hand where text of the body is carried out.
-    pub(crate) fn site<'b>(self, state: &'b State) -> Site<'b>
+    pub(crate) fn site<'b>(self, state: &'b State) -> Context<'b>
     where
         'a: 'b,
         ensures { carrier.text result ≡ statics.site (spec.here self.entry) state.now }
     {
-        Site {
+        Context {
             alloc: self.alloc,
             typed: self.typed,
             instances: state.grown.instances.as_slice(),

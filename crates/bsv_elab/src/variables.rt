@@ -94,7 +94,7 @@ pub(crate) fn variables(state: &State) -> usize
     state.scope.bindings.len()
 }
 
-/// What was declared behind so many variables has ended.
+/// What was declared after so many variables has ended.
 pub(crate) fn cut(alloc: Global, count: usize, state: &mut State)
     ensures { state.new ≡ spec.cut count state.old }
 {

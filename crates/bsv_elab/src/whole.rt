@@ -1,7 +1,7 @@
 ghost use Rattle.std.specs.Prelude.{◌≡◌, ◌+◌, ◌<◌, Ok, IfOk, IfErr, length, slice_get};
 ghost use Rattle.bsv_fail.specs.Given.{Gives};
-ghost use Rattle.bsv_design.specs.Seen.{hierarchy};
-ghost use Rattle.bsv_design.specs.Trees.{IsTree};
+ghost use Rattle.bsv_design.specs.tree.Seen.{tree_data};
+ghost use Rattle.bsv_design.specs.tree.Trees.{IsTree};
 ghost use Rattle.bsv_elab.specs.AtHand as spec;
 ghost use Rattle.bsv_elab.specs.Building as building;
 ghost use Rattle.bsv_elab.specs.Elements.{methods_of};
@@ -20,7 +20,7 @@ use crate::state::{Done, Grown, Scope, State};
 use crate::values::countable;
 use crate::variables::put_at;
 use bsv_bits::{Name, OutOfMemory};
-use bsv_carry::Site;
+use bsv_carry::Context;
 use bsv_design::{Fault, Made, Tree};
 use bsv_fail::Fail;
 use bsv_steps::seen;
@@ -28,7 +28,7 @@ use bsv_types::{Method, Module, Typed};
 use sqlite_items::Items;
 use std::alloc::Global;
 
-/// The most methods that stand before the most rules, so that each element has a number.
+/// The most methods that come before the most rules, so that each element has a number.
 const MOST_METHODS: usize = 4_294_966_783;
 
 fn is_top(name: &Name, module: &Module) -> bool
@@ -89,8 +89,8 @@ fn no_scope(alloc: Global) -> Scope {
 }
 
 /// The tree as it begins, with the top alone, whose body is still to be carried out.
-fn begun(alloc: Global, top: u32) -> Result<State, OutOfMemory>
-    ensures { IfOk result (λ state. state.grown ≡ building.begun top) }
+fn top_alone(alloc: Global, top: u32) -> Result<State, OutOfMemory>
+    ensures { IfOk result (λ state. state.grown ≡ building.top_alone top) }
 {
     let own = instance(alloc, b"", unbuilt(alloc, top))?;
     let mut grown = no_instances(alloc);
@@ -108,7 +108,7 @@ fn grown_of(state: State) -> Grown
 }
 
 impl<'a> Builder<'a> {
-    /// The weight behind a method of the top.
+    /// The weight after a method of the top.
     #[tactic(auto, unfolding(crate::specs::Building::method_at, crate::specs::Elements::most_elements))]
     fn top_method(self, done: &Done, weight: u64, number: u32, method: &Method) -> Building<u64>
         ensures { Gives result
@@ -119,7 +119,7 @@ impl<'a> Builder<'a> {
             return Err(Fail::Fault(Refused::Limit(LimitKind::Elements, most)));
         }
         let levels = levels_at(&done.built.methods, number);
-        let site = Site {
+        let site = Context {
             alloc: self.alloc,
             typed: self.typed,
             instances: done.grown.instances.as_slice(),
@@ -130,7 +130,7 @@ impl<'a> Builder<'a> {
         Ok(work.count.weight)
     }
 
-    /// The weight behind the methods of the top.
+    /// The weight after the methods of the top.
     #[tactic(auto, unfolding(crate::specs::Building::methods_from, crate::specs::Building::method_at, crate::specs::Elements::most_elements))]
     fn top_methods(self, done: &Done, methods: &[Method]) -> Building<u64>
         ensures { Gives result (building.methods_from (spec.here self.entry) done.now
@@ -157,10 +157,10 @@ impl<'a> Builder<'a> {
     }
 
     /// The top as an instance inside nothing.
-    fn outermost(self) -> Building<Done>
-        ensures { Gives result (spec.outermost self.entry) }
+    fn top_instance(self) -> Building<Done>
+        ensures { Gives result (spec.top_instance self.entry) }
     {
-        let mut state = begun(self.alloc, self.module)?;
+        let mut state = top_alone(self.alloc, self.module)?;
         let none = Items::new(self.alloc);
         let (built, marks) = self.inner_body(self.module, b"", none, &mut state)?;
         Ok(Done {
@@ -170,11 +170,11 @@ impl<'a> Builder<'a> {
         })
     }
 
-    /// The top as an instance inside nothing, and the weight behind its methods.
+    /// The top as an instance inside nothing, and the weight after its methods.
     fn top(self) -> Building<(Done, u64)>
         ensures { Gives result (spec.top self.entry) }
     {
-        let done = self.outermost()?;
+        let done = self.top_instance()?;
         let weight = self.top_methods(&done, self.own_methods())?;
         Ok((done, weight))
     }
@@ -189,7 +189,7 @@ fn tree(
     weight: u64,
 ) -> Result<Tree, OutOfMemory>
     requires { IsTree (building.tree typed number done weight) }
-    ensures { IfOk result (λ t. hierarchy t ≡ building.tree typed number done weight) }
+    ensures { IfOk result (λ t. tree_data t ≡ building.tree typed number done weight) }
 {
     let Done {
         built,
@@ -202,7 +202,7 @@ fn tree(
     Ok(Tree::new(typed, number, instances, marks.pairs, marks.asserts, weight))
 }
 
-/// The position of the first rule, behind the methods of the top.
+/// The position of the first rule, after the methods of the top.
 #[tactic(auto, unfolding(crate::specs::Building::first_rule, crate::specs::Elements::most_elements))]
 fn first_rule(methods: usize) -> Building<u32>
     ensures first { Gives result (building.first_rule methods) }
@@ -301,7 +301,7 @@ fn told_fail(alloc: Global, top: &Name, modules: &[Module], fail: Fail<Refused>)
 /// The tree of a typed design whose top is the module of the name, or the first refusal that is met.
 #[tactic(auto, unfolding(crate::specs::Building::building))]
 pub fn build(alloc: Global, typed: Typed, top: &Name) -> Result<Tree, ElabFault>
-    ensures built { IfOk result (λ t. told.Builds typed top.now ≡ Ok (hierarchy t)) }
+    ensures built { IfOk result (λ t. told.Builds typed top.now ≡ Ok (tree_data t)) }
     ensures refused { IfErr result (λ e. told.Tells e (told.Builds typed top.now)) }
 {
     trees_are_right();

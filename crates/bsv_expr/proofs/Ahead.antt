@@ -1,4 +1,4 @@
--- Which words a phrase begins with, which ones might go on behind a whole one, and the test that one token ahead
+-- Which words a phrase begins with, which ones might go on after a whole one, and the test that one token ahead
 -- is enough.
 use Rattle.std.specs.Prelude.{◌≡◌, Bool, true, false, not, ◌&&◌, ◌||◌, if◌then◌else◌, List, [], ◌∷◌, ◌++◌}
 use Rattle.bsv_lex.specs.declared.terminal.Terminal.{Terminal}
@@ -59,7 +59,7 @@ module _ {H : Type 0} {T : H → Type 0} (hole_first hole_more : H → List Term
   test (Grammar.fold set goes step p q) = not (nullable q) && (is_within (first q) set && (is_apart (more p) set && (is_apart (more q) set && (test p && test q))))
   test (Grammar.named fs ms p) = not (nullable p) && (is_within (first p) fs && is_within (more p) ms)
 
--- whether each hole stands in a bracket, or is one that counts as if it did
+-- whether each hole is in a bracket, or is one that counts as if it did
 unfoldable pub guarded : {H : Type 0} {T : H → Type 0} {A : Type 0} → (H → Bool) → Grammar H T A → Bool
 guarded free (Grammar.nothing c) = true
 guarded free (Grammar.leaf set tell) = true

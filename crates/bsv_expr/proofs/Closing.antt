@@ -9,28 +9,28 @@ use Rattle.bsv_expr.specs.declared.fault.ReadFault.TheVariants as fault
 use Rattle.bsv_expr.specs.Lexemes.{is_in, is_apart}
 use Rattle.bsv_expr.specs.Grammar.{Phrase, Grammar, Means, Fold, Maybe}
 use Rattle.bsv_expr.specs.Reading.{◌>>=◌, softened, take_leaf, on_some, refuse}
-use Rattle.bsv_expr.specs.Brackets.{openers, closers, open_behind, Reaches}
+use Rattle.bsv_expr.specs.Brackets.{openers, closers, open_after, Reaches}
 use Rattle.bsv_expr.proofs.Ahead.{Tame}
 use Rattle.bsv_expr.proofs.Sets.{apart_in, append_left, append_right}
 
-plain_token : (set : List Terminal) (count : ℕ) (t : Terminal) → is_apart (openers ++ closers) set ≡ true → is_in set t ≡ true → open_behind count t ≡ count
-unfolding open_behind
+plain_token : (set : List Terminal) (count : ℕ) (t : Terminal) → is_apart (openers ++ closers) set ≡ true → is_in set t ≡ true → open_after count t ≡ count
+unfolding open_after
 plain_token set count t e of =
     let out : is_in (openers ++ closers) t ≡ false = apart_in (openers ++ closers) set t e of in
     rw (append_left openers closers t out, append_right openers closers t out) refl
 
 -- an opening bracket opens one more
-pub opening : (count : ℕ) (t : Terminal) → is_in openers t ≡ true → open_behind count t ≡ suc count
-unfolding open_behind
+pub opening : (count : ℕ) (t : Terminal) → is_in openers t ≡ true → open_after count t ≡ suc count
+unfolding open_after
 opening count t e = rw e refl
 
-closing : (count : ℕ) (t : Terminal) → is_in openers t ≡ false → is_in closers t ≡ true → open_behind (suc count) t ≡ count
-unfolding open_behind
+closing : (count : ℕ) (t : Terminal) → is_in openers t ≡ false → is_in closers t ≡ true → open_after (suc count) t ≡ count
+unfolding open_after
 closing count t e f = rw (e, f) (let is : suc count - 1 ≡ count = omega arith in is)
 
 pub lower_limit : (l m k : ℕ) (ts : List Lexeme) → m ≤ l → Reaches l k ts → Reaches m k ts
 lower_limit l m k ts le (Reaches.here h) = Reaches.here (omega arith)
-lower_limit l m k ts le (Reaches.later {w = w} {ts = us} d) = Reaches.later (lower_limit l m (open_behind k w.terminal) us le d)
+lower_limit l m k ts le (Reaches.later {w = w} {ts = us} d) = Reaches.later (lower_limit l m (open_after k w.terminal) us le d)
 
 -- a phrase closes what it opens
 abbrev pub Balanced : {A : Type 0} → Phrase A → Type 0
@@ -73,7 +73,7 @@ abbrev pub bonus : Bool → ℕ
 bonus true = 1
 bonus false = 0
 
--- where a step is for want of brackets, the first part of it is, or what goes on behind it
+-- where a step is for want of brackets, the first part of it is, or what goes on after it
 pub data Fails {A B : Type 0} (r : Result A ReadFault) (f : A → Result B ReadFault) : Type 0 where
   at_once : r ≡ Err fault.TooDeep → Fails r f
   behind : (x : A) → r ≡ Ok x → f x ≡ Err fault.TooDeep → Fails r f

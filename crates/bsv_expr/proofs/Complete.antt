@@ -69,7 +69,7 @@ module _ {H : Type 0} {T : H → Type 0} (source : List ℕ) (inner : (h : H) �
   chosen_second true r q e = absurd cc
   chosen_second false r q e = refl
 
-  -- one phrase behind the other
+  -- one phrase after the other
   both_begins : {A B C : Type 0} (f : A → B → C) (p : Grammar H T A) (q : Grammar H T B) (b c : Bool) → nullable p ≡ b → nullable q ≡ c → Begins p → Begins q → (x : C) (ts rest : List Lexeme) → Both f (Means source Inner p) (Means source Inner q) x ts rest
       → (starts (if b then first hole_first hole_more p ++ first hole_first hole_more q else first hole_first hole_more p) ts ≡ true) ⊎ (((b && c) ≡ true) × (ts ≡ rest))
   both_begins f p q true c np nq gp gq x ts rest d =
@@ -86,23 +86,23 @@ module _ {H : Type 0} {T : H → Type 0} (source : List ℕ) (inner : (h : H) �
         | inr e ↦ let other : nullable p ≡ true = e.0 in absurd cc
       ]
 
-  -- what stands behind the first of two phrases does not go on with it
-  behind_first : {A B : Type 0} (p : Grammar H T A) (q : Grammar H T B) (c : Bool) → nullable q ≡ c → Begins q → is_apart (more hole_first hole_more p) (first hole_first hole_more q) ≡ true → (b : B) (us rest : List Lexeme) → Means source Inner q b us rest
+  -- what comes after the first of two phrases does not go on with it
+  after_first : {A B : Type 0} (p : Grammar H T A) (q : Grammar H T B) (c : Bool) → nullable q ≡ c → Begins q → is_apart (more hole_first hole_more p) (first hole_first hole_more q) ≡ true → (b : B) (us rest : List Lexeme) → Means source Inner q b us rest
       → starts (if c then more hole_first hole_more p ++ more hole_first hole_more q else more hole_first hole_more q) rest ≡ false → starts (more hole_first hole_more p) us ≡ false
-  behind_first p q true nq gq apart b us rest d stop =
+  after_first p q true nq gq apart b us rest d stop =
       elim (gq b us rest d) [
         | inl e ↦ apart_stops (more hole_first hole_more p) (first hole_first hole_more q) us apart e
         | inr e ↦ subst (λ vs. starts (more hole_first hole_more p) vs ≡ false) (sym e.1) (left_stops (more hole_first hole_more p) (more hole_first hole_more q) rest stop)
       ]
-  behind_first p q false nq gq apart b us rest d stop =
+  after_first p q false nq gq apart b us rest d stop =
       elim (gq b us rest d) [
         | inl e ↦ apart_stops (more hole_first hole_more p) (first hole_first hole_more q) us apart e
         | inr e ↦ let other : nullable q ≡ true = e.0 in absurd cc
       ]
 
-  behind_second : (c : Bool) (xs ys : List Terminal) (rest : List Lexeme) → starts (if c then xs ++ ys else ys) rest ≡ false → starts ys rest ≡ false
-  behind_second true xs ys rest e = right_stops xs ys rest e
-  behind_second false xs ys rest e = e
+  after_second : (c : Bool) (xs ys : List Terminal) (rest : List Lexeme) → starts (if c then xs ++ ys else ys) rest ≡ false → starts ys rest ≡ false
+  after_second true xs ys rest e = right_stops xs ys rest e
+  after_second false xs ys rest e = e
 
   both_good : {A B C : Type 0} (f : A → B → C) (p : Grammar H T A) (q : Grammar H T B) → is_apart (more hole_first hole_more p) (first hole_first hole_more q) ≡ true → Good p → Good q → Good (Grammar.both f p q)
   unfolding Means read nullable first more
@@ -110,15 +110,15 @@ module _ {H : Type 0} {T : H → Type 0} (source : List ℕ) (inner : (h : H) �
     begins = λ x ts rest d. both_begins f p q (nullable p) (nullable q) refl refl gp.begins gq.begins x ts rest d;
     completes = λ soft x ts rest d stop.
         rw (
-          gp.completes soft d.left ts d.middle d.first (behind_first p q (nullable q) refl gq.begins apart d.right d.middle rest d.second stop),
-          gq.completes soft d.right d.middle rest d.second (behind_second (nullable q) (more hole_first hole_more p) (more hole_first hole_more q) rest stop),
+          gp.completes soft d.left ts d.middle d.first (after_first p q (nullable q) refl gq.begins apart d.right d.middle rest d.second stop),
+          gq.completes soft d.right d.middle rest d.second (after_second (nullable q) (more hole_first hole_more p) (more hole_first hole_more q) rest stop),
           d.is,
         ) refl;
   }
 
   -- a phrase that is not empty begins with one of its first words
-  begun : {A : Type 0} (g : Grammar H T A) → nullable g ≡ false → Begins g → (x : A) (ts rest : List Lexeme) → Means source Inner g x ts rest → starts (first hole_first hole_more g) ts ≡ true
-  begun g full gg x ts rest d =
+  started : {A : Type 0} (g : Grammar H T A) → nullable g ≡ false → Begins g → (x : A) (ts rest : List Lexeme) → Means source Inner g x ts rest → starts (first hole_first hole_more g) ts ≡ true
+  started g full gg x ts rest d =
       elim (gg x ts rest d) [
         | inl e ↦ e
         | inr e ↦ let other : nullable g ≡ true = e.0 in absurd cc
@@ -165,27 +165,27 @@ module _ {H : Type 0} {T : H → Type 0} (source : List ℕ) (inner : (h : H) �
   unfolding Means read first more
   choose_good {A} set p q full_p full_q within apart gp gq = record {
     begins = λ x ts rest d. inl (elim d [
-      | inl e ↦ left_starts set (first hole_first hole_more q) ts (within_starts (first hole_first hole_more p) set ts within (begun p full_p gp.begins x ts rest e))
-      | inr e ↦ right_starts set (first hole_first hole_more q) ts (begun q full_q gq.begins x ts rest e)
+      | inl e ↦ left_starts set (first hole_first hole_more q) ts (within_starts (first hole_first hole_more p) set ts within (started p full_p gp.begins x ts rest e))
+      | inr e ↦ right_starts set (first hole_first hole_more q) ts (started q full_q gq.begins x ts rest e)
     ]);
     completes = λ soft x ts rest d stop. elim d [
-      | inl e ↦ chosen_first (starts set ts) (read source inner soft p ts) (read source inner soft q ts) (within_starts (first hole_first hole_more p) set ts within (begun p full_p gp.begins x ts rest e))
+      | inl e ↦ chosen_first (starts set ts) (read source inner soft p ts) (read source inner soft q ts) (within_starts (first hole_first hole_more p) set ts within (started p full_p gp.begins x ts rest e))
           ∙ gp.completes soft x ts rest e (left_stops (more hole_first hole_more p) (more hole_first hole_more q) rest stop)
-      | inr e ↦ chosen_second (starts set ts) (read source inner soft p ts) (read source inner soft q ts) (apart_stops set (first hole_first hole_more q) ts apart (begun q full_q gq.begins x ts rest e))
+      | inr e ↦ chosen_second (starts set ts) (read source inner soft p ts) (read source inner soft q ts) (apart_stops set (first hole_first hole_more q) ts apart (started q full_q gq.begins x ts rest e))
           ∙ gq.completes soft x ts rest e (right_stops (more hole_first hole_more p) (more hole_first hole_more q) rest stop)
     ];
   }
 
   maybe_begins : {A : Type 0} (set : List Terminal) (p : Grammar H T A) → nullable p ≡ false → is_within (first hole_first hole_more p) set ≡ true → Begins p → (x : Option A) (ts rest : List Lexeme) → Maybe (Means source Inner p) x ts rest → (starts set ts ≡ true) ⊎ ((true ≡ true) × (ts ≡ rest))
   maybe_begins set p full within gp x ts rest Maybe.none = inr (refl, refl)
-  maybe_begins set p full within gp x ts rest (Maybe.some {a = a} d) = inl (within_starts (first hole_first hole_more p) set ts within (begun p full gp a ts rest d))
+  maybe_begins set p full within gp x ts rest (Maybe.some {a = a} d) = inl (within_starts (first hole_first hole_more p) set ts within (started p full gp a ts rest d))
 
   maybe_reads : {A : Type 0} (set : List Terminal) (p : Grammar H T A) → nullable p ≡ false → is_within (first hole_first hole_more p) set ≡ true → Good p → (soft : Bool) (x : Option A) (ts rest : List Lexeme) → Maybe (Means source Inner p) x ts rest → starts (set ++ more hole_first hole_more p) rest ≡ false
       → (if starts set ts then softened {B = Option A × List Lexeme} soft (read source inner soft p ts) (Ok (None, ts)) (λ a. Ok (Some a.0, a.1)) else Ok (None, ts)) ≡ Ok (x, rest)
   maybe_reads {A} set p full within gp soft x ts rest Maybe.none stop =
       chosen_second (starts set ts) (softened {B = Option A × List Lexeme} soft (read source inner soft p ts) (Ok (None, ts)) (λ a. Ok (Some a.0, a.1))) (Ok (None, ts)) (left_stops set (more hole_first hole_more p) ts stop)
   maybe_reads {A} set p full within gp soft x ts rest (Maybe.some {a = a} d) stop =
-      chosen_first (starts set ts) (softened {B = Option A × List Lexeme} soft (read source inner soft p ts) (Ok (None, ts)) (λ b. Ok (Some b.0, b.1))) (Ok (None, ts)) (within_starts (first hole_first hole_more p) set ts within (begun p full gp.begins a ts rest d))
+      chosen_first (starts set ts) (softened {B = Option A × List Lexeme} soft (read source inner soft p ts) (Ok (None, ts)) (λ b. Ok (Some b.0, b.1))) (Ok (None, ts)) (within_starts (first hole_first hole_more p) set ts within (started p full gp.begins a ts rest d))
       ∙ rw (gp.completes soft a ts rest d (right_stops set (more hole_first hole_more p) rest stop)) refl
 
   maybe_good : {A : Type 0} (set : List Terminal) (p : Grammar H T A) → nullable p ≡ false → is_within (first hole_first hole_more p) set ≡ true → Good p → Good (Grammar.maybe set p)
@@ -196,9 +196,9 @@ module _ {H : Type 0} {T : H → Type 0} (source : List ℕ) (inner : (h : H) �
     -- items end at once, or begin with one of their words
     fold_begins : (s y : S) (ts rest : List Lexeme) → Fold goes step (Means source Inner q) s y ts rest → (starts set ts ≡ true) ⊎ (ts ≡ rest)
     fold_begins s y ts rest Fold.done = inr refl
-    fold_begins s y ts rest (Fold.turn {a = a} {us = us} is d ds) = inl (within_starts (first hole_first hole_more q) set ts within (begun q full gq.begins a ts us d))
+    fold_begins s y ts rest (Fold.turn {a = a} {us = us} is d ds) = inl (within_starts (first hole_first hole_more q) set ts within (started q full gq.begins a ts us d))
 
-    -- what stands behind a part in front of items does not go on with it
+    -- what comes after a part in front of items does not go on with it
     before_fold : (xs : List Terminal) → is_apart xs set ≡ true → (s y : S) (ts rest : List Lexeme) → Fold goes step (Means source Inner q) s y ts rest → starts xs rest ≡ false → starts xs ts ≡ false
     before_fold xs off s y ts rest ds stop =
         elim (fold_begins s y ts rest ds) [
@@ -220,7 +220,7 @@ module _ {H : Type 0} {T : H → Type 0} (source : List ℕ) (inner : (h : H) �
     fold_reads soft n s y ts rest Fold.done ends stop le = stopped soft n s ts ends
     fold_reads soft zero s y ts rest (Fold.turn {a = a} {us = us} is d ds) ends stop le = absurd (omega (arith, shorter source Inner inner_shorter q a ts us full d))
     fold_reads soft (suc n) s y ts rest (Fold.turn {a = a} {us = us} is d ds) ends stop le =
-        let starting : starts set ts ≡ true = within_starts (first hole_first hole_more q) set ts within (begun q full gq.begins a ts us d) in
+        let starting : starts set ts ≡ true = within_starts (first hole_first hole_more q) set ts within (started q full gq.begins a ts us d) in
         rw (
           is,
           starting,
@@ -228,9 +228,9 @@ module _ {H : Type 0} {T : H → Type 0} (source : List ℕ) (inner : (h : H) �
           fold_reads soft n (step s a) y us rest ds ends stop (omega (arith, shorter source Inner inner_shorter q a ts us full d)),
         ) refl
 
-    fold_begun : (p : Grammar H T S) (b : Bool) → nullable p ≡ b → Begins p → (x : S) (ts rest : List Lexeme) → Folded goes step (Means source Inner p) (Means source Inner q) x ts rest
+    fold_started : (p : Grammar H T S) (b : Bool) → nullable p ≡ b → Begins p → (x : S) (ts rest : List Lexeme) → Folded goes step (Means source Inner p) (Means source Inner q) x ts rest
         → (starts (if b then first hole_first hole_more p ++ set else first hole_first hole_more p) ts ≡ true) ⊎ ((b ≡ true) × (ts ≡ rest))
-    fold_begun p true np gp x ts rest d =
+    fold_started p true np gp x ts rest d =
         elim (gp d.start ts d.middle d.first) [
           | inl e ↦ inl (left_starts (first hole_first hole_more p) set ts e)
           | inr e ↦ elim (fold_begins d.start x d.middle rest d.turns) [
@@ -238,7 +238,7 @@ module _ {H : Type 0} {T : H → Type 0} (source : List ℕ) (inner : (h : H) �
             | inr e2 ↦ inr (refl, e.1 ∙ e2)
           ]
         ]
-    fold_begun p false np gp x ts rest d =
+    fold_started p false np gp x ts rest d =
         elim (gp d.start ts d.middle d.first) [
           | inl e ↦ inl e
           | inr e ↦ let other : nullable p ≡ true = e.0 in absurd cc
@@ -247,7 +247,7 @@ module _ {H : Type 0} {T : H → Type 0} (source : List ℕ) (inner : (h : H) �
     fold_good : (p : Grammar H T S) → is_apart (more hole_first hole_more p) set ≡ true → Good p → Good (Grammar.fold set goes step p q)
     unfolding Means read nullable first more
     fold_good p off gp = record {
-      begins = fold_begun p (nullable p) refl gp.begins;
+      begins = fold_started p (nullable p) refl gp.begins;
       completes = λ soft x ts rest d stop.
           let behind : starts (set ++ more hole_first hole_more q) rest ≡ false = right_stops (more hole_first hole_more p) (set ++ more hole_first hole_more q) rest stop in
           rw (
@@ -259,7 +259,7 @@ module _ {H : Type 0} {T : H → Type 0} (source : List ℕ) (inner : (h : H) �
   bind_good : {A C : Type 0} (fs ms : List Terminal) (p : Grammar H T A) (k : A → Grammar H T C) → nullable p ≡ false → is_apart (more hole_first hole_more p) fs ≡ true → is_within (more hole_first hole_more p) ms ≡ true → Good p → ((a : A) → Within fs ms (k a)) → Good (Grammar.bind fs ms p k)
   unfolding Means read first more
   bind_good fs ms p k full apart within gp gk = record {
-    begins = λ x ts rest d. inl (begun p full gp.begins d.left ts d.middle d.first);
+    begins = λ x ts rest d. inl (started p full gp.begins d.left ts d.middle d.first);
     completes = λ soft x ts rest d stop.
         let behind : starts (more hole_first hole_more p) d.middle ≡ false =
         elim ((gk d.left).good.begins x d.middle rest d.second) [
@@ -272,7 +272,7 @@ module _ {H : Type 0} {T : H → Type 0} (source : List ℕ) (inner : (h : H) �
   named_good : {A : Type 0} (fs ms : List Terminal) (p : Grammar H T A) → nullable p ≡ false → is_within (first hole_first hole_more p) fs ≡ true → is_within (more hole_first hole_more p) ms ≡ true → Good p → Good (Grammar.named fs ms p)
   unfolding Means read first more
   named_good fs ms p full firsts mores gp = record {
-    begins = λ x ts rest d. inl (within_starts (first hole_first hole_more p) fs ts firsts (begun p full gp.begins x ts rest d));
+    begins = λ x ts rest d. inl (within_starts (first hole_first hole_more p) fs ts firsts (started p full gp.begins x ts rest d));
     completes = λ soft x ts rest d stop. gp.completes soft x ts rest d (within_stops (more hole_first hole_more p) ms rest mores stop);
   }
 

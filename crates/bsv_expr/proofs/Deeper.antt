@@ -1,4 +1,4 @@
--- A reader that was given too few brackets stands in front of so many open ones.
+-- A reader that was given too few brackets comes before so many open ones.
 use Rattle.std.proofs.Common.{◌≡◌, ℕ, zero, suc, ◌+◌, ◌≤◌, Bool, true, false, ◌&&◌, List, [], ◌∷◌, length, Option, Some, None, Ok, Err, subst, sym, arith}
 use Rattle.bsv_lemmas.proofs.Truths.{both_left as and_left}
 use Rattle.bsv_ast.specs.declared.text.Span.{Span}
@@ -34,7 +34,7 @@ weaker m k a b ts le r = lower_limit (m + b + k) (m + a + k) k ts (omega arith) 
 module _ {S A : Type 0} (soft : Bool) (set : List Terminal) (goes_on : S → Bool) (step_of : S → A → S) (item : List Lexeme → Read A) (Item : Phrase A)
     (item_sound : (ts : List Lexeme) (x : A) (rest : List Lexeme) → item ts ≡ Ok (x, rest) → Item x ts rest) (item_balanced : Balanced Item)
     (l k : ℕ) (item_deep : (ts : List Lexeme) → item ts ≡ Err fault.TooDeep → Reaches l k ts) where
-  -- an item is for want of brackets, behind others that close theirs
+  -- an item is for want of brackets, after others that close theirs
   turns_deep : (n : ℕ) (s : S) (ts : List Lexeme) → turns soft set goes_on step_of item n s ts ≡ Err fault.TooDeep → Reaches l k ts
   unfolding turns
   turns_deep zero s ts e = absurd cc
@@ -50,7 +50,7 @@ module _ {H : Type 0} {T : H → Type 0} (source : List ℕ) (inner : (h : H) �
     (inner_sound : (h : H) (ts : List Lexeme) (x : T h) (rest : List Lexeme) → inner h ts ≡ Ok (x, rest) → Inner h x ts rest)
     (free : H → Bool) (inner_balanced : (h : H) → Balanced (Inner h)) (m : ℕ)
     (inner_deep : (h : H) (ts : List Lexeme) → inner h ts ≡ Err fault.TooDeep → (k : ℕ) → Reaches (m + bonus (free h) + k) k ts) where
-  -- behind an opening bracket one more is open
+  -- after an opening bracket one more is open
   between_deep : (o : Terminal) (b : ℕ) (ts us : List Lexeme) (s : Span) (k : ℕ) → is_in openers o ≡ true → Next o s ts us → Reaches (m + b + suc k) (suc k) us → Reaches (m + 1 + k) k ts
   between_deep o b ts us s k starting l r =
       let opens : is_in openers l.token.terminal ≡ true = subst (λ t. is_in openers t ≡ true) (sym l.by) starting in

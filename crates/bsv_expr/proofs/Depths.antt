@@ -20,7 +20,7 @@ use Rattle.bsv_expr.proofs.Fronts.{Front, front}
 use Rattle.bsv_expr.proofs.Knot.{expr_sound}
 use Rattle.bsv_expr.proofs.Longest.{InMemory, memory}
 
--- a hole stands in a bracket
+-- a hole is in a bracket
 abbrev pub inside : Hole → Bool
 inside h = false
 

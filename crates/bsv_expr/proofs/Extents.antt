@@ -18,18 +18,18 @@ use Rattle.bsv_expr.proofs.Longest.{Far}
 use Rattle.bsv_expr.proofs.Monotone.{expr_more}
 use Rattle.bsv_expr.proofs.Reaching.{expr_far}
 use Rattle.bsv_expr.proofs.Tools.{ok_is}
-use Rattle.bsv_expr.proofs.Suffixes.{behind_part, part_fits, from_front}
+use Rattle.bsv_expr.proofs.Suffixes.{after_part, part_fits, from_front}
 
 pub count : (source : List ℕ) (tokens : List Token) → length (lexemes source tokens) ≡ length tokens
 unfolding lexemes
 count source tokens = length-map tokens (lexeme source)
 
--- what was read softly with at most 64 brackets stands between the tokens
+-- what was read softly with at most 64 brackets is between the tokens
 pub found_between : (source : List ℕ) (tokens : List Token) (at : ℕ) (x : Expr) (rest : List Lexeme) → expr source 65 true (drop at (lexemes source tokens)) ≡ Ok (x, rest) → IsBetween source tokens at x (length tokens - length rest)
 found_between source tokens at x rest e =
     let d : IsExpr source 65 x (drop at (lexemes source tokens)) rest = expr_sound source 65 true (drop at (lexemes source tokens)) x rest e in
     let f : Front (IsExpr source 65) x (drop at (lexemes source tokens)) rest = expr_front source 65 x (drop at (lexemes source tokens)) rest d in
-    let behind : drop (length (lexemes source tokens) - length rest) (lexemes source tokens) ≡ rest = behind_part at (lexemes source tokens) f.taken rest f.is in
+    let behind : drop (length (lexemes source tokens) - length rest) (lexemes source tokens) ≡ rest = after_part at (lexemes source tokens) f.taken rest f.is in
     let here : drop (length tokens - length rest) (lexemes source tokens) ≡ rest = subst (λ n. drop (n - length rest) (lexemes source tokens) ≡ rest) (count source tokens) behind in
     (omega arith, (65, subst (λ us. IsExpr source 65 x (drop at (lexemes source tokens)) us) (sym here) d))
 

@@ -224,8 +224,8 @@ module _ {H : Type 0} {T : H → Type 0} (source : List ℕ) (inner : (h : H) �
   fine g t names = good source inner Inner hole_first hole_more inner_complete inner_begins inner_shorter g t names
 
   -- a phrase that is not empty begins with one of its first words
-  begun_so : {A : Type 0} (g : Grammar H T A) → nullable g ≡ false → Fine g → (x : A) (ts rest : List Lexeme) → Means source Inner g x ts rest → starts (first hole_first hole_more g) ts ≡ true
-  begun_so g full gg x ts rest d =
+  started_so : {A : Type 0} (g : Grammar H T A) → nullable g ≡ false → Fine g → (x : A) (ts rest : List Lexeme) → Means source Inner g x ts rest → starts (first hole_first hole_more g) ts ≡ true
+  started_so g full gg x ts rest d =
       elim (gg.begins x ts rest d) [
         | inl e ↦ e
         | inr e ↦ let other : nullable g ≡ true = e.0 in absurd cc
@@ -261,17 +261,17 @@ module _ {H : Type 0} {T : H → Type 0} (source : List ℕ) (inner : (h : H) �
   choose_reaches : {A : Type 0} (set : List Terminal) (p q : Grammar H T A) → nullable p ≡ false → nullable q ≡ false → is_within (first hole_first hole_more p) set ≡ true → is_apart set (first hole_first hole_more q) ≡ true → Fine p → Fine q → Reaching source inner Inner p → Reaching source inner Inner q → Reaching source inner Inner (Grammar.choose set p q)
   unfolding read Means
   choose_reaches {A} set p q full_p full_q within apart gp gq rp rq x ts rest (inl d) =
-      let starting : starts set ts ≡ true = within_starts (first hole_first hole_more p) set ts within (begun_so p full_p gp x ts rest d) in
+      let starting : starts set ts ≡ true = within_starts (first hole_first hole_more p) set ts within (started_so p full_p gp x ts rest d) in
       rw starting (rp x ts rest d)
   choose_reaches {A} set p q full_p full_q within apart gp gq rp rq x ts rest (inr d) =
-      let starting : starts set ts ≡ false = apart_stops set (first hole_first hole_more q) ts apart (begun_so q full_q gq x ts rest d) in
+      let starting : starts set ts ≡ false = apart_stops set (first hole_first hole_more q) ts apart (started_so q full_q gq x ts rest d) in
       rw starting (rq x ts rest d)
 
   maybe_reaches : {A : Type 0} (set : List Terminal) (p : Grammar H T A) → Tested (Grammar.maybe set p) → nullable p ≡ false → is_within (first hole_first hole_more p) set ≡ true → Fine p → Reaching source inner Inner p → Reaching source inner Inner (Grammar.maybe set p)
   unfolding read Means nullable
   maybe_reaches set p t full within gp rp x ts rest Maybe.none = left_out source inner Inner inner_sound inner_shorter inner_memory hole_first hole_more (Grammar.maybe set p) t refl ts
   maybe_reaches {A} set p t full within gp rp x ts rest (Maybe.some {a = a} d) =
-      let starting : starts set ts ≡ true = within_starts (first hole_first hole_more p) set ts within (begun_so p full gp a ts rest d) in
+      let starting : starts set ts ≡ true = within_starts (first hole_first hole_more p) set ts within (started_so p full gp a ts rest d) in
       rw starting (soft_far {B = Option A} (read source inner true p ts) (Ok (None, ts)) (λ b. Ok (Some b.0, b.1)) rest rest (rp a ts rest d) (λ y us le. as_far (Some y) us refl le))
 
   module _ {S A : Type 0} (set : List Terminal) (goes_on : S → Bool) (step_of : S → A → S) (q : Grammar H T A) (full : nullable q ≡ false) (within : is_within (first hole_first hole_more q) set ≡ true) (apart : is_apart (more hole_first hole_more q) set ≡ true) (gq : Fine q) (rq : Reaching source inner Inner q) where
@@ -281,14 +281,14 @@ module _ {H : Type 0} {T : H → Type 0} (source : List ℕ) (inner : (h : H) �
     -- items end at once, or begin with one of their words
     fold_starts : (s y : S) (ts rest : List Lexeme) → Fold goes_on step_of (Means source Inner q) s y ts rest → (starts set ts ≡ true) ⊎ (ts ≡ rest)
     fold_starts s y ts rest Fold.done = inr refl
-    fold_starts s y ts rest (Fold.turn {a = a} {us = us} is d ds) = inl (within_starts (first hole_first hole_more q) set ts within (begun_so q full gq a ts us d))
+    fold_starts s y ts rest (Fold.turn {a = a} {us = us} is d ds) = inl (within_starts (first hole_first hole_more q) set ts within (started_so q full gq a ts us d))
 
     turns_reach : (n : ℕ) (s y : S) (ts rest : List Lexeme) → Fold goes_on step_of (Means source Inner q) s y ts rest → length ts ≤ n → Far (turns true set goes_on step_of (read source inner true q) n s ts) rest
     unfolding turns
     turns_reach n s y ts rest Fold.done le = some_turns n s ts
     turns_reach zero s y ts rest (Fold.turn {a = a} {us = us} is d ds) le = absurd (omega (arith, shorter source Inner inner_shorter q a ts us full d))
     turns_reach (suc n) s y ts rest (Fold.turn {a = a} {us = us} is d ds) le =
-        let starting : starts set ts ≡ true = within_starts (first hole_first hole_more q) set ts within (begun_so q full gq a ts us d) in
+        let starting : starts set ts ≡ true = within_starts (first hole_first hole_more q) set ts within (started_so q full gq a ts us d) in
         rw (is, starting) (elim (fold_starts (step_of s a) y us rest ds) [
           | inl e ↦ rw (gq.completes true a ts us d (apart_stops (more hole_first hole_more q) set us apart e))
               (turns_reach n (step_of s a) y us rest ds (omega (arith, shorter source Inner inner_shorter q a ts us full d)))

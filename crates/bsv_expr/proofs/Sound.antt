@@ -5,7 +5,7 @@ use Rattle.bsv_lex.specs.declared.terminal.Terminal.{Terminal}
 use Rattle.bsv_expr.specs.declared.lexeme.Lexeme.{Lexeme}
 use Rattle.bsv_expr.specs.declared.fault.ReadFault.{ReadFault}
 use Rattle.bsv_expr.specs.Lexemes.{starts}
-use Rattle.bsv_expr.specs.Grammar.{Phrase, Grammar, Means, Fold, Made, Both, Between, Maybe}
+use Rattle.bsv_expr.specs.Grammar.{Phrase, Grammar, Means, Fold, Mapped, Both, Between, Maybe}
 use Rattle.bsv_expr.specs.Reading.{Read, softened, forgives, turns, read, expect}
 use Rattle.bsv_expr.proofs.Tools.{step, bound, made, leaf, Next, next, same_spans}
 
@@ -71,7 +71,7 @@ module _ {H : Type 0} {T : H → Type 0} (source : List ℕ) (inner : (h : H) �
   sound (Grammar.hole h) soft ts x rest e = inner_sound h ts x rest e
   sound (Grammar.made f p) soft ts x rest e =
       elim (bound _ _ _ e) [
-        | step a at next ↦ made (λ y us. Made f (Means source Inner p) y ts us) (f a.0) a.1 x rest next (record { inner = a.0; is = refl; holds = sound p soft ts a.0 a.1 at })
+        | step a at next ↦ made (λ y us. Mapped f (Means source Inner p) y ts us) (f a.0) a.1 x rest next (record { inner = a.0; is = refl; holds = sound p soft ts a.0 a.1 at })
       ]
   sound (Grammar.both f p q) soft ts x rest e =
       elim (bound _ _ _ e) [

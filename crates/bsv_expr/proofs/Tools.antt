@@ -11,7 +11,7 @@ use Rattle.bsv_expr.specs.Lexemes.{is_in, same_terminal}
 use Rattle.bsv_expr.specs.Grammar.{Leaf}
 use Rattle.bsv_expr.specs.Reading.{◌>>=◌, Read, on_some, take_leaf, expect, span_told, refuse}
 
--- a step that did not fail, and what went on behind it
+-- a step that did not fail, and what went on after it
 pub data Step {A B : Type 0} (r : Result A ReadFault) (f : A → Result B ReadFault) (y : B) : Type 0 where
   step : (x : A) → r ≡ Ok x → f x ≡ Ok y → Step r f y
 
@@ -46,7 +46,7 @@ pub same_is : (a b : Terminal) → same_terminal a b ≡ true → a ≡ b
 unfolding same_terminal
 same_is a b e = same_true the_type tt a b e
 
--- a word that stands next
+-- a word that is next
 pub record Next (t : Terminal) (s : Span) (ts us : List Lexeme) : Type 0 where
   pub token : Lexeme
   pub is : ts ≡ token ∷ us

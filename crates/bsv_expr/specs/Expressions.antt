@@ -32,7 +32,7 @@ always s = true
 abbrev pub pair : {A B : Type 0} → A → B → A × B
 pair x y = (x, y)
 
--- a list with one more item behind it
+-- a list with one more item after it
 abbrev pub snoc : {A : Type 0} → List A → A → List A
 snoc xs x = xs ++ x ∷ []
 
@@ -110,7 +110,7 @@ module _ {H : Type 0} {T : H → Type 0} where
   abbrev pub the : Terminal → Grammar H T Span
   the t = Grammar.leaf (t ∷ []) span_told
 
-  -- this word, and what stands behind it
+  -- this word, and what comes after it
   abbrev pub behind : {A : Type 0} → Terminal → Grammar H T A → Grammar H T A
   behind t p = Grammar.both (λ s x. x) (the t) p
 
@@ -210,15 +210,15 @@ method = Grammar.both member_or_method (the word.Dot) (Grammar.both pair lower o
 unfoldable pub bracketed : Of Suffix
 bracketed = Grammar.between index_or_slice word.OpenBracket (Grammar.both pair expression (Grammar.maybe (word.Colon ∷ []) (behind word.Colon expression))) word.CloseBracket
 
--- what stands once behind a primary
+-- what is once after a primary
 unfoldable pub suffixed : Of Suffix
 suffixed = Grammar.choose (word.Dot ∷ []) method bracketed
 
--- what stands behind a primary
+-- what comes after a primary
 unfoldable pub suffixes : Of (List Suffix)
 suffixes = many (word.Dot ∷ word.OpenBracket ∷ []) suffixed
 
--- a primary, and what stands behind it
+-- a primary, and what comes after it
 unfoldable pub postfix : Of Expr
 postfix = Grammar.both postfix_of primary suffixes
 
@@ -226,7 +226,7 @@ postfix = Grammar.both postfix_of primary suffixes
 unfoldable pub operated : Of Expr
 operated = Grammar.both unary_of (Grammar.leaf (word.Not ∷ word.Tilde ∷ word.Minus ∷ []) unary_told) postfix
 
--- the words that go on behind the operands of these levels
+-- the words that go on after the operands of these levels
 unfoldable pub more_of : List Level → List Terminal
 more_of [] = word.Dot ∷ word.OpenBracket ∷ word.OpenParen ∷ word.OpenBrace ∷ []
 more_of (l ∷ ls) = words_of l ++ more_of ls
@@ -235,7 +235,7 @@ more_of (l ∷ ls) = words_of l ++ more_of ls
 abbrev pub tag : Of (Span × (Span × Bool))
 tag = Grammar.both pair (the word.Tagged) (Grammar.leaf (word.Upper ∷ []) tag_told)
 
--- what stands behind the tag: of `Valid` its payload, of `Invalid` nothing
+-- what comes after the tag: of `Valid` its payload, of `Invalid` nothing
 abbrev pub payload : Span × (Span × Bool) → Of Expr
 payload (s, (t, true)) = Grammar.made (λ x. node.Valid (to s (expr_span x)) x) postfix
 payload (s, (t, false)) = Grammar.nothing (node.Invalid (to s t))
@@ -248,7 +248,7 @@ tagged = Grammar.bind expression_first (more_of []) tag payload
 unfoldable pub operand : Of Expr
 operand = Grammar.choose (word.Tagged ∷ []) tagged (Grammar.choose (word.Not ∷ word.Tilde ∷ word.Minus ∷ []) operated postfix)
 
--- an operator of a level, and the operand behind it
+-- an operator of a level, and the operand after it
 unfoldable pub operation : Level → Of Expr → Of (Operator × Expr)
 operation l tighter = Grammar.both pair (Grammar.leaf (words_of l) operator_told) tighter
 
@@ -268,7 +268,7 @@ arm = behind word.Question (Grammar.both pair (chain levels) (behind word.Colon 
 unfoldable pub choice : Of Expr
 choice = Grammar.made choice_of (Grammar.fold (word.Question ∷ []) always with_arm (Grammar.made (λ x. ([], [], x)) (chain levels)) arm)
 
--- the words that go on behind an expression
+-- the words that go on after an expression
 unfoldable pub expression_more : List Terminal
 expression_more = word.Question ∷ more_of levels
 

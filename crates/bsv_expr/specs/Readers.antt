@@ -18,6 +18,6 @@ expr source (suc n) soft ts = read source (λ h. expr source n false) soft choic
 abbrev pub part : {A : Type 0} → List ℕ → ℕ → Bool → Of A → List Lexeme → Read A
 part source n soft p ts = read source (λ h. expr source n false) soft p ts
 
--- what stands behind the first operand of a level
+-- what comes after the first operand of a level
 abbrev pub operations : List ℕ → ℕ → Bool → Level → List Level → Expr → List Lexeme → Read Operands
 operations source n soft l ls x ts = turns soft (words_of l) always with_operand (part source n soft (operation l (chain ls))) (length ts) (operand_alone x) ts

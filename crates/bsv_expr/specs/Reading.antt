@@ -15,7 +15,7 @@ abbrev pub ◌>>=◌ : {A B : Type 0} → Result A ReadFault → (A → Result B
 (Ok x) >>= f = f x
 (Err e) >>= f = Err e
 
--- what was read, and the tokens behind it
+-- what was read, and the tokens after it
 abbrev pub Read : Type 0 → Type 0
 Read A = Result (A × List Lexeme) ReadFault
 

@@ -41,7 +41,7 @@ abbrev pub index_or_slice : Span → Expr × Option Expr → Span → Suffix
 index_or_slice o (x, None) c = suffix.Index (to o c) x
 index_or_slice o (x, Some y) c = suffix.Slice (to o c) x y
 
--- a primary alone, or with what stands behind it
+-- a primary alone, or with what comes after it
 abbrev pub postfix_of : Expr → List Suffix → Expr
 postfix_of x found = on_some (last found) x (λ s. node.Postfix (to (expr_span x) (suffix_span s)) x found)
 
@@ -59,7 +59,7 @@ with_operand found next = record { first = found.first; operators = found.operat
 abbrev pub chain_of : Level → Operands → Expr
 chain_of level found = on_some (last found.others) found.first (λ x. node.Chain (to (expr_span found.first) (expr_span x)) level found.operators (found.first ∷ found.others))
 
--- the conditions and the values so far, and what stands behind the last `:`
+-- the conditions and the values so far, and what comes after the last `:`
 abbrev pub Arms : Type 0
 Arms = List Expr × List Expr × Expr
 

@@ -75,7 +75,7 @@ pub fn place(source: &[u8], tokens: &[Token], left: usize) -> u32
 }
 
 /// The longest expression that begins at the token of this number, and the number of the token
-/// behind it.
+/// after it.
 ///
 /// `Syntax` comes exactly where the tokens from there on begin with no expression.
 pub fn expression(

@@ -18,7 +18,7 @@ pub fn refusal(lexemes: &[Lexeme]) -> ReadFault
     ReadFault::Syntax(lexemes.len())
 }
 
-/// This word, and the tokens behind it.
+/// This word, and the tokens after it.
 #[tactic(auto, unfolding(crate::specs::Reading::take_leaf))]
 pub fn expect(terminal: Terminal, lexemes: &[Lexeme]) -> Result<(Span, &[Lexeme]), ReadFault>
     ensures { (source : List ℕ) → Gives (λ x. (x.0, x.1.now)) result
@@ -30,7 +30,7 @@ pub fn expect(terminal: Terminal, lexemes: &[Lexeme]) -> Result<(Span, &[Lexeme]
     }
 }
 
-/// A name of this kind, and the tokens behind it.
+/// A name of this kind, and the tokens after it.
 #[tactic(auto, unfolding(crate::specs::Reading::take_leaf))]
 pub fn name<'a>(
     alloc: Global,
@@ -56,7 +56,7 @@ pub fn name<'a>(
     }
 }
 
-/// A number, and the tokens behind it.
+/// A number, and the tokens after it.
 #[tactic(auto, unfolding(crate::specs::Reading::take_leaf))]
 pub fn number<'a>(
     source: &[u8],
@@ -76,7 +76,7 @@ pub fn number<'a>(
     }
 }
 
-/// `Valid` or `Invalid`, where it stands and whether it is `Valid`, and the tokens behind it.
+/// `Valid` or `Invalid`, where it stands and whether it is `Valid`, and the tokens after it.
 #[tactic(auto, unfolding(crate::specs::Reading::take_leaf))]
 pub fn tag<'a>(
     source: &[u8],

@@ -87,7 +87,7 @@ fn unary_operator(terminal: Terminal) -> Option<UnaryOperator>
     }
 }
 
-/// An operator of the level, and the tokens behind it.
+/// An operator of the level, and the tokens after it.
 #[tactic(auto, unfolding(crate::specs::Reading::take_leaf))]
 pub fn operator(level: Level, lexemes: &[Lexeme]) -> Result<(Operator, &[Lexeme]), ReadFault>
     ensures { (source : List ℕ) → Gives (λ x. (x.0, x.1.now)) result
@@ -104,7 +104,7 @@ pub fn operator(level: Level, lexemes: &[Lexeme]) -> Result<(Operator, &[Lexeme]
     }
 }
 
-/// An operator in front of an operand, and the tokens behind it.
+/// An operator in front of an operand, and the tokens after it.
 #[tactic(auto, unfolding(crate::specs::Reading::take_leaf))]
 pub fn prefix(lexemes: &[Lexeme]) -> Result<((Span, UnaryOperator), &[Lexeme]), ReadFault>
     ensures { (source : List ℕ) → Gives (λ x. (x.0, x.1.now)) result

@@ -13,7 +13,7 @@ use bsv_ast::{Boxed, Expr, FieldValue, Ident, Items, Level, Operator, Span, Suff
 use bsv_lex::Terminal;
 use std::alloc::{AllocError, Global};
 
-/// The first operand of a level, the operators behind it, and the operand behind each.
+/// The first operand of a level, the operators after it, and the operand after each.
 #[derive(Drop)]
 pub struct Operands {
     pub first: Expr,
@@ -51,7 +51,7 @@ fn member_or_method(dot: Span, name: Ident, found: Option<(Items<Expr>, Span)>) 
     }
 }
 
-/// A primary alone, or with what stands behind it.
+/// A primary alone, or with what comes after it.
 fn postfix_of(alloc: Global, first: Expr, suffixes: Items<Suffix>) -> Result<Expr, AllocError>
     ensures { IfOk result (λ x. x ≡ trees.postfix_of first suffixes) }
 {
@@ -422,7 +422,7 @@ fn bracketed<'a>(
     Ok((Suffix::Slice(to(open, close), first, second), rest))
 }
 
-/// What stands behind a primary, once.
+/// What comes after a primary, once.
 #[cycle(expr)]
 #[tactic(auto, unfolding(crate::specs::Expressions::suffixed, crate::specs::Reading::read))]
 fn suffixed<'a>(
@@ -441,7 +441,7 @@ fn suffixed<'a>(
     bracketed(alloc, source, lexemes, depth)
 }
 
-/// What stands behind a primary.
+/// What comes after a primary.
 #[cycle(expr)]
 #[tactic(auto, using(crate::proofs::Turns::turns_of), unfolding(crate::specs::Expressions::suffixes, crate::specs::Reading::read))]
 fn suffixes<'a>(
@@ -472,7 +472,7 @@ fn suffixes<'a>(
     Ok((found, rest))
 }
 
-/// A primary, and what stands behind it.
+/// A primary, and what comes after it.
 #[cycle(expr)]
 #[tactic(auto, unfolding(crate::specs::Expressions::postfix, crate::specs::Reading::read))]
 fn postfix<'a>(
@@ -490,7 +490,7 @@ fn postfix<'a>(
     Ok((postfix_of(alloc, first, found)?, rest))
 }
 
-/// An operator and the operand behind it.
+/// An operator and the operand after it.
 #[cycle(expr)]
 #[tactic(auto, unfolding(crate::specs::Expressions::operated, crate::specs::Reading::read))]
 fn operated<'a>(
@@ -557,7 +557,7 @@ fn operand<'a>(
     postfix(alloc, source, lexemes, depth, soft)
 }
 
-/// An operator of the level, and the operand of the tighter levels behind it.
+/// An operator of the level, and the operand of the tighter levels after it.
 #[cycle(expr)]
 #[tactic(auto, unfolding(crate::specs::Expressions::operation, crate::specs::Reading::read))]
 fn operation<'a>(
@@ -578,7 +578,7 @@ fn operation<'a>(
     Ok(((operator, operand), rest))
 }
 
-/// The operands of a level that stand behind its first one.
+/// The operands of a level that come after its first one.
 #[cycle(expr)]
 #[tactic(auto, using(crate::proofs::Turns::turns_of), unfolding(crate::specs::Reading::read))]
 fn operations<'a>(
@@ -681,7 +681,7 @@ fn arm<'a>(
     Ok(((value, next), rest))
 }
 
-/// A choice, and what stands in the brackets of its operands.
+/// A choice, and what is in the brackets of its operands.
 #[cycle(expr)]
 #[tactic(auto, using(crate::proofs::Turns::turns_of), unfolding(crate::specs::Expressions::choice, crate::specs::Expressions::levels, crate::specs::Reading::read))]
 fn choice<'a>(

@@ -1,6 +1,6 @@
 -- The rules that a queue's table keeps, each by a test of every pair of methods that is computed
 -- over the whole table, and a lemma that turns the test into the rule at each pair.
--- Proof alone, with the words of the proof: it stands in specs/ since the `laws` of an impl may cite
+-- Proof alone, with the words of the proof: it is in specs/ since the `laws` of an impl may cite
 -- nothing of proofs/.
 use Rattle.std.proofs.Common.{◌≡◌, ◌<◌, ◌≤◌, Bool, true, false, refl, sym, ◌∙◌, arith}
 use Rattle.std.specs.Prelude.{◌&&◌, not, nat_eq, nat_lt, nat_le, if◌then◌else◌}
@@ -111,7 +111,7 @@ abbrev pub is_rising : QueueRow → Method → Method → Bool
 is_rising row m n =
     implies (changes m) (implies (changes n) (implies (same_rel (row.relation m n) Sb) (nat_lt (row.rank m) (row.rank n))))
 
--- two calls that may stand in one element may precede each other as their ranks stand
+-- two calls that may be in one element may precede each other as their ranks stand
 abbrev pub is_by_rank : QueueRow → Method → Method → Bool
 is_by_rank row m n =
     implies (in_one_element (row.relation m n)) (implies (not (row.sees m n)) (implies (not (row.sees n m)) (implies (nat_le (row.rank m) (row.rank n)) (goes_before (row.relation m n)))))

@@ -1,5 +1,5 @@
 -- The registers of a queue with at most one item.
--- Proof alone: it stands in specs/ since the `laws` of an impl may cite nothing of proofs/.
+-- Proof alone: it is in specs/ since the `laws` of an impl may cite nothing of proofs/.
 use Rattle.std.proofs.Common.{◌≡◌, ℕ, zero, suc, ◌<◌, Bool, true, false, List, [], ◌∷◌, refl, arith, Some}
 use Rattle.std.specs.Prelude.{if◌then◌else◌}
 use Rattle.bsv_bits.specs.Words.{Bits, bit}

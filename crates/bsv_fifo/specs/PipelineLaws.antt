@@ -1,5 +1,5 @@
 -- A pipeline queue keeps the laws.
--- Proof alone: it stands in specs/ since the `laws` of an impl may cite nothing of proofs/.
+-- Proof alone: it is in specs/ since the `laws` of an impl may cite nothing of proofs/.
 use Rattle.std.proofs.Common.{◌≡◌, ℕ, zero, suc, ◌<◌, ◌≤◌, true, false, List, [], ◌∷◌, length, refl, ap, ◌∙◌, arith, Option, Some, None}
 use Rattle.std.specs.Prelude.{◌⊎◌, nat_lt}
 use Rattle.std.proofs.lemmas.Bool.{ltb-true}

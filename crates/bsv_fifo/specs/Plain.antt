@@ -79,12 +79,12 @@ abbrev pub filled : ℕ → ℕ → ℕ → Shape
 filled depth n register =
     Chosen (Both And (IsCalled 0) (Both Same count (number depth n))) (ArgumentOf 0 0) (Given register)
 
--- the register of the place behind this one, or that of the last place itself
+-- the register of the place after this one, or that of the last place itself
 abbrev pub behind : ℕ → ℕ → ℕ
 behind depth place = if nat_lt (place + 1) depth then place + 2 else place + 1
 
--- what stands at a place after the calls: where the front goes, each place takes what would have
--- come to the place behind it
+-- what is at a place after the calls: where the front goes, each place takes what would have
+-- come to the place after it
 abbrev pub next_item : ℕ → ℕ → Shape
 next_item depth place =
     Chosen (IsCalled 1) (filled depth (place + 1) (behind depth place)) (filled depth place (place + 1))

@@ -1,5 +1,5 @@
 -- A plain queue keeps the laws.
--- Proof alone: it stands in specs/ since the `laws` of an impl may cite nothing of proofs/.
+-- Proof alone: it is in specs/ since the `laws` of an impl may cite nothing of proofs/.
 use Rattle.std.proofs.Common.{◌≡◌, ◌≢◌, ℕ, zero, suc, ◌+◌, ◌-◌, ◌*◌, ◌%◌, ◌^◌, ◌<◌, ◌≤◌, Bool, true, false, List, [], ◌∷◌, ◌++◌, length, drop, refl, ap, sym, ◌∙◌, arith, Option, Some, None, length-append, add-one}
 use Rattle.std.specs.Prelude.{◌⊎◌, MatchOption, nat_eq, nat_lt, bit_and, if◌then◌else◌}
 use Rattle.std.proofs.lemmas.Bool.{ltb-true, lt-ltb, eqb-true, eqb-false}
@@ -43,9 +43,9 @@ longer : (xs : List Bits) (i : ℕ) → i < length (drop 1 xs) → i + 1 < lengt
 longer [] i l = absurd (omega arith)
 longer (x ∷ xs) i l = omega arith
 
-behind_front : (xs : List Bits) (i : ℕ) → word_at xs (i + 1) ≡ word_at (drop 1 xs) i
-behind_front [] i = refl
-behind_front (x ∷ xs) i = rw add-one refl
+after_front : (xs : List Bits) (i : ℕ) → word_at xs (i + 1) ≡ word_at (drop 1 xs) i
+after_front [] i = refl
+after_front (x ∷ xs) i = rw add-one refl
 
 -- ---- guards and results
 
@@ -122,7 +122,7 @@ module _ (depth : ℕ) (most : depth ≤ 64) (xs : List Bits) (v : Signals) (s :
   items e (Some brgs) None te td tc i l =
       rw td.0
       (placed e (i + 1) (behind depth i) te (longer (with_item e xs) i l) (λ h. moved i h)
-      ∙ behind_front (with_item e xs) i)
+      ∙ after_front (with_item e xs) i)
 
 nexts : (width depth : ℕ) → depth ≤ 64 → (xs : List Bits) (e d c : Option (List Bits)) (v : Signals) → Shown (plain_row width depth) xs e d v → IsTold v 5 0 c → WereReady (plain_row width depth) xs e d
     → ShowsItems depth (closed xs e d c) (λ r. word_of v (plain_next_piece depth r))
@@ -133,8 +133,8 @@ nexts width depth most xs e d c v s tc r = record {
 
 -- ---- widths
 
-behind_below : (depth place : ℕ) → place < depth → (0 < behind depth place) × (behind depth place < depth + 1)
-behind_below depth place h = cases (nat_lt (place + 1) depth) refl
+after_below : (depth place : ℕ) → place < depth → (0 < behind depth place) × (behind depth place < depth + 1)
+after_below depth place h = cases (nat_lt (place + 1) depth) refl
   where
     cases : (b : Bool) → nat_lt (place + 1) depth ≡ b → (0 < (if b then place + 2 else place + 1)) × ((if b then place + 2 else place + 1) < depth + 1)
     cases true e = let l : place + 1 < depth = ltb-true (place + 1) depth e in (omega arith, omega arith)
@@ -186,7 +186,7 @@ module _ (width depth : ℕ) (some : 1 ≤ depth) (most : depth ≤ 64) where
   next_has : (r : ℕ) → r < depth + 1 → HasWidth t (plain_next_piece depth r) (queue_register_width width depth r)
   next_has zero h = next_count_has
   next_has (suc i) h =
-      let b = behind_below depth i (omega arith) in
+      let b = after_below depth i (omega arith) in
       ((omega arith, refl), filled_has (i + 1) (behind depth i) (omega arith) b.0 b.1, filled_has i (i + 1) (omega arith) (omega arith) (omega arith))
 
 -- ---- what the pieces speak of

@@ -1,5 +1,5 @@
 -- What a call of a queue does to another one: the two laws on calls, from tests of the table.
--- Proof alone, with the words of the proof: it stands in specs/ since the `laws` of an impl may cite
+-- Proof alone, with the words of the proof: it is in specs/ since the `laws` of an impl may cite
 -- nothing of proofs/.
 use Rattle.std.proofs.Common.{◌≡◌, ℕ, Bool, true, false, List, [], ◌∷◌, ◌++◌, length, drop, refl, ap, sym, ◌∙◌, arith, length-append, inl, inr}
 use Rattle.std.specs.Prelude.{◌⊎◌, ◌&&◌, ◌||◌, not, nat_lt}
@@ -129,7 +129,7 @@ swap depth m n xs args brgs e g h =
       ]
     ]
 
--- what stands before a method changes nothing that it asks or answers
+-- what comes before a method changes nothing that it asks or answers
 record Keeps (width depth : ℕ) (n : Method) (xs ys : List Bits) : Type 0 where
   ready : queue_guard depth n xs ≡ true → queue_guard depth n ys ≡ true
   same : changes n ≡ false → queue_guard depth n xs ≡ true → queue_result width depth n ys ≡ queue_result width depth n xs

@@ -1,5 +1,5 @@
 -- What a queue's row needs, that its table keeps the laws.
--- Proof alone, with the words of the proof: it stands in specs/ since the `laws` of an impl may cite
+-- Proof alone, with the words of the proof: it is in specs/ since the `laws` of an impl may cite
 -- nothing of proofs/.
 use Rattle.std.proofs.Common.{◌≡◌, ℕ, zero, suc, ◌+◌, ◌<◌, ◌≤◌, true, false, List, [], ◌∷◌, length, replicate, refl, ap, sym, ◌∙◌, arith, Option, None}
 use Rattle.std.specs.Prelude.{◌⊎◌, MatchOption, not, nat_lt}

@@ -1,5 +1,5 @@
 -- What calls do to the items of a queue.
--- Proof alone, with the words of the proof: it stands in specs/ since the `laws` of an impl may cite
+-- Proof alone, with the words of the proof: it is in specs/ since the `laws` of an impl may cite
 -- nothing of proofs/.
 use Rattle.std.proofs.Common.{◌≡◌, ℕ, zero, suc, ◌<◌, ◌≤◌, Bool, true, false, List, [], ◌∷◌, ◌++◌, length, drop, refl, ap, sym, arith, Option, Some, None}
 use Rattle.std.specs.Prelude.{nat_eq, nat_lt, if◌then◌else◌}
@@ -75,7 +75,7 @@ length_drop (x ∷ xs) = omega arith
 
 -- ---- the closed form: what a clock's calls come to
 
--- an item comes behind the others
+-- an item comes after the others
 abbrev pub with_item : Option (List Bits) → List Bits → List Bits
 with_item None xs = xs
 with_item (Some args) xs = xs ++ word_at args 0 ∷ []
@@ -90,7 +90,7 @@ abbrev pub after_clear : Option (List Bits) → List Bits → List Bits
 after_clear None xs = xs
 after_clear (Some args) xs = []
 
--- the items after at most one `enq`, at most one `deq`, and a `clear` behind both
+-- the items after at most one `enq`, at most one `deq`, and a `clear` after both
 abbrev pub closed : List Bits → Option (List Bits) → Option (List Bits) → Option (List Bits) → List Bits
 closed xs e d c = after_clear c (without_front d (with_item e xs))
 

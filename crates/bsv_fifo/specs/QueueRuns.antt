@@ -1,5 +1,5 @@
 -- What holds of an orderly list of calls on any queue.
--- Proof alone, with the words of the proof: it stands in specs/ since the `laws` of an impl may cite
+-- Proof alone, with the words of the proof: it is in specs/ since the `laws` of an impl may cite
 -- nothing of proofs/.
 use Rattle.std.proofs.Common.{◌≡◌, ℕ, zero, suc, ◌<◌, ◌≤◌, Bool, true, false, List, [], ◌∷◌, ◌++◌, length, refl, ap, sym, ◌∙◌, arith, Option, Some, None, length-append}
 use Rattle.std.specs.Prelude.{MatchOption, cond, nat_eq, if◌then◌else◌}
@@ -18,7 +18,7 @@ use Rattle.bsv_fifo.specs.Queues.{queue_method, queue_guard, changed, items_of, 
 use Rattle.bsv_fifo.specs.QueueTable.{QueueRow, queue_table}
 use Rattle.bsv_fifo.specs.QueueLists.{items_after, items-apply, latest_none, latest_some, drop_with, words_append, words_drop, length_drop, with_item, without_front, after_clear, closed, cleared_latest}
 
--- at most one `enq` and one `deq`, and nothing comes behind a `clear`
+-- at most one `enq` and one `deq`, and nothing comes after a `clear`
 pub record IsOnce (row : QueueRow) : Type 0 where
   pub enq : goes_before (row.relation Enq Enq) ≡ false
   pub deq : goes_before (row.relation Deq Deq) ≡ false

@@ -113,7 +113,7 @@ abbrev pub count_width : ℕ → ℕ
 count_width depth = least_width 6 1 depth
 
 -- the first register is the number of items, and the next ones are the items from the front; those
--- behind the last item are free
+-- after the last item are free
 pub record ShowsItems (depth : ℕ) (items : List Bits) (registers : ℕ → Bits) : Type 0 where
   pub count : registers 0 ≡ record { width = count_width depth; value = length items }
   pub item : (i : ℕ) → i < length items → registers (suc i) ≡ word_at items i

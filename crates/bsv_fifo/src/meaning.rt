@@ -89,7 +89,7 @@ pub(crate) fn change(method: Method, queue: &mut Queue, args: &[Word])
     }
 }
 
-/// The register that counts the items, and behind it one for each place.
+/// The register that counts the items, and after it one for each place.
 pub(crate) fn register_of(width: u32, depth: u32, number: u32) -> RegisterInfo
     requires some_width { 1 ≤ width }
     requires most_width { width ≤ 128 }

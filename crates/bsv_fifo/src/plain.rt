@@ -66,8 +66,8 @@ fn filled_piece(alloc: Global, depth: u32, place: u32, register: u32) -> Result<
     )
 }
 
-/// The register of the place behind this one, or that of the last place itself.
-fn register_behind(depth: u32, place: u32) -> u32
+/// The register of the place after this one, or that of the last place itself.
+fn register_after(depth: u32, place: u32) -> u32
     requires most { depth ≤ 64 }
     requires within { place < depth }
     ensures { result ≡ behind depth place }
@@ -79,13 +79,13 @@ fn register_behind(depth: u32, place: u32) -> u32
     }
 }
 
-/// What stands at a place after the calls.
+/// What is at a place after the calls.
 fn place_piece(alloc: Global, depth: u32, place: u32) -> Result<Piece, OutOfMemory>
     requires most { depth ≤ 64 }
     requires within { place < depth }
     ensures { IfOk result (λ piece. shape_of piece ≡ next_item depth place) }
 {
-    let moved = filled_piece(alloc, depth, place + 1, register_behind(depth, place))?;
+    let moved = filled_piece(alloc, depth, place + 1, register_after(depth, place))?;
     let stayed = filled_piece(alloc, depth, place, place + 1)?;
     Piece::pick(alloc, Piece::called(1), moved, stayed)
 }

@@ -1,10 +1,10 @@
 -- The net of a design up to its firing tells of all its elements.
 use Rattle.std.proofs.Common.{List, length}
-use Rattle.bsv_design.specs.Schemes.{kinds_of}
+use Rattle.bsv_design.specs.scheme.Schemes.{kinds_of}
 use Rattle.bsv_net.specs.declared.node.NetNode.{NetNode}
 use Rattle.bsv_net.proofs.Grows.{Grows}
 use Rattle.bsv_fire.specs.Grounds.{Ground}
-use Rattle.bsv_fire.specs.Growing.{grown, none_placed}
+use Rattle.bsv_fire.specs.FireBuilder.{grown, none_placed}
 use Rattle.bsv_ports.proofs.Scene.{Scene}
 use Rattle.bsv_fire.proofs.Frame.{IsGround, Tells}
 use Rattle.bsv_fire.proofs.Grown.{PiecesTold, all_told}

@@ -51,10 +51,10 @@ module _ (inputs registers : List Bits) (V : Values) (full : List NetNode) (widt
       let o = both ns a b in
       all_from_false bs o.nodes o.place (both_false ns a b (grows_trans (all_from_grows o.nodes o.place bs) g) e) g
 
-  all_behind : (ts : List ℕ) (hs : List Bool) (ns : List NetNode) (a : ℕ) (p : Bool) → V a ≡ bit p → (p ≡ true → map V ts ≡ map bit hs) → Grows (all_from ns a ts).nodes full
+  all_after : (ts : List ℕ) (hs : List Bool) (ns : List NetNode) (a : ℕ) (p : Bool) → V a ≡ bit p → (p ≡ true → map V ts ≡ map bit hs) → Grows (all_from ns a ts).nodes full
       → V (all_from ns a ts).place ≡ bit (p && all_true hs)
-  all_behind ts hs ns a true e f g = all_from_means ts hs ns a true e (f refl) g
-  all_behind ts hs ns a false e f g = all_from_false ts ns a e g
+  all_after ts hs ns a true e f g = all_from_means ts hs ns a true e (f refl) g
+  all_after ts hs ns a false e f g = all_from_false ts ns a e g
 
   all_from_both : (gs : List ℕ) (ps : List Bool) (ts : List ℕ) (hs : List Bool) (ns : List NetNode) (a : ℕ) (p : Bool) → V a ≡ bit p → map V gs ≡ map bit ps
       → ((p && all_true ps) ≡ true → map V ts ≡ map bit hs) → Grows (all_from ns a (gs ++ ts)).nodes full

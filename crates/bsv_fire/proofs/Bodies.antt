@@ -14,12 +14,12 @@ use Rattle.bsv_design.specs.declared.element.Port.{Port}
 use Rattle.bsv_design.specs.declared.kind.Kind.{Kind}
 use Rattle.bsv_design.specs.declared.node.Node.{Node}
 use Rattle.bsv_design.specs.declared.node.Node.TheVariants as node
-use Rattle.bsv_design.specs.Bodies.{Answers, answer, at, node_word, target, values, words, words_behind}
-use Rattle.bsv_design.specs.Computing as computing
-use Rattle.bsv_design.specs.Kinds.{kind_table}
-use Rattle.bsv_design.specs.Schemes.{design_scheme, given, kinds_of, calls_of}
-use Rattle.bsv_design.specs.Traces.{kind_at}
-use Rattle.bsv_design.specs.Widths.{args_fit, gives_word, has_width, method_fits, node_width, result_width, widths_from}
+use Rattle.bsv_design.specs.design.Bodies.{Answers, answer, at, node_word, target, values, words, words_after}
+use Rattle.bsv_design.specs.carrying.Computing as computing
+use Rattle.bsv_design.specs.tree.Kinds.{kind_table}
+use Rattle.bsv_design.specs.scheme.Schemes.{design_scheme, given, kinds_of, calls_of}
+use Rattle.bsv_design.specs.scheme.Traces.{kind_at}
+use Rattle.bsv_design.specs.design.Widths.{args_fit, gives_word, has_width, method_fits, node_width, result_width, widths_from}
 use Rattle.bsv_guard.specs.ElementLaws.{IsUse}
 use Rattle.bsv_guard.proofs.Nodes.{arguments_before, chained, where_width}
 use Rattle.bsv_net.specs.declared.node.NetNode.{NetNode}
@@ -123,7 +123,7 @@ module _ (inputs registers : List Bits) (V : Values) (full : List NetNode) (widt
 
     pub nodes_mean : (xs : List Node) (us ends places : List ℕ) (ns : List NetNode) → length places ≡ length us → widths_from arguments ks cs us xs ≡ Some ends → Grows (body g ports start cs places ns xs).nodes full
         → map V (body g ports start cs places ns xs).places ≡ values r ws cs (map V places) xs
-    unfolding body words_behind widths_from
+    unfolding body words_after widths_from
     nodes_mean [] us ends places ns long e grows = refl
     nodes_mean (x ∷ xs) us ends places ns long e grows =
         let c = chained (node_width arguments ks cs us x) (λ w. widths_from arguments ks cs (us ++ w ∷ []) xs) ends e in

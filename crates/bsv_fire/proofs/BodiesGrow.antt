@@ -1,4 +1,4 @@
--- What is placed for an element stands behind the nodes that were there.
+-- What is placed for an element comes after the nodes that were there.
 use Rattle.std.proofs.Common.{ℕ, Bool, true, false, cond, ◌&&◌, not, List, [], ◌∷◌, ◌++◌, map, Option, Some, None}
 use Rattle.std.specs.Prelude.{slice_get, nat_lt}
 use Rattle.bsv_bits.specs.declared.operator.Operator.TheVariants.{And}
@@ -7,7 +7,7 @@ use Rattle.bsv_design.specs.declared.kind.Kind.{Kind}
 use Rattle.bsv_design.specs.declared.node.Node.{Node}
 use Rattle.bsv_design.specs.declared.node.Node.TheVariants as node
 use Rattle.bsv_design.specs.declared.schedule.Need.{Need}
-use Rattle.bsv_design.specs.Kinds.{kind_table}
+use Rattle.bsv_design.specs.tree.Kinds.{kind_table}
 use Rattle.bsv_net.specs.declared.node.NetNode.{NetNode}
 use Rattle.bsv_net.specs.declared.node.NetNode.TheVariants as net
 use Rattle.bsv_net.specs.Placing.{Placed, both, node_at, piece}

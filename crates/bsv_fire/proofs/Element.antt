@@ -1,4 +1,4 @@
--- An element that stands in the net, too: the net tells of it what it told of the others.
+-- An element that is in the net, too: the net tells of it what it told of the others.
 use Rattle.std.proofs.Common.{◌≡◌, ◌≢◌, ◌∙◌, ◌<◌, ◌≤◌, ◌&&◌, ◌||◌, ◌⊎◌, inl, inr, ℕ, Bool, true, false, not, List, [], ◌∷◌, ◌++◌, Option, Some, None, is_some, refl, sym, ap, ap₂, subst, arith, length, map}
 use Rattle.std.specs.Prelude.{slice_get, option_map}
 use Rattle.std.specs.List.{list_any}
@@ -10,11 +10,11 @@ use Rattle.bsv_lemmas.proofs.Places.{mapped_at, set_elsewhere, set_there}
 use Rattle.bsv_lemmas.proofs.Truths.{or_false}
 use Rattle.bsv_bits.specs.Words.{Bits, bit}
 use Rattle.bsv_design.specs.declared.element.Element.{Element}
-use Rattle.bsv_design.specs.Bodies.{Answers, Target, at, target, words}
-use Rattle.bsv_design.specs.Roles.{gives_value}
-use Rattle.bsv_design.specs.Schemes.{calls_of, design_scheme, given, kinds_of, outline, ready, seen, value}
-use Rattle.bsv_design.specs.Traces.{Site, kind_at}
-use Rattle.bsv_design.specs.Widths.{has_width, method_fits, result_fits}
+use Rattle.bsv_design.specs.design.Bodies.{Answers, Target, at, target, words}
+use Rattle.bsv_design.specs.tree.Roles.{gives_value}
+use Rattle.bsv_design.specs.scheme.Schemes.{calls_of, design_scheme, given, kinds_of, outline, ready, seen, value}
+use Rattle.bsv_design.specs.scheme.Traces.{Site, kind_at}
+use Rattle.bsv_design.specs.design.Widths.{has_width, method_fits, result_fits}
 use Rattle.bsv_graph.specs.Orders.{In}
 use Rattle.bsv_graph.proofs.LeastLemmas.{in_left, in_parts, in_right}
 use Rattle.bsv_guard.proofs.Lists.{item_of}
@@ -28,7 +28,7 @@ use Rattle.bsv_ports.specs.CallSites.{or_none}
 use Rattle.bsv_fire.specs.Bodies.{site, sites}
 use Rattle.bsv_ports.specs.Ports.{arity_of, PlacedAll}
 use Rattle.bsv_fire.specs.Grounds.{Ground}
-use Rattle.bsv_fire.specs.Growing.{Stopping, Growing, all_stopped, at_nodes, element_body, element_fire, element_ready, or_nobody, placed}
+use Rattle.bsv_fire.specs.FireBuilder.{Stopping, FireBuilder, all_stopped, at_nodes, element_body, element_fire, element_ready, flattened, placed}
 use Rattle.bsv_fire.proofs.Stopping.{TellsStop, all_stopped_long, all_stopped_told}
 use Rattle.bsv_fire.proofs.Bodies.{body_told}
 use Rattle.bsv_fire.proofs.FireTold.{fire_told, fires_where, once, stands_below}
@@ -41,19 +41,19 @@ use Rattle.bsv_fire.proofs.Traces.{arguments_stand, call_is_fit, calls_told, fit
 use Rattle.bsv_fire.proofs.Wiring.{IsWired}
 use Rattle.bsv_graph.proofs.Fronts.{not_yet}
 
-module _ (z : Scene) (g : Ground) (ground : IsGround z g) (stand rest : List ℕ) (n : ℕ) (split : z.made.urgency ≡ stand ++ n ∷ rest) (e : Element) (is : slice_get z.b.elements n ≡ Some e) (x : Growing) (tells : Tells z x stand) (r : Answers) (wiring : IsWired z g.base x.ports n r) (grows : Grows (placed g x n e).nodes z.full) where
+module _ (z : Scene) (g : Ground) (ground : IsGround z g) (stand rest : List ℕ) (n : ℕ) (split : z.made.urgency ≡ stand ++ n ∷ rest) (e : Element) (is : slice_get z.b.elements n ≡ Some e) (x : FireBuilder) (tells : Tells z x stand) (r : Answers) (wiring : IsWired z g.base x.ports n r) (grows : Grows (placed g x n e).nodes z.full) where
   -- ---- what is placed
 
   abbrev bodied : PlacedAll
   bodied = element_body g x n e
 
-  abbrev with_body : Growing
+  abbrev with_body : FireBuilder
   with_body = at_nodes x bodied.nodes
 
   abbrev readied : Placed
   readied = element_ready g with_body n e bodied.places
 
-  abbrev with_readied : Growing
+  abbrev with_readied : FireBuilder
   with_readied = at_nodes with_body readied.nodes
 
   abbrev fired : Placed
@@ -84,7 +84,7 @@ module _ (z : Scene) (g : Ground) (ground : IsGround z g) (stand rest : List ℕ
 
   fired_told : z.V fired.place ≡ bit (is_some (does z n))
   fired_told =
-      fire_told z stand rest n split g ground e is readied.nodes (or_nobody (slice_get x.stoppers n)) readied.place readied_told (tells.free n) (tells.stopped_is n) fired_grows
+      fire_told z stand rest n split g ground e is readied.nodes (flattened (slice_get x.stoppers n)) readied.place readied_told (tells.free n) (tells.stopped_is n) fired_grows
 
   -- where it is ready, its nodes have the words of its flat body under the look of the clock
   places_own : ready false (S z) z.q n (looks z) ≡ true → map z.V bodied.places ≡ own_words z n e is
@@ -162,7 +162,7 @@ module _ (z : Scene) (g : Ground) (ground : IsGround z g) (stand rest : List ℕ
   there_sites : n < length x.sites
   there_sites = let l = below in omega (arith, l, tells.long_sites)
 
-  abbrev more : Growing
+  abbrev more : FireBuilder
   more = placed g x n e
 
   elements : (m : ℕ) → In (stand ++ n ∷ []) m → TellsElement z more m
@@ -290,10 +290,10 @@ module _ (z : Scene) (g : Ground) (ground : IsGround z g) (stand rest : List ℕ
       both_false true b e = absurd (let f : ⊥ = cc in f)
       both_false false b e = (refl, e)
 
-  stop_told : (m : ℕ) → m < length z.b.elements → TellsStop z.V (or_nobody (slice_get stopping.stoppers m)) (any_stops (stand ++ n ∷ []) m) (any_stopped (stand ++ n ∷ []) m)
+  stop_told : (m : ℕ) → m < length z.b.elements → TellsStop z.V (flattened (slice_get stopping.stoppers m)) (any_stops (stand ++ n ∷ []) m) (any_stopped (stand ++ n ∷ []) m)
   stop_told m l =
-      let o = or_nobody (slice_get stopping.stoppers m) in
-      let before : TellsStop z.V (or_nobody (slice_get x.stoppers m)) (any_stops stand m) (any_stopped stand m) =
+      let o = flattened (slice_get stopping.stoppers m) in
+      let before : TellsStop z.V (flattened (slice_get x.stoppers m)) (any_stops stand m) (any_stopped stand m) =
       record { free = tells.free m; quiet = λ h. none_any_fires stand m (tells.free m h); stopped_is = tells.stopped_is m } in
       let now = all_stopped_told z.inputs z.registers z.V z.full z.widths z.solved fired.place (is_some (does z n)) fired_told stops fired.nodes x.stoppers m (any_stops stand m) (any_stopped stand m)
       (subst (λ (k : ℕ). m < k) (sym tells.long_stoppers) l) before grows in
@@ -301,14 +301,14 @@ module _ (z : Scene) (g : Ground) (ground : IsGround z g) (stand rest : List ℕ
       (subst (λ (b : Bool). TellsStop z.V o (any_stops stand m || is_in stops m) b)
       (ap (λ (b : Bool). any_stopped stand m || (fires (does z) n && b)) (same_stops m) ∙ any_one_more (λ f. fires (does z) f && stops_in z.made f m)) now)
 
-  free : (m : ℕ) → or_nobody (slice_get stopping.stoppers m) ≡ None → any_stops (stand ++ n ∷ []) m ≡ false
+  free : (m : ℕ) → flattened (slice_get stopping.stoppers m) ≡ None → any_stops (stand ++ n ∷ []) m ≡ false
   free m h = elim (cases_lt m (length z.b.elements)) [ inl l ↦ (stop_told m l).free h | inr l ↦ none_any (stand ++ n ∷ []) m l ]
 
-  still_stopped : (m k : ℕ) → or_nobody (slice_get stopping.stoppers m) ≡ Some k → z.V k ≡ bit (any_stopped (stand ++ n ∷ []) m)
+  still_stopped : (m k : ℕ) → flattened (slice_get stopping.stoppers m) ≡ Some k → z.V k ≡ bit (any_stopped (stand ++ n ∷ []) m)
   still_stopped m k h = elim (cases_lt m (length z.b.elements)) [
     | inl l ↦ (stop_told m l).stopped_is k h
     | inr l ↦ (let past = slice_get_past stopping.stoppers m (let a = all_stopped_long fired.place fired.nodes x.stoppers stops in omega (arith, a, l, tells.long_stoppers)) in
-        let none : None ≡ Some k = ap or_nobody (sym past) ∙ h in absurd (let f : ⊥ = cc in f))
+        let none : None ≡ Some k = ap flattened (sym past) ∙ h in absurd (let f : ⊥ = cc in f))
   ]
 
   pub element_told : Tells z (placed g x n e) (stand ++ n ∷ [])

@@ -5,9 +5,9 @@ use Rattle.std.specs.List.{list_any}
 use Rattle.std.proofs.lemmas.Option.{slice_get-map}
 use Rattle.bsv_bits.specs.Words.{bit}
 use Rattle.bsv_design.specs.declared.element.Element.{Element}
-use Rattle.bsv_design.specs.Roles.{is_rule}
-use Rattle.bsv_design.specs.Schemes.{Called, design_scheme, outline, ready, calls}
-use Rattle.bsv_design.specs.Serial.{by_rank}
+use Rattle.bsv_design.specs.tree.Roles.{is_rule}
+use Rattle.bsv_design.specs.scheme.Schemes.{Called, design_scheme, outline, ready, calls}
+use Rattle.bsv_design.specs.scheme.Serial.{by_rank}
 use Rattle.bsv_graph.specs.Orders.{In, IsOnce, place_of}
 use Rattle.bsv_graph.proofs.LeastLemmas.{in_right, once_apart}
 use Rattle.bsv_clock.specs.Clocks.{is_asked, may_fire, may_fire_as}
@@ -21,7 +21,7 @@ use Rattle.bsv_net.proofs.Grows.{Grows, grows_refl, grows_trans, grows_add}
 use Rattle.bsv_net.specs.declared.node.NetNode.TheVariants as net
 use Rattle.bsv_bits.specs.declared.operator.Operator.TheVariants.{And}
 use Rattle.bsv_fire.specs.Grounds.{Ground}
-use Rattle.bsv_fire.specs.Growing.{asked_and, unless}
+use Rattle.bsv_fire.specs.FireBuilder.{asked_and, unless}
 use Rattle.bsv_ports.proofs.Scene.{Scene, S, does, looks}
 use Rattle.bsv_fire.proofs.Frame.{IsGround}
 use Rattle.bsv_fire.proofs.Front.{any_in_front}
@@ -56,7 +56,7 @@ fires_where z n =
     ap is_some (settled z n)
     ∙ is_some_where (may_fire (S z) z.q n && ready false (S z) z.q n (looks z) && not (is_stopped z.made (does z) n)) (by_rank (S z).kinds (calls (S z) z.q n (looks z)))
 
--- the elements that stand before it by urgency alone stop an element
+-- the elements that come before it by urgency alone stop an element
 module _ (z : Scene) (placed rest : List ℕ) (n : ℕ) (split : z.made.urgency ≡ placed ++ n ∷ rest) where
   pub once : IsOnce (placed ++ n ∷ rest)
   once = subst IsOnce split (urgency_order (S z) z.made z.scheduled).once

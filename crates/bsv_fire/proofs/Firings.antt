@@ -11,12 +11,12 @@ use Rattle.bsv_prim.specs.declared.part.Part.{Part}
 use Rattle.bsv_design.specs.declared.element.Element.{Element}
 use Rattle.bsv_design.specs.declared.schedule.Need.{Need}
 use Rattle.bsv_design.specs.declared.schedule.Schedule.{Schedule}
-use Rattle.bsv_design.specs.Bodies.{Target, at}
-use Rattle.bsv_design.specs.Designs.{Blueprint, IsDesign}
-use Rattle.bsv_design.specs.Guards.{needs_of}
-use Rattle.bsv_design.specs.Schemes.{Scheme, Outline, Asking, Look, design_scheme, kinds_of, outline, ports_of, trace_of, answers, given, ready, seen, value}
-use Rattle.bsv_design.specs.States.{AreWordsOf}
-use Rattle.bsv_design.specs.Traces.{Site, kind_at}
+use Rattle.bsv_design.specs.design.Bodies.{Target, at}
+use Rattle.bsv_design.specs.design.Designs.{DesignData, IsDesign}
+use Rattle.bsv_design.specs.design.Guards.{needs_of}
+use Rattle.bsv_design.specs.scheme.Schemes.{Scheme, Outline, Asking, Look, design_scheme, kinds_of, outline, ports_of, trace_of, answers, given, ready, seen, value}
+use Rattle.bsv_design.specs.scheme.States.{AreWordsOf}
+use Rattle.bsv_design.specs.scheme.Traces.{Site, kind_at}
 use Rattle.bsv_graph.specs.Orders.{In}
 use Rattle.bsv_guard.specs.Fitting.{HaveWidths, IsFitCall}
 use Rattle.bsv_guard.proofs.Fits.{fitting_keeps}
@@ -24,20 +24,20 @@ use Rattle.bsv_guard.proofs.Given.{given_arguments}
 use Rattle.bsv_clock.proofs.Clocks.{clock_fed}
 use Rattle.bsv_clock.proofs.Steadily.{steady_scheme}
 use Rattle.bsv_design.specs.declared.kind.Kind.{Kind}
-use Rattle.bsv_clock.specs.Hardware.{TellsElements, cells_of, cell_widths, inputs_of}
+use Rattle.bsv_clock.specs.Shows.{TellsElements, cells_of, cell_widths, inputs_of}
 use Rattle.bsv_clock.specs.Clocks.{IsClock, is_in}
 use Rattle.bsv_clock.specs.Grounds.{BelongTogether, Fit, IsLawful, IsScheduleOf}
 use Rattle.bsv_clock.specs.Looks.{clock_look}
 use Rattle.bsv_clock.proofs.Stopping.{urgency_order}
-use Rattle.bsv_net.specs.declared.circuit.Circuit.{Circuit}
+use Rattle.bsv_net.specs.declared.net_data.NetData.{NetData}
 use Rattle.bsv_net.specs.declared.node.Site.{Site as NetSite}
-use Rattle.bsv_net.specs.Circuits.{IsCircuit, register_widths, words}
+use Rattle.bsv_net.specs.Nets.{IsNet, register_widths, words}
 use Rattle.bsv_net.specs.Placing.{node_at}
 use Rattle.bsv_net.proofs.Solution.{satisfies}
-use Rattle.bsv_fire.specs.Circuits.{IsFireCircuit, net}
-use Rattle.bsv_net.specs.Hardware.{given_at}
+use Rattle.bsv_fire.specs.Nets.{IsFiringNet, net}
+use Rattle.bsv_net.specs.ShowsByNet.{given_at}
 use Rattle.bsv_fire.specs.Firing as firing
-use Rattle.bsv_fire.specs.Growing.{Growing}
+use Rattle.bsv_fire.specs.FireBuilder.{FireBuilder}
 use Rattle.bsv_ports.specs.CallSites.{or_none}
 use Rattle.bsv_ports.proofs.Scene.{Scene, looks}
 use Rattle.bsv_fire.proofs.Frame.{Tells}
@@ -62,8 +62,8 @@ same_words V (n ∷ ns) (w ∷ ws) l h = ap₂ (λ (x : Bits) (xs : List Bits). 
 
 -- ---- a clock
 
-module _ (b : Blueprint) (right : IsDesign b) (needs : List (List Need)) (made : Schedule) (lawful : IsLawful (design_scheme b)) (scheduled : IsScheduleOf (design_scheme b) made)
-    (are : needs ≡ needs_of (kinds_of b) b.elements) (c : Circuit) (is : IsFireCircuit b needs made c) (ordered : IsCircuit c)
+module _ (b : DesignData) (right : IsDesign b) (needs : List (List Need)) (made : Schedule) (lawful : IsLawful (design_scheme b)) (scheduled : IsScheduleOf (design_scheme b) made)
+    (are : needs ≡ needs_of (kinds_of b) b.elements) (c : NetData) (is : IsFiringNet b needs made c) (ordered : IsNet c)
     (q : Asking) (s : List Part) (ws : List Bits) (fit : Fit (design_scheme b) q s) (have : HaveWidths (cell_widths (cells_of (kinds_of b))) ws) where
   abbrev T : Scheme
   T = design_scheme b
@@ -101,7 +101,7 @@ module _ (b : Blueprint) (right : IsDesign b) (needs : List (List Need)) (made :
   }
 
   module _ (told : Tells scene (net b needs made) made.urgency) (fired : List ℕ) (after : List Part) (clock : IsClock false T made q s fired after) where
-    abbrev x : Growing
+    abbrev x : FireBuilder
     x = net b needs made
 
     together : BelongTogether T made q s

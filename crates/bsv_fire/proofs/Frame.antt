@@ -1,4 +1,4 @@
--- What it means that a net tells of the elements that stand in it. All is said of the words of the whole net: what stands in
+-- What it means that a net tells of the elements that are in it. All is said of the words of the whole net: what is in
 -- the net so far is a front of it.
 use Rattle.std.proofs.Common.{◌≡◌, ◌+◌, ◌<◌, ℕ, true, false, ◌&&◌, List, length, Option, Some, None}
 use Rattle.std.specs.Prelude.{slice_get}
@@ -6,12 +6,12 @@ use Rattle.std.specs.List.{list_any}
 use Rattle.bsv_bits.specs.Words.{Bits, bit}
 use Rattle.bsv_design.specs.declared.element.Element.{Element}
 use Rattle.bsv_design.specs.declared.kind.Kind.{Kind}
-use Rattle.bsv_design.specs.Bodies.{at}
-use Rattle.bsv_design.specs.Guards.{needs_of}
-use Rattle.bsv_design.specs.Kinds.{kind_table}
-use Rattle.bsv_design.specs.Roles.{is_rule}
-use Rattle.bsv_design.specs.Schemes.{kinds_of, given, ready, value}
-use Rattle.bsv_design.specs.States.{part_at}
+use Rattle.bsv_design.specs.design.Bodies.{at}
+use Rattle.bsv_design.specs.design.Guards.{needs_of}
+use Rattle.bsv_design.specs.tree.Kinds.{kind_table}
+use Rattle.bsv_design.specs.tree.Roles.{is_rule}
+use Rattle.bsv_design.specs.scheme.Schemes.{kinds_of, given, ready, value}
+use Rattle.bsv_design.specs.scheme.States.{part_at}
 use Rattle.bsv_graph.specs.Orders.{In}
 use Rattle.bsv_clock.specs.Clocks.{is_asked}
 use Rattle.bsv_clock.specs.Settling.{fires, stops_in}
@@ -22,10 +22,10 @@ use Rattle.bsv_net.proofs.Grows.{Grows}
 use Rattle.bsv_ports.specs.CallSites.{or_none, all_call_sites}
 use Rattle.bsv_fire.specs.Bodies.{Ports}
 use Rattle.bsv_fire.specs.Grounds.{Ground}
-use Rattle.bsv_fire.specs.Growing.{Growing, or_nobody}
+use Rattle.bsv_fire.specs.FireBuilder.{FireBuilder, flattened}
 use Rattle.bsv_ports.proofs.Scene.{Scene, S, does, looks, TellsPort, last_call, TellsFiring}
 
--- what a net is made from stands in it: its inputs, its registers, and both bits
+-- what a net is made from is in it: its inputs, its registers, and both bits
 pub record IsGround (z : Scene) (g : Ground) : Type 0 where
   pub kinds : g.base.kinds ≡ kinds_of z.b
   pub elements : g.elements ≡ z.b.elements
@@ -44,8 +44,8 @@ pub record IsGround (z : Scene) (g : Ground) : Type 0 where
   pub none : z.V g.base.none ≡ bit false
   pub one : z.V (g.base.none + 1) ≡ bit true
 
--- what the net so far tells of an element that stands in it, beside its firing
-pub record TellsElement (z : Scene) (x : Growing) (n : ℕ) : Type 0 where
+-- what the net so far tells of an element that is in it, beside its firing
+pub record TellsElement (z : Scene) (x : FireBuilder) (n : ℕ) : Type 0 where
   pub readies : z.V (node_at x.readies n) ≡ bit (ready false (S z) z.q n (looks z))
   pub result : (w : Bits) → ready false (S z) z.q n (looks z) ≡ true → value (S z) z.q n (looks z) ≡ Some w
       → (k : ℕ) × (slice_get x.results n ≡ Some (Some k)) × (z.V k ≡ w)
@@ -54,7 +54,7 @@ abbrev pub placed_port : Ports → ℕ → ℕ → Option MethodPort
 placed_port ports i m = placed (slice_get (or_none (slice_get ports i)) m)
 
 -- the net so far tells of these elements, and of no others
-pub record Tells (z : Scene) (x : Growing) (placed : List ℕ) : Type 0 where
+pub record Tells (z : Scene) (x : FireBuilder) (placed : List ℕ) : Type 0 where
   pub nodes : Grows x.nodes z.full
   pub elements : (n : ℕ) → In placed n → TellsElement z x n
   pub firing : TellsFiring z x.fires x.sites placed
@@ -64,10 +64,10 @@ pub record Tells (z : Scene) (x : Growing) (placed : List ℕ) : Type 0 where
   pub long_results : length x.results ≡ length z.b.elements
   pub long_sites : length x.sites ≡ length z.b.elements
   -- which of them stop an element
-  pub free : (n : ℕ) → or_nobody (slice_get x.stoppers n) ≡ None → list_any (λ f. stops_in z.made f n) placed ≡ false
-  pub stopped_is : (n k : ℕ) → or_nobody (slice_get x.stoppers n) ≡ Some k
+  pub free : (n : ℕ) → flattened (slice_get x.stoppers n) ≡ None → list_any (λ f. stops_in z.made f n) placed ≡ false
+  pub stopped_is : (n k : ℕ) → flattened (slice_get x.stoppers n) ≡ Some k
       → z.V k ≡ bit (list_any (λ f. fires (does z) f && stops_in z.made f n) placed)
-  -- there is a place for each method of each part, and what stands there tells the method's last call
+  -- there is a place for each method of each part, and what is there tells the method's last call
   pub rooms : (i : ℕ) (k : Kind) → slice_get (kinds_of z.b) i ≡ Some k
       → (ps : List (Option MethodPort)) × (slice_get x.ports i ≡ Some ps) × (length ps ≡ (kind_table k).methods)
   pub ports : (i m : ℕ) (k : Kind) (p : MethodPort) → slice_get (kinds_of z.b) i ≡ Some k → placed_port x.ports i m ≡ Some p

@@ -12,36 +12,36 @@ use Rattle.bsv_design.specs.declared.element.Role.{Role}
 use Rattle.bsv_design.specs.declared.element.Role.TheVariants as role
 use Rattle.bsv_design.specs.declared.kind.Kind.{Kind}
 use Rattle.bsv_design.specs.declared.schedule.Need.{Need}
-use Rattle.bsv_design.specs.Bodies.{at}
-use Rattle.bsv_design.specs.Designs.{Blueprint, IsDesign}
-use Rattle.bsv_design.specs.Guards.{needs_of}
-use Rattle.bsv_design.specs.Kinds.{kind_table}
-use Rattle.bsv_design.specs.Roles.{is_rule}
-use Rattle.bsv_design.specs.Running.{or_zero}
-use Rattle.bsv_design.specs.Schemes.{Scheme, Outline, Asking, given, outline, ports_of, kinds_of, design_scheme}
-use Rattle.bsv_design.specs.States.{part_at}
+use Rattle.bsv_design.specs.design.Bodies.{at}
+use Rattle.bsv_design.specs.design.Designs.{DesignData, IsDesign}
+use Rattle.bsv_design.specs.design.Guards.{needs_of}
+use Rattle.bsv_design.specs.tree.Kinds.{kind_table}
+use Rattle.bsv_design.specs.tree.Roles.{is_rule}
+use Rattle.bsv_design.specs.carrying.Running.{or_zero}
+use Rattle.bsv_design.specs.scheme.Schemes.{Scheme, Outline, Asking, given, outline, ports_of, kinds_of, design_scheme}
+use Rattle.bsv_design.specs.scheme.States.{part_at}
 use Rattle.bsv_graph.specs.Edges.{numbers_below}
 use Rattle.bsv_guard.proofs.Given.{given_arguments}
-use Rattle.bsv_clock.specs.Hardware.{Shows, cells_in, cells_of, inputs_from, inputs_of, input_widths_of}
+use Rattle.bsv_clock.specs.Shows.{Shows, cells_in, cells_of, inputs_from, inputs_of, input_widths_of}
 use Rattle.bsv_clock.specs.Clocks.{is_asked}
 use Rattle.bsv_net.specs.declared.node.NetNode.{NetNode}
 use Rattle.bsv_net.specs.declared.node.NetNode.TheVariants as net
 use Rattle.bsv_net.specs.Placing.{node_at}
 use Rattle.bsv_net.proofs.Grows.{Grows, kept}
-use Rattle.bsv_fire.specs.Circuits as circuits
+use Rattle.bsv_fire.specs.Nets as nets
 use Rattle.bsv_ports.specs.Starts.{first_nodes}
 use Rattle.bsv_fire.specs.Grounds.{Ground}
-use Rattle.bsv_ports.proofs.FirstNodes.{MethodsFirst, argument_at, asked_at, inputs_before, part_shown, register_start, registers_before, start_of, word_behind}
+use Rattle.bsv_ports.proofs.FirstNodes.{MethodsFirst, argument_at, asked_at, inputs_before, part_shown, register_start, registers_before, start_of, word_after}
 use Rattle.bsv_ports.proofs.Scene.{Scene, S}
 use Rattle.bsv_fire.proofs.Frame.{IsGround}
 use Rattle.bsv_net.proofs.Numbers.{number_at}
 use Rattle.bsv_graph.proofs.Below.{count_below}
 
--- ---- which node stands where
+-- ---- which node is where
 
 module _ (inputs registers : ℕ) where
-  abbrev behind_inputs : List NetNode
-  behind_inputs = map net.Register (numbers_below registers) ++ (net.Constant (bit false) ∷ net.Constant (bit true) ∷ [])
+  abbrev after_inputs : List NetNode
+  after_inputs = map net.Register (numbers_below registers) ++ (net.Constant (bit false) ∷ net.Constant (bit true) ∷ [])
 
   many : length (map net.Input (numbers_below inputs)) ≡ inputs
   many = length-map (numbers_below inputs) net.Input ∙ count_below inputs
@@ -51,25 +51,25 @@ module _ (inputs registers : ℕ) where
 
   pub input_there : (k : ℕ) → k < inputs → slice_get (first_nodes inputs registers) k ≡ Some (net.Input k)
   input_there k l =
-      at_left (map net.Input (numbers_below inputs)) behind_inputs k (omega (arith, many))
+      at_left (map net.Input (numbers_below inputs)) after_inputs k (omega (arith, many))
       ∙ mapped_at net.Input (numbers_below inputs) k k (number_at inputs k l)
 
-  behind_there : (k : ℕ) → slice_get (first_nodes inputs registers) (inputs + k) ≡ slice_get behind_inputs k
-  behind_there k =
+  after_there : (k : ℕ) → slice_get (first_nodes inputs registers) (inputs + k) ≡ slice_get after_inputs k
+  after_there k =
       ap (λ n. slice_get (first_nodes inputs registers) (n + k)) (sym many)
-      ∙ at_right (map net.Input (numbers_below inputs)) behind_inputs k
+      ∙ at_right (map net.Input (numbers_below inputs)) after_inputs k
 
   pub register_there : (k : ℕ) → k < registers → slice_get (first_nodes inputs registers) (inputs + k) ≡ Some (net.Register k)
   register_there k l =
-      behind_there k
+      after_there k
       ∙ (at_left (map net.Register (numbers_below registers)) (net.Constant (bit false) ∷ net.Constant (bit true) ∷ []) k (omega (arith, many_registers))
       ∙ mapped_at net.Register (numbers_below registers) k k (number_at registers k l))
 
   bits_there : (k : ℕ) → slice_get (first_nodes inputs registers) (inputs + registers + k) ≡ slice_get (net.Constant (bit false) ∷ net.Constant (bit true) ∷ []) k
   bits_there k =
       ap (slice_get (first_nodes inputs registers)) (omega arith)
-      ∙ (behind_there (registers + k)
-      ∙ (ap (λ n. slice_get behind_inputs (n + k)) (sym many_registers)
+      ∙ (after_there (registers + k)
+      ∙ (ap (λ n. slice_get after_inputs (n + k)) (sym many_registers)
       ∙ at_right (map net.Register (numbers_below registers)) (net.Constant (bit false) ∷ net.Constant (bit true) ∷ []) k))
 
   pub none_there : slice_get (first_nodes inputs registers) (inputs + registers) ≡ Some (net.Constant (bit false))
@@ -118,7 +118,7 @@ within_both : {X : Type 0} (xs ys : List X) (i j : ℕ) → slice_get xs i ≡ s
 within_both xs [] i j same l = absurd (omega arith)
 within_both xs (y ∷ ys) i j same l = slice_get_within xs i (get_or (y ∷ ys) j y) (same ∙ slice_get-get_or (y ∷ ys) j y l)
 
-has_no_arguments : (b : Blueprint) → IsDesign b → (n : ℕ) (e : Element) → slice_get b.elements n ≡ Some e → is_rule e.role ≡ true → length e.arguments ≡ 0
+has_no_arguments : (b : DesignData) → IsDesign b → (n : ℕ) (e : Element) → slice_get b.elements n ≡ Some e → is_rule e.role ≡ true → length e.arguments ≡ 0
 has_no_arguments b right n e there rule = of e.role refl rule
   where
     of : (r : Role) → e.role ≡ r → is_rule r ≡ true → length e.arguments ≡ 0
@@ -136,7 +136,7 @@ rule_is role.ActionValue h = absurd (let f : ⊥ = cc in f)
 is_rule_again : (r : Role) → r ≡ role.Rule → is_rule r ≡ true
 is_rule_again r h = ap is_rule h
 
-pub methods_first : (b : Blueprint) → IsDesign b → MethodsFirst b.elements
+pub methods_first : (b : DesignData) → IsDesign b → MethodsFirst b.elements
 unfolding MethodsFirst
 methods_first b right m n d e p q l h = is_rule_again e.role (right.methods_first m n d e p q l (rule_is d.role h))
 
@@ -145,12 +145,12 @@ outlined es n e there = mapped_at outline es n e there
 
 module _ (z : Scene) (needs : List (List Need)) (are : needs ≡ needs_of (kinds_of z.b) z.b.elements)
     (inputs_are : z.inputs ≡ inputs_of (S z) z.q) (shows : Shows (kinds_of z.b) z.s z.registers)
-    (first : Grows (first_nodes (length (circuits.inputs z.b needs z.made)) (circuits.count z.b needs z.made)) z.full) where
+    (first : Grows (first_nodes (length (nets.inputs z.b needs z.made)) (nets.count z.b needs z.made)) z.full) where
   abbrev es : List Element
   es = z.b.elements
 
   abbrev count_inputs : ℕ
-  count_inputs = length (circuits.inputs z.b needs z.made)
+  count_inputs = length (nets.inputs z.b needs z.made)
 
   given_long : (n : ℕ) (e : Element) → slice_get es n ≡ Some e → length (given (S z) z.q n) ≡ length e.arguments
   unfolding design_scheme
@@ -184,15 +184,15 @@ module _ (z : Scene) (needs : List (List Need)) (are : needs ≡ needs_of (kinds
   input_word : (k j : ℕ) (ws : List Bits) → slice_get z.inputs k ≡ slice_get ws j → j < length ws → z.V k ≡ at ws j
   input_word k j ws same l =
       let within = within_both z.inputs ws k j same l in
-      z.solved.operates k (net.Input k) (kept first k (net.Input k) (input_there count_inputs (circuits.count z.b needs z.made) k (omega (arith, long_all))))
+      z.solved.operates k (net.Input k) (kept first k (net.Input k) (input_there count_inputs (nets.count z.b needs z.made) k (omega (arith, long_all))))
       ∙ ap or_zero same
 
-  register_word : (k : ℕ) → k < circuits.count z.b needs z.made → z.V (count_inputs + k) ≡ at z.registers k
+  register_word : (k : ℕ) → k < nets.count z.b needs z.made → z.V (count_inputs + k) ≡ at z.registers k
   register_word k l =
-      z.solved.operates (count_inputs + k) (net.Register k) (kept first (count_inputs + k) (net.Register k) (register_there count_inputs (circuits.count z.b needs z.made) k l))
+      z.solved.operates (count_inputs + k) (net.Register k) (kept first (count_inputs + k) (net.Register k) (register_there count_inputs (nets.count z.b needs z.made) k l))
 
   abbrev g : Ground
-  g = circuits.ground z.b needs z.made
+  g = nets.ground z.b needs z.made
 
   arguments_told : (n : ℕ) (e : Element) → slice_get es n ≡ Some e → (k : ℕ) → k < length e.arguments → (b : Bool) → is_rule e.role ≡ b
       → z.V (node_at g.inputs n + k) ≡ at (given (S z) z.q n) k
@@ -211,7 +211,7 @@ module _ (z : Scene) (needs : List (List Need)) (are : needs ≡ needs_of (kinds
     λ n l. ap (λ m. z.V (m + n)) (register_start count_inputs (kinds_of z.b) i (slice_get_within (kinds_of z.b) i k there))
         ∙ (ap z.V (omega arith)
         ∙ (register_word (registers_before (kinds_of z.b) i + n) (omega (arith, registers_within (kinds_of z.b) i k there))
-        ∙ sym (word_behind z.registers (registers_before (kinds_of z.b) i) n))),
+        ∙ sym (word_after z.registers (registers_before (kinds_of z.b) i) n))),
   )
 
   pub ground_told : IsGround z g
@@ -226,8 +226,8 @@ module _ (z : Scene) (needs : List (List Need)) (are : needs ≡ needs_of (kinds
     asked = λ n e there rule.
         ap (λ m. z.V (m + length e.arguments)) (start_of 0 es n (slice_get_within es n e there) ∙ omega arith)
         ∙ input_word (inputs_before es n + length e.arguments) 0 (bit (is_asked z.q n) ∷ []) (asked_in n e there rule) (omega arith);
-    none = z.solved.operates (count_inputs + circuits.count z.b needs z.made) (net.Constant (bit false))
-        (kept first _ _ (none_there count_inputs (circuits.count z.b needs z.made)));
-    one = z.solved.operates (count_inputs + circuits.count z.b needs z.made + 1) (net.Constant (bit true))
-        (kept first _ _ (one_there count_inputs (circuits.count z.b needs z.made)));
+    none = z.solved.operates (count_inputs + nets.count z.b needs z.made) (net.Constant (bit false))
+        (kept first _ _ (none_there count_inputs (nets.count z.b needs z.made)));
+    one = z.solved.operates (count_inputs + nets.count z.b needs z.made + 1) (net.Constant (bit true))
+        (kept first _ _ (one_there count_inputs (nets.count z.b needs z.made)));
   }

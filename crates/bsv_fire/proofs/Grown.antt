@@ -1,13 +1,13 @@
--- The net as it grows tells of all elements that stand in it, and so the whole net tells of all.
+-- The net as it grows tells of all elements that are in it, and so the whole net tells of all.
 use Rattle.std.proofs.Common.{◌≡◌, ◌∙◌, ◌<◌, ℕ, zero, suc, List, [], ◌∷◌, ◌++◌, Option, Some, None, refl, sym, ap, subst, arith, append_assoc, append-nil, length}
 use Rattle.std.specs.Prelude.{slice_get, replicate}
 use Rattle.std.proofs.lemmas.List.{length-map, length-replicate}
 use Rattle.bsv_lemmas.proofs.Places.{mapped_at, item_there}
 use Rattle.bsv_design.specs.declared.element.Element.{Element}
 use Rattle.bsv_design.specs.declared.kind.Kind.{Kind}
-use Rattle.bsv_design.specs.Bodies.{Answers, Target}
-use Rattle.bsv_design.specs.Kinds.{kind_table}
-use Rattle.bsv_design.specs.Schemes.{design_scheme, kinds_of, outline}
+use Rattle.bsv_design.specs.design.Bodies.{Answers, Target}
+use Rattle.bsv_design.specs.tree.Kinds.{kind_table}
+use Rattle.bsv_design.specs.scheme.Schemes.{design_scheme, kinds_of, outline}
 use Rattle.bsv_guard.specs.ElementLaws.{IsUse}
 use Rattle.bsv_net.specs.declared.node.NetNode.{NetNode}
 use Rattle.bsv_net.specs.declared.node.Site.{Site as NetSite}
@@ -17,7 +17,7 @@ use Rattle.bsv_net.proofs.Grows.{Grows, grows_trans}
 use Rattle.bsv_ports.specs.CallSites.{or_none}
 use Rattle.bsv_fire.specs.Bodies.{Ports}
 use Rattle.bsv_fire.specs.Grounds.{Ground}
-use Rattle.bsv_fire.specs.Growing.{Growing, grown, no_ports, none_placed, or_nobody, with_element, with_number, with_ports}
+use Rattle.bsv_fire.specs.FireBuilder.{FireBuilder, grown, no_ports, none_placed, flattened, with_element, with_number, with_ports}
 use Rattle.bsv_fire.proofs.Element.{element_told}
 use Rattle.bsv_fire.proofs.FireTold.{stands_below}
 use Rattle.bsv_ports.proofs.Scene.{Scene, S}
@@ -28,7 +28,7 @@ use Rattle.bsv_fire.proofs.Steps.{element_grows, grown_grows}
 use Rattle.bsv_fire.proofs.Wired.{SeesPorts}
 use Rattle.bsv_fire.proofs.Wiring.{IsWired}
 
--- ---- no element stands there yet
+-- ---- no element is there yet
 
 pub none_told : (z : Scene) (ns : List NetNode) → Grows ns z.full → Tells z (none_placed (kinds_of z.b) (length z.b.elements) ns) []
 none_told z ns grows = record {
@@ -53,7 +53,7 @@ none_told z ns grows = record {
     none None h = refl
     none (Some ss) h = h ss refl
 
-    nobody : (o : Option (Option ℕ)) (k : ℕ) → ((x : Option ℕ) → o ≡ Some x → x ≡ None) → or_nobody o ≡ Some k → ⊥
+    nobody : (o : Option (Option ℕ)) (k : ℕ) → ((x : Option ℕ) → o ≡ Some x → x ≡ None) → flattened o ≡ Some k → ⊥
     nobody None k h e = let f : ⊥ = cc in f
     nobody (Some x) k h e = let a : x ≡ None = h x refl in let f : ⊥ = cc in f
 
@@ -86,7 +86,7 @@ PiecesTold z g answers = (ports : Ports) (n : ℕ) → ((t : Target) → IsUse (
 
 module _ (z : Scene) (g : Ground) (ground : IsGround z g) (ports_told : PortsTold z g) (answers : Ports → Answers) (pieces_told : PiecesTold z g answers) where
   pub with_element_told : (stand rest : List ℕ) (n : ℕ) → z.made.urgency ≡ stand ++ n ∷ rest → (e : Element) → slice_get z.b.elements n ≡ Some e
-      → (x : Growing) → Tells z x stand → Grows (with_element g x n e).nodes z.full → Tells z (with_element g x n e) (stand ++ n ∷ [])
+      → (x : FireBuilder) → Tells z x stand → Grows (with_element g x n e).nodes z.full → Tells z (with_element g x n e) (stand ++ n ∷ [])
   unfolding with_element
   with_element_told stand rest n split e is x tells grows =
       let y = with_ports g x e.calls in
@@ -94,14 +94,14 @@ module _ (z : Scene) (g : Ground) (ground : IsGround z g) (ports_told : PortsTol
       element_told z g ground stand rest n split e is y r.0 (answers y.ports) (pieces_told y.ports n r.1) grows
 
   number_told : (stand rest : List ℕ) (n : ℕ) → z.made.urgency ≡ stand ++ n ∷ rest → (o : Option Element) → slice_get z.b.elements n ≡ o → n < length z.b.elements
-      → (x : Growing) → Tells z x stand → Grows (with_number g x n o).nodes z.full → Tells z (with_number g x n o) (stand ++ n ∷ [])
+      → (x : FireBuilder) → Tells z x stand → Grows (with_number g x n o).nodes z.full → Tells z (with_number g x n o) (stand ++ n ∷ [])
   number_told stand rest n split None is l x tells grows =
       let s = item_there z.b.elements n l in
       let t = s.1 in
       absurd (let f : ⊥ = cc in f)
   number_told stand rest n split (Some e) is l x tells grows = with_element_told stand rest n split e is x tells grows
 
-  pub grown_told : (ns stand : List ℕ) → z.made.urgency ≡ stand ++ ns → (x : Growing) → Tells z x stand → Grows (grown g x ns).nodes z.full → Tells z (grown g x ns) (stand ++ ns)
+  pub grown_told : (ns stand : List ℕ) → z.made.urgency ≡ stand ++ ns → (x : FireBuilder) → Tells z x stand → Grows (grown g x ns).nodes z.full → Tells z (grown g x ns) (stand ++ ns)
   unfolding grown
   grown_told [] stand split x tells grows = subst (Tells z x) (sym (append-nil stand)) tells
   grown_told (n ∷ ns) stand split x tells grows =

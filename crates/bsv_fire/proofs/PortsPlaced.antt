@@ -1,4 +1,4 @@
--- The methods that an element's methods see are placed before it, and nothing that stood in the net is lost.
+-- The methods that an element's methods see are placed before it, and nothing that was in the net is lost.
 use Rattle.std.proofs.Common.{◌≡◌, ◌≢◌, ◌∙◌, ◌<◌, ◌⊎◌, inl, inr, ℕ, zero, suc, Bool, true, false, cond, List, [], ◌∷◌, ◌++◌, Option, Some, None, refl, sym, ap, ap₂, subst, arith, length, map}
 use Rattle.std.specs.Prelude.{slice_get, slice_set, nat_lt, ◌==◌}
 use Rattle.std.proofs.lemmas.Bool.{cases_eq, eq-eqb, lt-ltb, and_from}
@@ -8,11 +8,11 @@ use Rattle.bsv_lemmas.proofs.Places.{set_elsewhere, set_there, item_there}
 use Rattle.bsv_design.specs.declared.element.Call.{Call}
 use Rattle.bsv_design.specs.declared.element.Element.{Element}
 use Rattle.bsv_design.specs.declared.kind.Kind.{Kind}
-use Rattle.bsv_design.specs.Bodies.{Target, target}
-use Rattle.bsv_design.specs.Kinds.{kind_table}
-use Rattle.bsv_design.specs.Relations.{feeds, for_some, is_seen, sees_of}
-use Rattle.bsv_design.specs.Schemes.{calls_of, design_scheme, kinds_of, outline}
-use Rattle.bsv_design.specs.Traces.{kind_at}
+use Rattle.bsv_design.specs.design.Bodies.{Target, target}
+use Rattle.bsv_design.specs.tree.Kinds.{kind_table}
+use Rattle.bsv_design.specs.scheme.Relations.{feeds, for_some, is_seen, sees_of}
+use Rattle.bsv_design.specs.scheme.Schemes.{calls_of, design_scheme, kinds_of, outline}
+use Rattle.bsv_design.specs.scheme.Traces.{kind_at}
 use Rattle.bsv_graph.specs.Edges.{numbers_below}
 use Rattle.bsv_graph.specs.Orders.{In}
 use Rattle.bsv_guard.specs.ElementLaws.{IsUse}
@@ -27,7 +27,7 @@ use Rattle.bsv_net.proofs.Grows.{Grows, grows_trans}
 use Rattle.bsv_ports.specs.CallSites.{or_none}
 use Rattle.bsv_fire.specs.Bodies.{Ports}
 use Rattle.bsv_fire.specs.Grounds.{Ground}
-use Rattle.bsv_fire.specs.Growing.{Growing, is_open, with_method, with_port, with_ports, with_seen, with_seen_in}
+use Rattle.bsv_fire.specs.FireBuilder.{FireBuilder, is_open, with_method, with_port, with_ports, with_seen, with_seen_in}
 use Rattle.bsv_ports.specs.Ports.{PlacedPort, port}
 use Rattle.bsv_fire.proofs.Bodies.{use_of}
 use Rattle.bsv_fire.proofs.FireTold.{more_urgent, stands_below}
@@ -107,7 +107,7 @@ feeds_where z f n x y u v h =
 
 -- ---- one method after the other
 
--- what is placed for a method tells its last call, where all that use it stand in the net
+-- what is placed for a method tells its last call, where all that use it are in the net
 abbrev pub PortsTold : Scene → Ground → Type 0
 PortsTold z g =
     (firing : List ℕ) (sites : List (List NetSite)) (stand : List ℕ) → TellsFiring z firing sites stand
@@ -118,29 +118,29 @@ PortsTold z g =
 
 module _ (z : Scene) (g : Ground) (told : PortsTold z g) (stand : List ℕ) where
   -- the net still tells of the same elements, and each method that was placed stays
-  pub record Added (x y : Growing) : Type 0 where
+  pub record Added (x y : FireBuilder) : Type 0 where
     pub tells : Tells z y stand
     pub stay : (i m : ℕ) (p : MethodPort) → placed_port x.ports i m ≡ Some p → placed_port y.ports i m ≡ Some p
 
-  none_added : (x : Growing) → Tells z x stand → Added x x
+  none_added : (x : FireBuilder) → Tells z x stand → Added x x
   none_added x t = record { tells = t; stay = λ i m p e. e }
 
-  both_added : (x y w : Growing) → Added x y → Added y w → Added x w
+  both_added : (x y w : FireBuilder) → Added x y → Added y w → Added x w
   both_added x y w a b = record { tells = b.tells; stay = λ i m p e. b.stay i m p (a.stay i m p e) }
 
-  still_sees : (x y : Growing) (t : Target) → Added x y → SeesPorts z x.ports t → SeesPorts z y.ports t
+  still_sees : (x y : FireBuilder) (t : Target) → Added x y → SeesPorts z x.ports t → SeesPorts z y.ports t
   still_sees x y t a h = record {
     each = λ k there m l s.
         (let r = h.each k there m l s in
         (r.0, a.stay t.part m r.0 r.1, r.2));
   }
 
-  -- all that use the method stand in the net
+  -- all that use the method are in the net
   abbrev AllStand : ℕ → ℕ → Type 0
   AllStand i m = (f : ℕ) → IsUse (S z) f (record { part = i; method = m }) → In stand f
 
   module _ (k : Kind) (i : ℕ) (there : slice_get (kinds_of z.b) i ≡ Some k) where
-    module _ (m : ℕ) (l : m < (kind_table k).methods) (all : AllStand i m) (x : Growing) (t : Tells z x stand) where
+    module _ (m : ℕ) (l : m < (kind_table k).methods) (all : AllStand i m) (x : FireBuilder) (t : Tells z x stand) where
       abbrev ps : List (Option MethodPort)
       ps = (t.rooms i k there).0
 
@@ -228,10 +228,10 @@ module _ (z : Scene) (g : Ground) (told : PortsTold z g) (stand : List ℕ) wher
               let is : slice_get (or_none (slice_get x.ports i)) m ≡ Some slot.0 = ap (λ (r : Option (List (Option MethodPort))). slice_get (or_none r) m) row ∙ slot.1 in
               (none_added x t, not_open (slice_get (or_none (slice_get x.ports i)) m) slot.0 is h)
 
-    abbrev IsPlaced : Growing → ℕ → Type 0
+    abbrev IsPlaced : FireBuilder → ℕ → Type 0
     IsPlaced x m = (p : MethodPort) × (placed_port x.ports i m ≡ Some p)
 
-    one_seen_added : (y m : ℕ) → m < (kind_table k).methods → ((kind_table k).sees m y ≡ true → AllStand i m) → (x : Growing) → Tells z x stand → Grows (one_seen g k i y x m).nodes z.full
+    one_seen_added : (y m : ℕ) → m < (kind_table k).methods → ((kind_table k).sees m y ≡ true → AllStand i m) → (x : FireBuilder) → Tells z x stand → Grows (one_seen g k i y x m).nodes z.full
         → Added x (one_seen g k i y x m) × ((kind_table k).sees m y ≡ true → IsPlaced (one_seen g k i y x m) m)
     one_seen_added y m l all x t = of ((kind_table k).sees m y) refl
       where
@@ -241,7 +241,7 @@ module _ (z : Scene) (g : Ground) (told : PortsTold z g) (stand : List ℕ) wher
         of false h grows = (none_added x t, λ e. absurd (let f : ⊥ = cc in f))
 
     seen_added : (y : ℕ) (ms : List ℕ) → ((m : ℕ) → In ms m → m < (kind_table k).methods) → ((m : ℕ) → (kind_table k).sees m y ≡ true → AllStand i m)
-        → (x : Growing) → Tells z x stand → Grows (with_seen g k i y x ms).nodes z.full
+        → (x : FireBuilder) → Tells z x stand → Grows (with_seen g k i y x ms).nodes z.full
         → Added x (with_seen g k i y x ms) × ((m : ℕ) → In ms m → (kind_table k).sees m y ≡ true → IsPlaced (with_seen g k i y x ms) m)
     unfolding with_seen
     seen_added y [] below all x t grows = (none_added x t, λ m e. absurd e)
@@ -258,13 +258,13 @@ module _ (z : Scene) (g : Ground) (told : PortsTold z g) (stand : List ℕ) wher
 
   -- ---- all methods that a method sees
 
-  -- a method of its part, where all that use one that it sees stand in the net
+  -- a method of its part, where all that use one that it sees are in the net
   pub record IsUsable (t : Target) : Type 0 where
     pub is_method : IsMethodOf (kind_at (S z).kinds t) t.method
     pub all : (k : Kind) → kind_at (S z).kinds t ≡ Some k → (m : ℕ) → (kind_table k).sees m t.method ≡ true → AllStand t.part m
 
   module _ (ground : IsGround z g) where
-    seen_in_added : (t : Target) → IsUsable t → (o : Option Kind) → slice_get (kinds_of z.b) t.part ≡ o → (x : Growing) → Tells z x stand
+    seen_in_added : (t : Target) → IsUsable t → (o : Option Kind) → slice_get (kinds_of z.b) t.part ≡ o → (x : FireBuilder) → Tells z x stand
         → Grows (with_seen_in g o t.part t.method x).nodes z.full → Added x (with_seen_in g o t.part t.method x) × SeesPorts z (with_seen_in g o t.part t.method x).ports t
     unfolding design_scheme
     seen_in_added t u None e x tells grows =
@@ -295,7 +295,7 @@ module _ (z : Scene) (g : Ground) (told : PortsTold z g) (stand : List ℕ) wher
             (r.0, sees r.0 r.1)
         of false h grows = absurd (let f : ⊥ = cc in f)
 
-    pub ports_added : (cs : List Call) → ((j : ℕ) (c : Call) → slice_get cs j ≡ Some c → IsUsable (target c)) → (x : Growing) → Tells z x stand → Grows (with_ports g x cs).nodes z.full
+    pub ports_added : (cs : List Call) → ((j : ℕ) (c : Call) → slice_get cs j ≡ Some c → IsUsable (target c)) → (x : FireBuilder) → Tells z x stand → Grows (with_ports g x cs).nodes z.full
         → Added x (with_ports g x cs) × ((j : ℕ) (c : Call) → slice_get cs j ≡ Some c → SeesPorts z (with_ports g x cs).ports (target c))
     unfolding with_ports
     ports_added [] usable x tells grows = (none_added x tells, λ j c e. absurd (let f : ⊥ = cc in f))
@@ -306,7 +306,7 @@ module _ (z : Scene) (g : Ground) (told : PortsTold z g) (stand : List ℕ) wher
         let rest = ports_added cs (λ j d e. usable (suc j) d e) w first.0.tells grows in
         (both_added x w (with_ports g w cs) first.0 rest.0, each w first.1 rest)
       where
-        each : (w : Growing) → SeesPorts z w.ports (target c) → Added w (with_ports g w cs) × ((j : ℕ) (d : Call) → slice_get cs j ≡ Some d → SeesPorts z (with_ports g w cs).ports (target d))
+        each : (w : FireBuilder) → SeesPorts z w.ports (target c) → Added w (with_ports g w cs) × ((j : ℕ) (d : Call) → slice_get cs j ≡ Some d → SeesPorts z (with_ports g w cs).ports (target d))
             → (j : ℕ) (d : Call) → slice_get (c ∷ cs) j ≡ Some d → SeesPorts z (with_ports g w cs).ports (target d)
         each w first rest zero d e =
             let same : c ≡ d = cc in
@@ -316,7 +316,7 @@ module _ (z : Scene) (g : Ground) (told : PortsTold z g) (stand : List ℕ) wher
 -- ---- an element
 
 module _ (z : Scene) (g : Ground) (ground : IsGround z g) (told : PortsTold z g) (stand rest : List ℕ) (n : ℕ) (split : z.made.urgency ≡ stand ++ n ∷ rest) where
-  -- all that use a method that one of its methods sees stand before it
+  -- all that use a method that one of its methods sees come before it
   pub usable : (t : Target) → IsUse (S z) n t → IsUsable z g told stand t
   usable t u = record {
     is_method = z.lawful.fitting.methods n t u;
@@ -334,7 +334,7 @@ module _ (z : Scene) (g : Ground) (ground : IsGround z g) (told : PortsTold z g)
       let i = item_of target e.calls u.index t (ap (λ (o : Option Element). slice_get (calls_of o) u.index) (sym is) ∙ u.is) in
       (u.index, i.item, i.is, i.gives)
 
-  pub seen_placed : (e : Element) → slice_get z.b.elements n ≡ Some e → (x : Growing) → Tells z x stand → Grows (with_ports g x e.calls).nodes z.full
+  pub seen_placed : (e : Element) → slice_get z.b.elements n ≡ Some e → (x : FireBuilder) → Tells z x stand → Grows (with_ports g x e.calls).nodes z.full
       → Tells z (with_ports g x e.calls) stand × ((t : Target) → IsUse (S z) n t → SeesPorts z (with_ports g x e.calls).ports t)
   seen_placed e is x tells grows =
       let r = ports_added z g told stand ground e.calls (λ j c at_j. usable (target c) (use_of z n e is j c at_j)) x tells grows in

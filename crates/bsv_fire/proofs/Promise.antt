@@ -17,35 +17,35 @@ use Rattle.bsv_design.specs.declared.element.Element.{Element}
 use Rattle.bsv_design.specs.declared.kind.Kind.{Kind}
 use Rattle.bsv_design.specs.declared.schedule.Need.{Need}
 use Rattle.bsv_design.specs.declared.schedule.Schedule.{Schedule}
-use Rattle.bsv_design.specs.Bodies.{Target, target, at}
-use Rattle.bsv_design.specs.Designs.{Blueprint, IsDesign}
-use Rattle.bsv_design.specs.Guards.{needs_of}
-use Rattle.bsv_design.specs.Roles.{gives_value}
-use Rattle.bsv_design.specs.Schemes.{Scheme, Outline, Asking, calls_of, design_scheme, kinds_of, outline}
-use Rattle.bsv_design.specs.Seen.{blueprint}
-use Rattle.bsv_design.specs.Kinds.{kind_table}
-use Rattle.bsv_design.specs.Traces.{kind_at}
-use Rattle.bsv_design.specs.Widths.{args_fit, call_fits, has_width, method_fits, result_fits}
+use Rattle.bsv_design.specs.design.Bodies.{Target, target, at}
+use Rattle.bsv_design.specs.design.Designs.{DesignData, IsDesign}
+use Rattle.bsv_design.specs.design.Guards.{needs_of}
+use Rattle.bsv_design.specs.tree.Roles.{gives_value}
+use Rattle.bsv_design.specs.scheme.Schemes.{Scheme, Outline, Asking, calls_of, design_scheme, kinds_of, outline}
+use Rattle.bsv_design.specs.tree.Seen.{design_data}
+use Rattle.bsv_design.specs.tree.Kinds.{kind_table}
+use Rattle.bsv_design.specs.scheme.Traces.{kind_at}
+use Rattle.bsv_design.specs.design.Widths.{args_fit, call_fits, has_width, method_fits, result_fits}
 use Rattle.bsv_graph.specs.Edges.{numbers_below}
 use Rattle.bsv_graph.specs.Orders.{In}
 use Rattle.bsv_guard.specs.Fitting.{HaveWidths}
 use Rattle.bsv_guard.proofs.Lists.{item_of, holds_at_all}
-use Rattle.bsv_clock.specs.Hardware.{Shows, cell, cells_of, cell_widths, inputs_of, input_widths}
+use Rattle.bsv_clock.specs.Shows.{Shows, cell, cells_of, cell_widths, inputs_of, input_widths}
 use Rattle.bsv_clock.specs.Clocks.{IsClock}
 use Rattle.bsv_clock.specs.Grounds.{Fit, IsLawful, IsScheduleOf, KeepsRules}
 use Rattle.bsv_clock.proofs.Belonging.{lawful_design}
 use Rattle.bsv_clock.proofs.Stopping.{urgency_order}
-use Rattle.bsv_net.specs.declared.circuit.Circuit.{Circuit}
+use Rattle.bsv_net.specs.declared.net_data.NetData.{NetData}
 use Rattle.bsv_net.specs.declared.node.NetNode.{NetNode}
 use Rattle.bsv_net.specs.declared.node.NetNode.TheVariants as net_node
 use Rattle.bsv_net.specs.declared.node.Site.{Site as NetSite}
-use Rattle.bsv_net.specs.Circuits.{IsCircuit, register_widths, words}
+use Rattle.bsv_net.specs.Nets.{IsNet, register_widths, words}
 use Rattle.bsv_net.specs.Placing.{node_at, or_first}
 use Rattle.bsv_net.proofs.Grows.{Grows, kept}
 use Rattle.bsv_net.proofs.Solution.{satisfies, same_length}
 use Rattle.bsv_ports.specs.CallSites.{or_none}
 use Rattle.bsv_fire.specs.Bodies.{site, sites}
-use Rattle.bsv_fire.specs.Circuits.{IsFireCircuit, net, inputs, count}
+use Rattle.bsv_fire.specs.Nets.{IsFiringNet, net, inputs, count}
 use Rattle.bsv_ports.specs.Ports.{arity_of}
 use Rattle.bsv_fire.specs.Firing.{Fires, TellsFiring, sites_of}
 use Rattle.bsv_ports.specs.Starts.{first_nodes}
@@ -60,10 +60,10 @@ use Rattle.bsv_graph.proofs.Below.{count_below}
 use Rattle.bsv_clock.proofs.Propositions.{bits_set}
 use Rattle.bsv_fire.proofs.Bodies.{args_many}
 
-told_prop : (T : Scheme) (q : Asking) (s : List Part) (fired : List ℕ) (c : Circuit) (vs : List Bits) → IsProp (TellsFiring false T q s fired c vs)
+told_prop : (T : Scheme) (q : Asking) (s : List Part) (fired : List ℕ) (c : NetData) (vs : List Bits) → IsProp (TellsFiring false T q s fired c vs)
 told_prop T q s fired c vs = hlevel (option_set bits_set, list_set bits_set, bits_set)
 
--- ---- what stands beside the nodes
+-- ---- what is beside the nodes
 
 call_long : (o : Option Kind) (us : List ℕ) (c : Call) → method_fits o us c ≡ true → length c.args ≡ arity_of o c.method
 call_long None us c h = absurd (let n : ⊥ = cc in n)
@@ -77,12 +77,12 @@ nothing_given us true o h e = absurd (let n : ⊥ = cc in n)
 nothing_given us false None h e = refl
 nothing_given us false (Some k) h e = absurd (let n : ⊥ = cc in n)
 
-module _ (d : Design) (needs : List (List Need)) (made : Schedule) (rules : KeepsRules (design_scheme (blueprint d))) (scheduled : IsScheduleOf (design_scheme (blueprint d)) made)
-    (are : needs ≡ needs_of (kinds_of (blueprint d)) d.elements) (c : Circuit) (is : IsFireCircuit (blueprint d) needs made c) (ordered : ∥ IsCircuit c ∥₁)
-    (holds : Holds d.elements (net (blueprint d) needs made) made.urgency)
-    (first : Grows (first_nodes (length (inputs (blueprint d) needs made)) (count (blueprint d) needs made)) c.nodes) where
-  abbrev b : Blueprint
-  b = blueprint d
+module _ (d : Design) (needs : List (List Need)) (made : Schedule) (rules : KeepsRules (design_scheme (design_data d))) (scheduled : IsScheduleOf (design_scheme (design_data d)) made)
+    (are : needs ≡ needs_of (kinds_of (design_data d)) d.elements) (c : NetData) (is : IsFiringNet (design_data d) needs made c) (ordered : ∥ IsNet c ∥₁)
+    (holds : Holds d.elements (net (design_data d) needs made) made.urgency)
+    (first : Grows (first_nodes (length (inputs (design_data d) needs made)) (count (design_data d) needs made)) c.nodes) where
+  abbrev b : DesignData
+  b = design_data d
 
   abbrev T : Scheme
   T = design_scheme b
@@ -203,7 +203,7 @@ module _ (d : Design) (needs : List (List Need)) (made : Schedule) (rules : Keep
       same_words (at (words c.nodes given ws)) c.nexts ws (long_nexts ∙ long)
       (λ k l.
       ap (at (words c.nodes given ws)) (next_there k (omega (arith, long)))
-      ∙ (∥∥₁_elim ordered (bits_set _ _) (λ (right : IsCircuit c).
+      ∙ (∥∥₁_elim ordered (bits_set _ _) (λ (right : IsNet c).
       (satisfies c right given ws fit have_registers).operates (length (inputs b needs made) + k) (net_node.Register k)
       (kept first (length (inputs b needs made) + k) (net_node.Register k)
       (register_there (length (inputs b needs made)) (count b needs made) k (omega (arith, long)))))
@@ -211,7 +211,7 @@ module _ (d : Design) (needs : List (List Need)) (made : Schedule) (rules : Keep
 
   -- ---- the whole
 
-  module _ (told : (right : IsDesign b) (in_order : IsCircuit c) (q : Asking) (s : List Part) (ws : List Bits) (fit : Fit T q s)
+  module _ (told : (right : IsDesign b) (in_order : IsNet c) (q : Asking) (s : List Part) (ws : List Bits) (fit : Fit T q s)
       (have : HaveWidths (cell_widths (cells_of (kinds_of b))) ws) → Shows T.kinds s ws
       → Tells (scene b right needs made lawful scheduled are c is in_order q s ws fit have) (net b needs made) made.urgency) where
     clock_told : (q : Asking) (s : List Part) (ws : List Bits) (fired : List ℕ) (after : List Part) → Fit T q s
@@ -220,7 +220,7 @@ module _ (d : Design) (needs : List (List Need)) (made : Schedule) (rules : Keep
     unfolding design_scheme
     clock_told q s ws fired after fit have shows clock =
         ∥∥₁_elim d.right (told_prop T q s fired c _) (λ (right : IsDesign b).
-        ∥∥₁_elim ordered (told_prop T q s fired c _) (λ (in_order : IsCircuit c).
+        ∥∥₁_elim ordered (told_prop T q s fired c _) (λ (in_order : IsNet c).
         tells_firing b right needs made lawful scheduled are c is in_order q s ws fit have
         (told right in_order q s ws fit have shows) fired after clock))
 

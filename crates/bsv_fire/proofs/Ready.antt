@@ -10,11 +10,11 @@ use Rattle.bsv_design.specs.declared.element.Condition.{Condition}
 use Rattle.bsv_design.specs.declared.element.Element.{Element}
 use Rattle.bsv_design.specs.declared.kind.Kind.{Kind}
 use Rattle.bsv_design.specs.declared.schedule.Need.{Need}
-use Rattle.bsv_design.specs.Bodies.{Answers, at, target, words}
-use Rattle.bsv_design.specs.Guards.{is_guarded, needs_from, needs_of}
-use Rattle.bsv_design.specs.Running.{is_one}
-use Rattle.bsv_design.specs.Schemes.{Look, all_hold, all_open, design_scheme, given, guard_of, is_open, ready, required}
-use Rattle.bsv_design.specs.Traces.{Site, Demand, demand_at, kind_at, site_at}
+use Rattle.bsv_design.specs.design.Bodies.{Answers, at, target, words}
+use Rattle.bsv_design.specs.design.Guards.{is_guarded, needs_from, needs_of}
+use Rattle.bsv_design.specs.carrying.Running.{is_one}
+use Rattle.bsv_design.specs.scheme.Schemes.{Look, all_hold, all_open, design_scheme, given, guard_of, is_open, ready, required}
+use Rattle.bsv_design.specs.scheme.Traces.{Site, Demand, demand_at, kind_at, site_at}
 use Rattle.bsv_guard.proofs.Extends.{each_open}
 use Rattle.bsv_net.specs.declared.node.NetNode.{NetNode}
 use Rattle.bsv_net.specs.Placing.{Placed}

@@ -10,7 +10,7 @@ node_there xs i x l = ap or_first (set_there xs i x l)
 pub node_elsewhere : (xs : List ℕ) (j i x : ℕ) → j ≢ i → node_at (slice_set xs j x) i ≡ node_at xs i
 node_elsewhere xs j i x o = ap or_first (set_elsewhere xs j i x o)
 
--- what stands in a list that repeats one item is that item
+-- what is in a list that repeats one item is that item
 pub in_replicate : {X : Type 0} (k n : ℕ) (x y : X) → slice_get (replicate k x) n ≡ Some y → y ≡ x
 in_replicate zero n x y e = absurd (let f : ⊥ = cc in f)
 in_replicate (suc k) zero x y e = let same : x ≡ y = cc in sym same

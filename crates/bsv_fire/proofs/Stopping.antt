@@ -1,4 +1,4 @@
--- The nodes that tell which elements are stopped, where one more element stands in the net.
+-- The nodes that tell which elements are stopped, where one more element is in the net.
 use Rattle.std.proofs.Common.{◌≡◌, ◌∙◌, ◌<◌, ℕ, Bool, true, false, ◌&&◌, ◌||◌, List, [], ◌∷◌, Option, Some, None, refl, sym, ap, subst, length}
 use Rattle.std.specs.Prelude.{slice_get, slice_set, ◌==◌}
 use Rattle.std.proofs.lemmas.Bool.{eqb-true, eqb-false}
@@ -10,7 +10,7 @@ use Rattle.bsv_net.specs.declared.node.NetNode.{NetNode}
 use Rattle.bsv_net.specs.Equations.{Values, Satisfies}
 use Rattle.bsv_net.proofs.Gates.{either_means}
 use Rattle.bsv_net.proofs.Grows.{Grows, grows_trans}
-use Rattle.bsv_fire.specs.Growing.{all_stopped, with_stopper, or_nobody}
+use Rattle.bsv_fire.specs.FireBuilder.{all_stopped, with_stopper, flattened}
 use Rattle.bsv_fire.proofs.Steps.{all_stopped_grows}
 
 -- what is known of a node that tells whether an element is stopped: where there is none, nothing stops it
@@ -23,7 +23,7 @@ pub all_stopped_long : (fire : ℕ) (ns : List NetNode) (stoppers : List (Option
 unfolding all_stopped
 all_stopped_long fire ns stoppers [] = refl
 all_stopped_long fire ns stoppers (k ∷ ks) =
-    let p = with_stopper fire ns (or_nobody (slice_get stoppers k)) in
+    let p = with_stopper fire ns (flattened (slice_get stoppers k)) in
     all_stopped_long fire p.nodes (slice_set stoppers k (Some p.place)) ks ∙ length-set stoppers k (Some p.place)
 
 more_stops : (a b c : Bool) → ((a || b) || c) ≡ (a || (b || c))
@@ -55,15 +55,15 @@ module _ (inputs registers : List Bits) (V : Values) (full : List NetNode) (widt
   by_told ns None a b h grows = told ∙ ap bit (ap (λ (c : Bool). c || f) (sym (h.quiet refl)) ∙ fire_stops b f)
   by_told ns (Some k) a b h grows = either_means inputs registers V full widths s ns k fire b f grows (h.stopped_is k refl) told ∙ ap bit (fire_stops b f)
 
-  one_stopped : (ns : List NetNode) (stoppers : List (Option ℕ)) (k t : ℕ) (a b : Bool) → t < length stoppers → TellsStop V (or_nobody (slice_get stoppers t)) a b → Grows (with_stopper fire ns (or_nobody (slice_get stoppers k))).nodes full
-      → TellsStop V (or_nobody (slice_get (slice_set stoppers k (Some (with_stopper fire ns (or_nobody (slice_get stoppers k))).place)) t)) (a || (k == t)) (b || (f && (k == t)))
+  one_stopped : (ns : List NetNode) (stoppers : List (Option ℕ)) (k t : ℕ) (a b : Bool) → t < length stoppers → TellsStop V (flattened (slice_get stoppers t)) a b → Grows (with_stopper fire ns (flattened (slice_get stoppers k))).nodes full
+      → TellsStop V (flattened (slice_get (slice_set stoppers k (Some (with_stopper fire ns (flattened (slice_get stoppers k))).place)) t)) (a || (k == t)) (b || (f && (k == t)))
   one_stopped ns stoppers k t a b l h grows = of (k == t) refl
     where
-      there : k ≡ t → V (with_stopper fire ns (or_nobody (slice_get stoppers k))).place ≡ bit (b || (f && true))
-      there e = by_told ns (or_nobody (slice_get stoppers k)) a b (subst (λ (j : ℕ). TellsStop V (or_nobody (slice_get stoppers j)) a b) (sym e) h) grows
+      there : k ≡ t → V (with_stopper fire ns (flattened (slice_get stoppers k))).place ≡ bit (b || (f && true))
+      there e = by_told ns (flattened (slice_get stoppers k)) a b (subst (λ (j : ℕ). TellsStop V (flattened (slice_get stoppers j)) a b) (sym e) h) grows
 
-      is_set : k ≡ t → (p : ℕ) → or_nobody (slice_get (slice_set stoppers k (Some p)) t) ≡ Some p
-      is_set e p = ap (λ (j : ℕ). or_nobody (slice_get (slice_set stoppers j (Some p)) t)) e ∙ ap or_nobody (set_there stoppers t (Some p) l)
+      is_set : k ≡ t → (p : ℕ) → flattened (slice_get (slice_set stoppers k (Some p)) t) ≡ Some p
+      is_set e p = ap (λ (j : ℕ). flattened (slice_get (slice_set stoppers j (Some p)) t)) e ∙ ap flattened (set_there stoppers t (Some p) l)
 
       where_set : (o : Option ℕ) (p : ℕ) → o ≡ Some p → V p ≡ bit (b || (f && true)) → TellsStop V o (a || true) (b || (f && true))
       where_set o p e v = record {
@@ -72,30 +72,30 @@ module _ (inputs registers : List Bits) (V : Values) (full : List NetNode) (widt
         stopped_is = λ k n. (let same : p ≡ k = cc in ap V (sym same) ∙ v);
       }
 
-      of : (c : Bool) → (k == t) ≡ c → TellsStop V (or_nobody (slice_get (slice_set stoppers k (Some (with_stopper fire ns (or_nobody (slice_get stoppers k))).place)) t)) (a || c) (b || (f && c))
+      of : (c : Bool) → (k == t) ≡ c → TellsStop V (flattened (slice_get (slice_set stoppers k (Some (with_stopper fire ns (flattened (slice_get stoppers k))).place)) t)) (a || c) (b || (f && c))
       of true e =
           let same = eqb-true k t e in
-          let p = (with_stopper fire ns (or_nobody (slice_get stoppers k))).place in
-          where_set (or_nobody (slice_get (slice_set stoppers k (Some p)) t)) p (is_set same p) (there same)
+          let p = (with_stopper fire ns (flattened (slice_get stoppers k))).place in
+          where_set (flattened (slice_get (slice_set stoppers k (Some p)) t)) p (is_set same p) (there same)
       of false e =
-          let p = (with_stopper fire ns (or_nobody (slice_get stoppers k))).place in
+          let p = (with_stopper fire ns (flattened (slice_get stoppers k))).place in
           let other = set_elsewhere stoppers k t (Some p) (eqb-false k t e) in
-          subst (λ (x : Option (Option ℕ)). TellsStop V (or_nobody x) (a || false) (b || (f && false))) (sym other)
-          (subst (λ (x : Bool). TellsStop V (or_nobody (slice_get stoppers t)) x (b || (f && false))) (none_more a)
-          (subst (TellsStop V (or_nobody (slice_get stoppers t)) a) (none_stopped b f) h))
+          subst (λ (x : Option (Option ℕ)). TellsStop V (flattened x) (a || false) (b || (f && false))) (sym other)
+          (subst (λ (x : Bool). TellsStop V (flattened (slice_get stoppers t)) x (b || (f && false))) (none_more a)
+          (subst (TellsStop V (flattened (slice_get stoppers t)) a) (none_stopped b f) h))
 
-  pub all_stopped_told : (ks : List ℕ) (ns : List NetNode) (stoppers : List (Option ℕ)) (t : ℕ) (a b : Bool) → t < length stoppers → TellsStop V (or_nobody (slice_get stoppers t)) a b
+  pub all_stopped_told : (ks : List ℕ) (ns : List NetNode) (stoppers : List (Option ℕ)) (t : ℕ) (a b : Bool) → t < length stoppers → TellsStop V (flattened (slice_get stoppers t)) a b
       → Grows (all_stopped fire ns stoppers ks).nodes full
-      → TellsStop V (or_nobody (slice_get (all_stopped fire ns stoppers ks).stoppers t)) (a || is_in ks t) (b || (f && is_in ks t))
+      → TellsStop V (flattened (slice_get (all_stopped fire ns stoppers ks).stoppers t)) (a || is_in ks t) (b || (f && is_in ks t))
   unfolding all_stopped is_in
   all_stopped_told [] ns stoppers t a b l h grows =
-      subst (λ (x : Bool). TellsStop V (or_nobody (slice_get stoppers t)) x (b || (f && false))) (none_more a)
-      (subst (TellsStop V (or_nobody (slice_get stoppers t)) a) (none_stopped b f) h)
+      subst (λ (x : Bool). TellsStop V (flattened (slice_get stoppers t)) x (b || (f && false))) (none_more a)
+      (subst (TellsStop V (flattened (slice_get stoppers t)) a) (none_stopped b f) h)
   all_stopped_told (k ∷ ks) ns stoppers t a b l h grows =
-      let p = with_stopper fire ns (or_nobody (slice_get stoppers k)) in
+      let p = with_stopper fire ns (flattened (slice_get stoppers k)) in
       let bs = slice_set stoppers k (Some p.place) in
       let first = one_stopped ns stoppers k t a b l h (grows_trans (all_stopped_grows fire p.nodes bs ks) grows) in
       let rest = all_stopped_told ks p.nodes bs t (a || (k == t)) (b || (f && (k == t))) (subst (λ (n : ℕ). t < n) (sym (length-set stoppers k (Some p.place))) l) first grows in
-      let o = or_nobody (slice_get (all_stopped fire p.nodes bs ks).stoppers t) in
+      let o = flattened (slice_get (all_stopped fire p.nodes bs ks).stoppers t) in
       subst (λ (x : Bool). TellsStop V o x (b || (f && is_in (k ∷ ks) t))) (more_stops a (k == t) (is_in ks t))
       (subst (TellsStop V o ((a || (k == t)) || is_in ks t)) (more_stopped b f (k == t) (is_in ks t)) rest)

@@ -1,4 +1,4 @@
--- What the net so far holds of the elements that stand in it, whatever the words of its nodes are.
+-- What the net so far holds of the elements that are in it, whatever the words of its nodes are.
 use Rattle.std.proofs.Common.{◌≡◌, ◌≢◌, ◌∙◌, ◌<◌, ◌⊎◌, inl, inr, ℕ, Bool, true, false, cond, List, [], ◌∷◌, ◌++◌, Option, Some, None, refl, sym, ap, subst, arith, length, option_map, append-nil, append_assoc}
 use Rattle.std.specs.Prelude.{slice_get, slice_set, nat_lt, ◌==◌}
 use Rattle.std.proofs.lemmas.Bool.{eqb-true, eqb-false}
@@ -8,7 +8,7 @@ use Rattle.bsv_lemmas.proofs.Places.{set_there, set_elsewhere}
 use Rattle.bsv_design.specs.declared.element.Call.{Call}
 use Rattle.bsv_design.specs.declared.element.Element.{Element}
 use Rattle.bsv_design.specs.declared.kind.Kind.{Kind}
-use Rattle.bsv_design.specs.Kinds.{kind_table}
+use Rattle.bsv_design.specs.tree.Kinds.{kind_table}
 use Rattle.bsv_graph.specs.Edges.{numbers_below}
 use Rattle.bsv_graph.specs.Orders.{In}
 use Rattle.bsv_net.specs.declared.node.NetNode.{NetNode}
@@ -18,19 +18,19 @@ use Rattle.bsv_ports.specs.CallSites.{or_none}
 use Rattle.bsv_fire.specs.Bodies.{sites}
 use Rattle.bsv_fire.specs.Grounds.{Ground}
 use Rattle.bsv_ports.specs.Ports.{port}
-use Rattle.bsv_fire.specs.Growing.{Growing, element_body, is_open, with_port, with_method, with_seen, with_seen_in, with_ports, with_element, with_number, grown, none_placed}
+use Rattle.bsv_fire.specs.FireBuilder.{FireBuilder, element_body, is_open, with_port, with_method, with_seen, with_seen_in, with_ports, with_element, with_number, grown, none_placed}
 
 -- beside the nodes, the ports and who is stopped, both hold the same
-pub record HoldSame (x y : Growing) : Type 0 where
+pub record HoldSame (x y : FireBuilder) : Type 0 where
   pub fires : x.fires ≡ y.fires
   pub readies : x.readies ≡ y.readies
   pub results : x.results ≡ y.results
   pub sites : x.sites ≡ y.sites
 
-pub same_again : (x : Growing) → HoldSame x x
+pub same_again : (x : FireBuilder) → HoldSame x x
 same_again x = record { fires = refl; readies = refl; results = refl; sites = refl }
 
-pub same_then : (x y z : Growing) → HoldSame x y → HoldSame y z → HoldSame x z
+pub same_then : (x y z : FireBuilder) → HoldSame x y → HoldSame y z → HoldSame x z
 same_then x y z a b = record {
   fires = a.fires ∙ b.fires;
   readies = a.readies ∙ b.readies;
@@ -38,33 +38,33 @@ same_then x y z a b = record {
   sites = a.sites ∙ b.sites;
 }
 
-hold_if : (b : Bool) (y x : Growing) → HoldSame y x → HoldSame (cond b y x) x
+hold_if : (b : Bool) (y x : FireBuilder) → HoldSame y x → HoldSame (cond b y x) x
 hold_if true y x h = h
 hold_if false y x h = same_again x
 
 module _ (g : Ground) where
-  method_holds : (k : Kind) (i m : ℕ) (x : Growing) → HoldSame (with_method g k i m x) x
+  method_holds : (k : Kind) (i m : ℕ) (x : FireBuilder) → HoldSame (with_method g k i m x) x
   method_holds k i m x =
       hold_if (is_open x.ports i m) (with_port x i m (port (kind_table k) g.base.none x.fires x.sites m x.nodes (or_none (slice_get g.call_sites i)))) x
       (record { fires = refl; readies = refl; results = refl; sites = refl })
 
-  seen_if : (k : Kind) (i m : ℕ) (x : Growing) (b : Bool) → HoldSame (cond b (with_method g k i m x) x) x
+  seen_if : (k : Kind) (i m : ℕ) (x : FireBuilder) (b : Bool) → HoldSame (cond b (with_method g k i m x) x) x
   seen_if k i m x b = hold_if b (with_method g k i m x) x (method_holds k i m x)
 
-  seen_holds : (k : Kind) (i y : ℕ) (x : Growing) (ms : List ℕ) → HoldSame (with_seen g k i y x ms) x
+  seen_holds : (k : Kind) (i y : ℕ) (x : FireBuilder) (ms : List ℕ) → HoldSame (with_seen g k i y x ms) x
   unfolding with_seen
   seen_holds k i y x [] = same_again x
   seen_holds k i y x (m ∷ ms) =
       let next = cond ((kind_table k).sees m y) (with_method g k i m x) x in
       same_then (with_seen g k i y next ms) next x (seen_holds k i y next ms) (seen_if k i m x ((kind_table k).sees m y))
 
-  seen_in_holds : (o : Option Kind) (i y : ℕ) (x : Growing) → HoldSame (with_seen_in g o i y x) x
+  seen_in_holds : (o : Option Kind) (i y : ℕ) (x : FireBuilder) → HoldSame (with_seen_in g o i y x) x
   seen_in_holds None i y x = same_again x
   seen_in_holds (Some k) i y x =
       let seen = numbers_below (kind_table k).methods in
       hold_if (nat_lt y (kind_table k).methods) (with_seen g k i y x seen) x (seen_holds k i y x seen)
 
-  pub ports_hold : (x : Growing) (cs : List Call) → HoldSame (with_ports g x cs) x
+  pub ports_hold : (x : FireBuilder) (cs : List Call) → HoldSame (with_ports g x cs) x
   unfolding with_ports
   ports_hold x [] = same_again x
   ports_hold x (c ∷ cs) =
@@ -72,7 +72,7 @@ module _ (g : Ground) where
       same_then (with_ports g next cs) next x (ports_hold next cs) (seen_in_holds (slice_get g.base.kinds c.part) c.part c.method x)
 
 -- each of these elements has its result and its sites, over places of its own, and the lists are as long as there are elements
-pub record Holds (es : List Element) (x : Growing) (placed : List ℕ) : Type 0 where
+pub record Holds (es : List Element) (x : FireBuilder) (placed : List ℕ) : Type 0 where
   pub long_fires : length x.fires ≡ length es
   pub long_readies : length x.readies ≡ length es
   pub long_results : length x.results ≡ length es
@@ -92,9 +92,9 @@ last_or_front (x ∷ xs) n k (inr i) = of (last_or_front xs n k i)
     of (inr e) = inr e
 
 module _ (g : Ground) where
-  -- an element that is placed stands there, and the others stay
-  module _ (x : Growing) (placed : List ℕ) (h : Holds g.elements x placed) (n : ℕ) (e : Element) (there : slice_get g.elements n ≡ Some e) where
-    abbrev y : Growing
+  -- an element that is placed is there, and the others stay
+  module _ (x : FireBuilder) (placed : List ℕ) (h : Holds g.elements x placed) (n : ℕ) (e : Element) (there : slice_get g.elements n ≡ Some e) where
+    abbrev y : FireBuilder
     y = with_ports g x e.calls
 
     within : n < length g.elements
@@ -153,7 +153,7 @@ module _ (g : Ground) where
       each = λ k f i at. each_stands k f i at (n == k) refl;
     }
 
-  number_holds : (x : Growing) (placed : List ℕ) → Holds g.elements x placed → (n : ℕ) (o : Option Element) → slice_get g.elements n ≡ o
+  number_holds : (x : FireBuilder) (placed : List ℕ) → Holds g.elements x placed → (n : ℕ) (o : Option Element) → slice_get g.elements n ≡ o
       → Holds g.elements (with_number g x n o) (placed ++ n ∷ [])
   number_holds x placed h n (Some e) there = element_holds x placed h n e there
   number_holds x placed h n None past = record {
@@ -168,7 +168,7 @@ module _ (g : Ground) where
       of {k} {f} (inl j) at = j
       of {k} {f} (inr j) at = absurd (let e : slice_get g.elements n ≡ Some f = ap (slice_get g.elements) (sym j) ∙ at in let no_one : ⊥ = cc in no_one)
 
-  pub grown_holds : (x : Growing) (placed ns : List ℕ) → Holds g.elements x placed → Holds g.elements (grown g x ns) (placed ++ ns)
+  pub grown_holds : (x : FireBuilder) (placed ns : List ℕ) → Holds g.elements x placed → Holds g.elements (grown g x ns) (placed ++ ns)
   unfolding grown
   grown_holds x placed [] h = subst (λ (ms : List ℕ). Holds g.elements x ms) (sym (append-nil placed)) h
   grown_holds x placed (n ∷ ns) h =

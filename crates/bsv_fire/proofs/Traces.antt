@@ -12,14 +12,14 @@ use Rattle.bsv_design.specs.declared.element.Call.{Call}
 use Rattle.bsv_design.specs.declared.element.Condition.{Condition}
 use Rattle.bsv_design.specs.declared.element.Element.{Element}
 use Rattle.bsv_design.specs.declared.kind.Kind.{Kind}
-use Rattle.bsv_design.specs.Bodies.{Answers, at, target, words}
-use Rattle.bsv_design.specs.Designs.{HasWidths}
-use Rattle.bsv_design.specs.Kinds.{kind_table}
-use Rattle.bsv_design.specs.Running.{is_one}
-use Rattle.bsv_design.specs.Schemes.{answers, design_scheme, given, is_open, kinds_of, outline, ports_of, seen, trace_of, value}
-use Rattle.bsv_design.specs.States.{AreWordsOf, FitLook}
-use Rattle.bsv_design.specs.Traces.{Site, Trace, acts, body_trace, demand_at, kind_at, site_at}
-use Rattle.bsv_design.specs.Widths.{args_fit, call_fits, condition_fits, has_width, method_fits}
+use Rattle.bsv_design.specs.design.Bodies.{Answers, at, target, words}
+use Rattle.bsv_design.specs.design.Designs.{HasWidths}
+use Rattle.bsv_design.specs.tree.Kinds.{kind_table}
+use Rattle.bsv_design.specs.carrying.Running.{is_one}
+use Rattle.bsv_design.specs.scheme.Schemes.{answers, design_scheme, given, is_open, kinds_of, outline, ports_of, seen, trace_of, value}
+use Rattle.bsv_design.specs.scheme.States.{AreWordsOf, FitLook}
+use Rattle.bsv_design.specs.scheme.Traces.{Site, Trace, acts, body_trace, demand_at, kind_at, site_at}
+use Rattle.bsv_design.specs.design.Widths.{args_fit, call_fits, condition_fits, has_width, method_fits}
 use Rattle.bsv_guard.specs.Fitting.{HaveWidths}
 use Rattle.bsv_guard.proofs.BodyFits.{call_fit, width_is, word_there}
 use Rattle.bsv_guard.proofs.DesignFits.{element_words}

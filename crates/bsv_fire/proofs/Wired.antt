@@ -6,16 +6,16 @@ use Rattle.bsv_bits.specs.Words.{Bits}
 use Rattle.bsv_prim.specs.Signals.{Signals, is_one, word_of}
 use Rattle.bsv_prim.specs.Table.{word_at}
 use Rattle.bsv_design.specs.declared.kind.Kind.{Kind}
-use Rattle.bsv_design.specs.Bodies.{Target, Answers}
-use Rattle.bsv_design.specs.Kinds.{kind_table}
-use Rattle.bsv_design.specs.Schemes.{design_scheme}
-use Rattle.bsv_design.specs.Traces.{kind_at}
+use Rattle.bsv_design.specs.design.Bodies.{Target, Answers}
+use Rattle.bsv_design.specs.tree.Kinds.{kind_table}
+use Rattle.bsv_design.specs.scheme.Schemes.{design_scheme}
+use Rattle.bsv_design.specs.scheme.Traces.{kind_at}
 use Rattle.bsv_net.specs.declared.wires.MethodPort.{MethodPort}
 use Rattle.bsv_net.specs.AtHand.{called_in, args_in}
 use Rattle.bsv_net.specs.Placing.{node_at}
 use Rattle.bsv_fire.specs.Bodies.{Ports}
 use Rattle.bsv_fire.specs.Grounds.{Base}
-use Rattle.bsv_fire.specs.Growing.{Growing}
+use Rattle.bsv_fire.specs.FireBuilder.{FireBuilder}
 use Rattle.bsv_ports.proofs.Scene.{Scene, S, TellsPort, last_call}
 use Rattle.bsv_fire.proofs.Frame.{Tells, placed_port}
 
@@ -25,7 +25,7 @@ pub record SeesPorts (z : Scene) (ports : Ports) (t : Target) : Type 0 where
       → (p : MethodPort) × (placed_port ports t.part m ≡ Some p) × TellsPort z.V ((kind_table k).arity m) (last_call z t.part m) p
 
 -- in a net that tells of the elements in it, it is enough that they are placed
-pub sees_ports : (z : Scene) (x : Growing) (placed : List ℕ) → Tells z x placed → (t : Target)
+pub sees_ports : (z : Scene) (x : FireBuilder) (placed : List ℕ) → Tells z x placed → (t : Target)
     → ((k : Kind) → kind_at (S z).kinds t ≡ Some k → (m : ℕ) → m < (kind_table k).methods → (kind_table k).sees m t.method ≡ true
     → (p : MethodPort) × (placed_port x.ports t.part m ≡ Some p))
     → SeesPorts z x.ports t

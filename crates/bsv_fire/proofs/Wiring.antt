@@ -1,9 +1,9 @@
 -- What is known of the guards and of the results of the methods that an element uses, where they are placed.
 use Rattle.std.proofs.Common.{◌≡◌, ℕ, true, false, List, length, map}
 use Rattle.bsv_bits.specs.Words.{Bits, bit}
-use Rattle.bsv_design.specs.Bodies.{Target, Answers}
-use Rattle.bsv_design.specs.Schemes.{is_open, result_of}
-use Rattle.bsv_design.specs.Traces.{acts, kind_at}
+use Rattle.bsv_design.specs.design.Bodies.{Target, Answers}
+use Rattle.bsv_design.specs.scheme.Schemes.{is_open, result_of}
+use Rattle.bsv_design.specs.scheme.Traces.{acts, kind_at}
 use Rattle.bsv_guard.specs.ElementLaws.{IsUse}
 use Rattle.bsv_guard.specs.Fitting.{IsFitCall}
 use Rattle.bsv_net.specs.declared.node.NetNode.{NetNode}

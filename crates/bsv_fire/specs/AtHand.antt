@@ -3,10 +3,10 @@ use Rattle.std.specs.Prelude.{List, map}
 use Rattle.bsv_design.specs.declared.design.NamedPart.{NamedPart}
 use Rattle.bsv_design.specs.declared.kind.Kind.{Kind}
 use Rattle.bsv_fire.specs.declared.body.Pieces.{Pieces}
-use Rattle.bsv_fire.specs.declared.draft.Draft.{Draft}
-use Rattle.bsv_fire.specs.declared.growing.Growing.{Growing as GrowingAtHand}
+use Rattle.bsv_fire.specs.declared.net_so_far.NetSoFar.{NetSoFar}
+use Rattle.bsv_fire.specs.declared.builder.FireBuilder.{FireBuilder as GrowingAtHand}
 use Rattle.bsv_fire.specs.Grounds.{Base, Ground}
-use Rattle.bsv_fire.specs.Growing.{Growing}
+use Rattle.bsv_fire.specs.FireBuilder.{FireBuilder}
 
 abbrev pub kinds : List NamedPart → List Kind
 kinds ps = map (λ p. p.kind) ps
@@ -24,8 +24,8 @@ ground g = record {
   inputs = g.inputs.now;
 }
 
-abbrev pub draft : Draft → Growing
-draft d = record {
+abbrev pub net_so_far : NetSoFar → FireBuilder
+net_so_far d = record {
   nodes = d.nodes;
   ports = d.ports.items;
   stoppers = d.stoppers.items;

@@ -7,7 +7,7 @@ use Rattle.bsv_design.specs.declared.kind.Kind.{Kind}
 use Rattle.bsv_design.specs.declared.node.Node.{Node}
 use Rattle.bsv_design.specs.declared.node.Node.TheVariants as node
 use Rattle.bsv_design.specs.declared.schedule.Need.{Need}
-use Rattle.bsv_design.specs.Kinds.{kind_table}
+use Rattle.bsv_design.specs.tree.Kinds.{kind_table}
 use Rattle.bsv_net.specs.declared.node.NetNode.{NetNode}
 use Rattle.bsv_net.specs.declared.node.NetNode.TheVariants as net
 use Rattle.bsv_net.specs.declared.node.Site.{Site}
@@ -85,7 +85,7 @@ module _ (g : Base) (ports : Ports) where
 
 -- ---- bits
 
--- the bit that is 1 where all of these are, behind one
+-- the bit that is 1 where all of these are, after one
 unfoldable pub all_from : List NetNode → ℕ → List ℕ → Placed
 all_from ns a [] = record { nodes = ns; place = a }
 all_from ns a (b ∷ bs) = all_from (both ns a b).nodes (both ns a b).place bs

@@ -4,26 +4,26 @@ use Rattle.std.specs.Prelude.{◌≡◌, ◌<◌, ℕ, Bool, true, List, map, le
 use Rattle.bsv_bits.specs.Words.{Bits, bit}
 use Rattle.bsv_prim.specs.declared.part.Part.{Part}
 use Rattle.bsv_design.specs.declared.schedule.Schedule.{Schedule}
-use Rattle.bsv_design.specs.Bodies.{Target, at}
-use Rattle.bsv_design.specs.Schemes.{Scheme, Asking, seen}
-use Rattle.bsv_design.specs.Traces.{Site, kind_at}
+use Rattle.bsv_design.specs.design.Bodies.{Target, at}
+use Rattle.bsv_design.specs.scheme.Schemes.{Scheme, Asking, seen}
+use Rattle.bsv_design.specs.scheme.Traces.{Site, kind_at}
 use Rattle.bsv_graph.specs.Orders.{In}
 use Rattle.bsv_guard.specs.Fitting.{HaveWidths}
-use Rattle.bsv_clock.specs.Hardware.{Shows, TellsElements, cell, cells_of, cell_widths, inputs_of, input_widths}
+use Rattle.bsv_clock.specs.Shows.{Shows, TellsElements, cell, cells_of, cell_widths, inputs_of, input_widths}
 use Rattle.bsv_clock.specs.Clocks.{IsClock}
 use Rattle.bsv_clock.specs.Grounds.{Fit}
 use Rattle.bsv_clock.specs.Looks.{clock_look}
-use Rattle.bsv_net.specs.declared.circuit.Circuit.{Circuit}
+use Rattle.bsv_net.specs.declared.net_data.NetData.{NetData}
 use Rattle.bsv_net.specs.declared.node.Site.{Site as NetSite}
-use Rattle.bsv_net.specs.Circuits.{words}
-use Rattle.bsv_net.specs.Hardware.{NamesNoResult, gives, given_at}
+use Rattle.bsv_net.specs.Nets.{words}
+use Rattle.bsv_net.specs.ShowsByNet.{NamesNoResult, gives, given_at}
 use Rattle.bsv_ports.specs.CallSites.{or_none}
 use Rattle.bsv_ports.specs.Ports.{arity_of}
 
 -- ---- calls
 
 -- the nodes of the calls of an element
-abbrev pub sites_of : Circuit → ℕ → List NetSite
+abbrev pub sites_of : NetData → ℕ → List NetSite
 sites_of c n = or_none (slice_get c.sites n)
 
 -- the words of the nodes of a call tell the call: whether it is taken, and its arguments where it is
@@ -34,14 +34,14 @@ pub record TellsSite (vs : List Bits) (x : Site) (s : NetSite) : Type 0 where
 -- ---- clocks
 
 -- what a circuit tells of a clock in which these elements fire, whose nodes have these words
-pub record TellsFiring (aggressive : Bool) (S : Scheme) (q : Asking) (s : List Part) (fired : List ℕ) (c : Circuit) (vs : List Bits) : Type 0 where
+pub record TellsFiring (aggressive : Bool) (S : Scheme) (q : Asking) (s : List Part) (fired : List ℕ) (c : NetData) (vs : List Bits) : Type 0 where
   pub elements : TellsElements aggressive S q s fired (given_at c vs)
   -- the calls of an element that fires, as it makes them under the look of the clock
   pub sites : (n : ℕ) → In fired n → (k : ℕ) (x : Site) (y : NetSite)
       → slice_get (seen S q n (clock_look S q s fired)).sites k ≡ Some x → slice_get (sites_of c n) k ≡ Some y
       → TellsSite vs x y
 
-pub record Fires (aggressive : Bool) (S : Scheme) (made : Schedule) (c : Circuit) : Type 0 where
+pub record Fires (aggressive : Bool) (S : Scheme) (made : Schedule) (c : NetData) : Type 0 where
   pub registers : map cell c.registers ≡ cells_of S.kinds
   pub inputs : c.inputs ≡ input_widths S
   pub count : length c.fires ≡ length S.elements

@@ -11,7 +11,7 @@ pub record Base : Type 0 where
   pub kinds : List Kind
   -- of each part the node of its first register
   pub registers : List ℕ
-  -- the node that is 0; the one that is 1 stands behind it
+  -- the node that is 0; the one that is 1 comes after it
   pub none : ℕ
 
 pub record Ground : Type 0 where

@@ -1,6 +1,6 @@
 pub mod Grounds
 pub mod Bodies
-pub mod Growing
-pub mod Circuits
+pub mod FireBuilder
+pub mod Nets
 pub mod Firing
 pub mod AtHand

@@ -262,7 +262,7 @@ pub fn sites(alloc: Global, places: &[u32], calls: &[Call]) -> Result<Items<Site
     Ok(found)
 }
 
-/// The truths of the conditions of an element stand behind these.
+/// The truths of the conditions of an element come after these.
 pub fn push_truths(
     bits: &mut Items<u32>,
     places: &[u32],

@@ -1,20 +1,20 @@
 ghost use Rattle.std.specs.Prelude.{◌≡◌, ◌+◌, IfOk, false, length, map, unwrap_or};
 ghost use Rattle.bsv_graph.specs.Edges.{numbers_below};
 ghost use Rattle.bsv_fire.specs.AtHand as hand;
-ghost use Rattle.bsv_fire.specs.Circuits as spec;
-ghost use Rattle.bsv_clock.specs.Hardware.{cells_of, input_widths_of};
+ghost use Rattle.bsv_fire.specs.Nets as spec;
+ghost use Rattle.bsv_clock.specs.Shows.{cells_of, input_widths_of};
 ghost use Rattle.bsv_clock.specs.Grounds.{IsScheduleOf, KeepsRules};
-ghost use Rattle.bsv_design.specs.Guards.{needs_of};
-ghost use Rattle.bsv_design.specs.Schemes.{design_scheme, kinds_of, outline};
-ghost use Rattle.bsv_design.specs.Seen.{blueprint};
+ghost use Rattle.bsv_design.specs.design.Guards.{needs_of};
+ghost use Rattle.bsv_design.specs.scheme.Schemes.{design_scheme, kinds_of, outline};
+ghost use Rattle.bsv_design.specs.tree.Seen.{design_data};
 ghost use Rattle.bsv_fire.specs.Firing.{Fires};
-ghost use Rattle.bsv_net.specs.AtHand.{circuit};
+ghost use Rattle.bsv_net.specs.AtHand.{net_data};
 
-use crate::draft::Draft;
-use crate::growing::Growing;
+use crate::net_so_far::NetSoFar;
+use crate::builder::FireBuilder;
 use bsv_bits::OutOfMemory;
 use bsv_design::{Design, Guards, Schedule};
-use bsv_net::{Circuit, Net};
+use bsv_net::{NetData, Net};
 use bsv_ports::{
     all_call_sites, first_nodes, input_starts, inputs_of, register_starts, registers_of,
 };
@@ -32,7 +32,7 @@ fn results_of(alloc: Global, results: &[Option<u32>], count: u32) -> Result<Item
     Ok(found)
 }
 
-/// The nodes of so many registers, of which the first stands here.
+/// The nodes of so many registers, of which the first is here.
 fn kept(alloc: Global, first: u32, count: u32) -> Result<Items<u32>, OutOfMemory>
     ensures { IfOk result (λ found. found ≡ map (λ k. first + k) (numbers_below count)) }
 {
@@ -46,8 +46,8 @@ fn kept(alloc: Global, first: u32, count: u32) -> Result<Items<u32>, OutOfMemory
     Ok(found)
 }
 
-/// The net in which all elements of the design stand, behind so many inputs and registers.
-#[tactic(auto, unfolding(crate::specs::Circuits::net))]
+/// The net in which all elements of the design stand, after so many inputs and registers.
+#[tactic(auto, unfolding(crate::specs::Nets::net))]
 fn whole_draft(
     alloc: Global,
     design: &Design,
@@ -55,11 +55,11 @@ fn whole_draft(
     schedule: &Schedule,
     inputs: u32,
     registers: u32,
-) -> Result<Draft, OutOfMemory>
+) -> Result<NetSoFar, OutOfMemory>
     requires inputs { inputs ≡ length (input_widths_of (map outline design.now.elements)) }
-    requires registers { registers ≡ length (cells_of (kinds_of (blueprint design.now))) }
-    ensures { IfOk result (λ draft. hand.draft draft
-        ≡ spec.net (blueprint design.now) guards.now.needs schedule.now) }
+    requires registers { registers ≡ length (cells_of (kinds_of (design_data design.now))) }
+    ensures { IfOk result (λ net_so_far. hand.net_so_far net_so_far
+        ≡ spec.net (design_data design.now) guards.now.needs schedule.now) }
 {
     let parts = design.parts.as_slice();
     let elements = design.elements.as_slice();
@@ -70,8 +70,8 @@ fn whole_draft(
     let input_starts = input_starts(alloc, elements)?;
     let register_starts = register_starts(alloc, inputs, parts)?;
     let nodes = first_nodes(alloc, inputs, registers)?;
-    let mut draft = Draft::new(alloc, nodes, parts, elements.len())?;
-    let growing = Growing {
+    let mut net_so_far = NetSoFar::new(alloc, nodes, parts, elements.len())?;
+    let builder = FireBuilder {
         alloc,
         design,
         guards,
@@ -81,8 +81,8 @@ fn whole_draft(
         registers: &register_starts,
         none,
     };
-    growing.grow(&mut draft)?;
-    Ok(draft)
+    builder.grow(&mut net_so_far)?;
+    Ok(net_so_far)
 }
 
 /// The circuit of a design, in which every register keeps its word.
@@ -91,9 +91,9 @@ fn fire_circuit(
     design: &Design,
     guards: &Guards,
     schedule: &Schedule,
-) -> Result<Circuit, OutOfMemory>
+) -> Result<NetData, OutOfMemory>
     ensures { IfOk result
-        (spec.IsFireCircuit (blueprint design.now) guards.now.needs schedule.now) }
+        (spec.IsFiringNet (design_data design.now) guards.now.needs schedule.now) }
 {
     let widths = inputs_of(alloc, design.elements.as_slice())?;
     let registers = registers_of(alloc, design.parts.as_slice())?;
@@ -103,21 +103,21 @@ fn fire_circuit(
     let Ok(count) = u32::try_from(registers.len()) else {
         return Err(OutOfMemory);
     };
-    let draft = whole_draft(alloc, design, guards, schedule, inputs, count)?;
-    let Ok(last) = u32::try_from(draft.nodes.len()) else {
+    let net_so_far = whole_draft(alloc, design, guards, schedule, inputs, count)?;
+    let Ok(last) = u32::try_from(net_so_far.nodes.len()) else {
         return Err(OutOfMemory);
     };
-    let results = results_of(alloc, draft.results.as_slice(), last)?;
+    let results = results_of(alloc, net_so_far.results.as_slice(), last)?;
     let nexts = kept(alloc, inputs, count)?;
-    Ok(Circuit {
+    Ok(NetData {
         inputs: widths,
         registers,
-        nodes: draft.nodes,
+        nodes: net_so_far.nodes,
         nexts,
-        fires: Items::from_vec(draft.fires),
-        readies: Items::from_vec(draft.readies),
+        fires: Items::from_vec(net_so_far.fires),
+        readies: Items::from_vec(net_so_far.readies),
         results,
-        sites: Items::from_vec(draft.sites),
+        sites: Items::from_vec(net_so_far.sites),
     })
 }
 
@@ -129,15 +129,15 @@ pub fn add_fire(
     guards: &Guards,
     schedule: &Schedule,
 ) -> Result<Net, OutOfMemory>
-    requires rules { KeepsRules (design_scheme (blueprint design.now)) }
+    requires rules { KeepsRules (design_scheme (design_data design.now)) }
     requires needs { guards.now.needs
-        ≡ needs_of (kinds_of (blueprint design.now)) design.now.elements }
-    requires schedule { IsScheduleOf (design_scheme (blueprint design.now)) schedule.now }
-    ensures { IfOk result (λ net. Fires false (design_scheme (blueprint design.now))
-        schedule.now (circuit net)) }
+        ≡ needs_of (kinds_of (design_data design.now)) design.now.elements }
+    requires schedule { IsScheduleOf (design_scheme (design_data design.now)) schedule.now }
+    ensures { IfOk result (λ net. Fires false (design_scheme (design_data design.now))
+        schedule.now (net_data net)) }
 {
-    let circuit = fire_circuit(alloc, design, guards, schedule)?;
-    match Net::new(alloc, circuit)? {
+    let net_data = fire_circuit(alloc, design, guards, schedule)?;
+    match Net::new(alloc, net_data)? {
         Some(net) => Ok(net),
         None => Err(OutOfMemory),
     }

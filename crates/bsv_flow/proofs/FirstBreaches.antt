@@ -4,11 +4,11 @@ use Rattle.std.specs.List.{slice_get}
 use Rattle.std.proofs.lemmas.Bool.{cases_Bool, cases_lt, cases_order, cond-false, false≢true, le-ltb}
 use Rattle.std.proofs.lemmas.Option.{none-some, same_Some}
 use Rattle.bsv_design.specs.declared.source.Source.{Source}
-use Rattle.bsv_design.specs.Relations.{IsBreach, IsFirstBreach, KeepsTheRule, break_the_rule, no_answers, sites_of}
-use Rattle.bsv_design.specs.Schemes.{Scheme, tree_scheme, carried_trace, filled, ports_of}
-use Rattle.bsv_design.specs.Sources.{element_at, element_count, source_at}
-use Rattle.bsv_design.specs.Traces.{Site}
-use Rattle.bsv_design.specs.Trees.{Hierarchy}
+use Rattle.bsv_design.specs.scheme.Relations.{IsBreach, IsFirstBreach, KeepsTheRule, break_the_rule, no_answers, sites_of}
+use Rattle.bsv_design.specs.scheme.Schemes.{Scheme, tree_scheme, carried_trace, filled, ports_of}
+use Rattle.bsv_design.specs.tree.Sources.{element_at, element_count, source_at}
+use Rattle.bsv_design.specs.scheme.Traces.{Site}
+use Rattle.bsv_design.specs.tree.Trees.{TreeData}
 
 -- ---- the first breach is one
 
@@ -223,10 +223,10 @@ module _ (S : Scheme) where
 
 -- ---- of a tree
 
-element_past : (h : Hierarchy) (n : ℕ) → element_count h ≤ n → element_at h n ≡ None
+element_past : (h : TreeData) (n : ℕ) → element_count h ≤ n → element_at h n ≡ None
 element_past h n past = cond-false (ltb n (element_count h)) (source_at h n) None (le-ltb n (element_count h) past)
 
-sites_past : (h : Hierarchy) (n : ℕ) → element_count h ≤ n → sites_of (tree_scheme h) n ≡ []
+sites_past : (h : TreeData) (n : ℕ) → element_count h ≤ n → sites_of (tree_scheme h) n ≡ []
 unfolding tree_scheme
 sites_past h n past =
     ap
@@ -234,5 +234,5 @@ sites_past h n past =
     (element_past h n past)
 
 -- a tree keeps the rule in each element, or has a first breach
-pub tree_decides : (h : Hierarchy) → ((n : ℕ) → KeepsTheRule (tree_scheme h) n) ⊎ FirstBreachOf (tree_scheme h)
+pub tree_decides : (h : TreeData) → ((n : ℕ) → KeepsTheRule (tree_scheme h) n) ⊎ FirstBreachOf (tree_scheme h)
 tree_decides h = kept_or_breached (tree_scheme h) (element_count h) (sites_past h)

@@ -8,14 +8,14 @@ use Rattle.bsv_design.specs.declared.design.NamedPart.{NamedPart}
 use Rattle.bsv_design.specs.declared.element.Element.{Element}
 use Rattle.bsv_design.specs.declared.kind.Kind.{Kind}
 use Rattle.bsv_design.specs.declared.kind.Kind.TheVariants as kind
-use Rattle.bsv_design.specs.Designs.{Blueprint}
-use Rattle.bsv_design.specs.Kinds.{kind_table}
-use Rattle.bsv_design.specs.MethodNames.{method_names}
-use Rattle.bsv_design.specs.Relations.{KeepsTheRule}
-use Rattle.bsv_design.specs.Schemes.{Outline, outline, design_scheme, tree_scheme, AreAlike}
-use Rattle.bsv_design.specs.Seen.{blueprint}
-use Rattle.bsv_design.specs.Sources.{parts_among}
-use Rattle.bsv_design.specs.Trees.{Hierarchy}
+use Rattle.bsv_design.specs.design.Designs.{DesignData}
+use Rattle.bsv_design.specs.tree.Kinds.{kind_table}
+use Rattle.bsv_design.specs.tree.MethodNames.{method_names}
+use Rattle.bsv_design.specs.scheme.Relations.{KeepsTheRule}
+use Rattle.bsv_design.specs.scheme.Schemes.{Outline, outline, design_scheme, tree_scheme, AreAlike}
+use Rattle.bsv_design.specs.tree.Seen.{design_data}
+use Rattle.bsv_design.specs.tree.Sources.{parts_among}
+use Rattle.bsv_design.specs.tree.Trees.{TreeData}
 use Rattle.bsv_guard.specs.ElementLaws.{ElementLaws}
 use Rattle.bsv_guard.specs.Lifted.{NamesFirst}
 use Rattle.bsv_guard.proofs.Alike as same
@@ -50,7 +50,7 @@ as_many (kind.Bypass k) = refl
 pub no_more_names : (k : Kind) (m : ℕ) → (kind_table k).methods ≤ m → slice_get (method_names k) m ≡ None
 no_more_names k m l = slice_get_past (method_names k) m (subst (λ n. n ≤ m) (sym (as_many k)) l)
 
-module _ (h : Hierarchy) (b : Blueprint) (alike : AreAlike (tree_scheme h) (design_scheme b)) (parts : b.parts ≡ parts_among h.instances) where
+module _ (h : TreeData) (b : DesignData) (alike : AreAlike (tree_scheme h) (design_scheme b)) (parts : b.parts ≡ parts_among h.instances) where
   element_same : (n : ℕ) → element_name (design_scheme b) n ≡ element_name (tree_scheme h) n
   element_same n = ap (λ (os : List Outline). outline_name (slice_get os n)) (sym alike.elements)
 
@@ -73,8 +73,8 @@ module _ (h : Hierarchy) (b : Blueprint) (alike : AreAlike (tree_scheme h) (desi
   pub keeps : ((n : ℕ) → KeepsTheRule (design_scheme b) n) → (n : ℕ) → KeepsTheRule (tree_scheme h) n
   keeps all n = ((same.alike (tree_scheme h) (design_scheme b) alike).rule_same n).1 (all n)
 
-pub laws_of : (h : Hierarchy) (d : Design) → AreAlike (tree_scheme h) (design_scheme (blueprint d)) → ∥ ElementLaws (tree_scheme h) ∥₁
+pub laws_of : (h : TreeData) (d : Design) → AreAlike (tree_scheme h) (design_scheme (design_data d)) → ∥ ElementLaws (tree_scheme h) ∥₁
 laws_of h d alike =
     ∥∥₁_elim d.right ∥∥₁_prop
     (λ right. ∣ sound_keeps (tree_scheme h)
-    (sound_alike (design_scheme (blueprint d)) (tree_scheme h) (same.alike_back (tree_scheme h) (design_scheme (blueprint d)) alike) (design_is_sound (blueprint d) right)) ∣₁)
+    (sound_alike (design_scheme (design_data d)) (tree_scheme h) (same.alike_back (tree_scheme h) (design_scheme (design_data d)) alike) (design_is_sound (design_data d) right)) ∣₁)

@@ -12,7 +12,7 @@ use Rattle.bsv_expr.specs.Expression.{IsShallow}
 use Rattle.bsv_parse.specs.Reads.{IsTooDeep}
 use Rattle.bsv_parse.proofs.Deepest.{deep_found}
 use Rattle.bsv_parse.proofs.Judged.{deep_is}
-use Rattle.bsv_check.specs.Checked.{Made}
+use Rattle.bsv_check.specs.Checked.{ProgramParts}
 use Rattle.bsv_flow.specs.declared.loading.Loaded.{Loaded}
 use Rattle.bsv_flow.specs.declared.refusal.Refusal.{Refusal}
 use Rattle.bsv_flow.specs.declared.refusal.Refusal.TheVariants as refusal
@@ -101,7 +101,7 @@ module _ (file bytes : List ℕ) where
 -- ---- of loading
 
 module _ (first : List ℕ) (contents : List ℕ → List ℕ) where
-  -- of two places where loading ends, neither stands before the other
+  -- of two places where loading ends, neither comes before the other
   one_count : (name also : List ℕ) (at : Reaches first contents name) (there : Reaches first contents also)
       → (Passes first contents name at.queue → ⊥) → (Passes first contents also there.queue → ⊥) → length at.packages ≡ length there.packages
   one_count name also at there stays too =
@@ -147,10 +147,10 @@ module _ (first : List ℕ) (contents : List ℕ → List ℕ) where
       let same : l ≡ m = loading.same first contents l m one.loaded other.loaded in
       same_made one.made other.made (sym one.typed ∙ ap typing_of same ∙ other.typed)
     where
-      same_made : (a b : Made) → ◌≡◌ {A = Result Made Refusal} (Ok a) (Ok b) → a ≡ b
+      same_made : (a b : ProgramParts) → ◌≡◌ {A = Result ProgramParts Refusal} (Ok a) (Ok b) → a ≡ b
       same_made a b e = cc
 
-  typed_refusal : (r s : Refusal) → ◌≡◌ {A = Result Made Refusal} (Err r) (Err s) → r ≡ s
+  typed_refusal : (r s : Refusal) → ◌≡◌ {A = Result ProgramParts Refusal} (Err r) (Err s) → r ≡ s
   typed_refusal r s e = cc
 
   pub of_typing : (r s : Refusal) → IsUntyped first contents r → IsUntyped first contents s → IsSameRefusal r s

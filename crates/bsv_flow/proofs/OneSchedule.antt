@@ -8,25 +8,25 @@ use Rattle.bsv_lemmas.proofs.Choices.{same_ok, same_err}
 use Rattle.bsv_design.specs.declared.schedule.Schedule.{Schedule}
 use Rattle.bsv_design.specs.declared.tree.Attribute.TheVariants as attribute
 use Rattle.bsv_design.specs.declared.tree.Pair.{Pair}
-use Rattle.bsv_design.specs.Relations.{KeepsTheRule}
-use Rattle.bsv_design.specs.Schemes.{tree_scheme}
-use Rattle.bsv_design.specs.Sources.{parts_among}
-use Rattle.bsv_design.specs.Traces.{Site}
-use Rattle.bsv_design.specs.Trees.{Hierarchy}
+use Rattle.bsv_design.specs.scheme.Relations.{KeepsTheRule}
+use Rattle.bsv_design.specs.scheme.Schemes.{tree_scheme}
+use Rattle.bsv_design.specs.tree.Sources.{parts_among}
+use Rattle.bsv_design.specs.scheme.Traces.{Site}
+use Rattle.bsv_design.specs.tree.Trees.{TreeData}
 use Rattle.bsv_schedule.specs.relating.Elements.{relating, edge_of, edges_of, is_urging}
-use Rattle.bsv_schedule.specs.executing.Orders.{Executes, ExecutionCycle}
+use Rattle.bsv_schedule.specs.execution_order.Orders.{Executes, ExecutionCycle}
 use Rattle.bsv_schedule.specs.relating.Relating.{feed_edges}
 use Rattle.bsv_schedule.specs.stopping.Stops.{AreStops}
-use Rattle.bsv_schedule.specs.urging.Orders.{Urges, UrgencyCycle}
+use Rattle.bsv_schedule.specs.urgency_order.Orders.{Urges, UrgencyCycle}
 use Rattle.bsv_graph.specs.Walks.{IsAcyclic}
 use Rattle.bsv_schedule.proofs.Answering.{executes_or_refused, urges_or_declined, stops_exist, stops_one}
-use Rattle.bsv_schedule.specs.declared.executing.fault.OrderFault.{OrderFault}
-use Rattle.bsv_schedule.specs.declared.executing.fault.OrderFault.TheVariants as order
-use Rattle.bsv_schedule.specs.executing.Answers as executing
+use Rattle.bsv_schedule.specs.declared.execution_order.fault.OrderFault.{OrderFault}
+use Rattle.bsv_schedule.specs.declared.execution_order.fault.OrderFault.TheVariants as order
+use Rattle.bsv_schedule.specs.execution_order.Answers as executing
 use Rattle.bsv_schedule.proofs.OneExecution as execution
-use Rattle.bsv_schedule.specs.declared.urging.fault.UrgencyFault.{UrgencyFault}
-use Rattle.bsv_schedule.specs.declared.urging.fault.UrgencyFault.TheVariants as urgency
-use Rattle.bsv_schedule.specs.urging.Answers as urging
+use Rattle.bsv_schedule.specs.declared.urgency_order.fault.UrgencyFault.{UrgencyFault}
+use Rattle.bsv_schedule.specs.declared.urgency_order.fault.UrgencyFault.TheVariants as urgency
+use Rattle.bsv_schedule.specs.urgency_order.Answers as urging
 use Rattle.bsv_schedule.proofs.OneUrgency as urged
 use Rattle.bsv_attr.specs.declared.fault.AttrFault.{AttrFault}
 use Rattle.bsv_attr.specs.declared.fault.AttrFault.TheVariants.{NoImplicit, FireWhenEnabled}
@@ -42,7 +42,7 @@ use Rattle.bsv_flow.proofs.FirstBreaches.{FirstBreachOf, tree_decides}
 -- ---- two calls of one element
 
 -- a tree has one first breach, which is told in one way
-one_breach : (h : Hierarchy) (r s : Refusal) → TellsBreach h r → TellsBreach h s → r ≡ s
+one_breach : (h : TreeData) (r s : Refusal) → TellsBreach h r → TellsBreach h s → r ≡ s
 one_breach h r s one other =
     let S = tree_scheme h in
     let ps = parts_among h.instances in
@@ -54,14 +54,14 @@ one_breach h r s one other =
     ∙ sym other.told
 
 -- the refusal of a first breach
-told_of : (h : Hierarchy) → FirstBreachOf (tree_scheme h) → (r : Refusal) × TellsBreach h r
+told_of : (h : TreeData) → FirstBreachOf (tree_scheme h) → (r : Refusal) × TellsBreach h r
 told_of h found = (
   refusal.InRule (element_name (tree_scheme h) found.element) (part_path (parts_among h.instances) found.one.target.part)
       (method_name (parts_among h.instances) found.one.target.part found.one.target.method) (method_name (parts_among h.instances) found.one.target.part found.other.target.method),
   record { element = found.element; earlier = found.earlier; later = found.later; one = found.one; other = found.other; breach = found.breach; told = refl },
 )
 
-not_breached : (h : Hierarchy) (r : Refusal) → ((n : ℕ) → KeepsTheRule (tree_scheme h) n) → TellsBreach h r → ⊥
+not_breached : (h : TreeData) (r : Refusal) → ((n : ℕ) → KeepsTheRule (tree_scheme h) n) → TellsBreach h r → ⊥
 not_breached h r kept tells = kept tells.element tells.earlier tells.later tells.one tells.other tells.breach.breach
 
 -- ---- answers
@@ -186,7 +186,7 @@ module _ (s : Subject) where
 pub one_schedule : (s : Subject) (x y : Schedule) → IsScheduled s x → IsScheduled s y → x ≡ y
 one_schedule s x y one other = one_ordered s x y one.ordered other.ordered
 
-module _ (h : Hierarchy) where
+module _ (h : TreeData) where
   abbrev s : Subject
   s = subject h
 

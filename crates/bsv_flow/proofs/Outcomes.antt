@@ -1,6 +1,6 @@
 -- The contents of the files decide what is typed or refused.
 use Rattle.std.proofs.Common.{◌≡◌, ℕ, ◌⊎◌, inl, inr, List, Result, Ok, Err, refl, sym, ◌∙◌, ap}
-use Rattle.bsv_check.specs.Checked.{Made}
+use Rattle.bsv_check.specs.Checked.{ProgramParts}
 use Rattle.bsv_flow.specs.declared.loading.Loaded.{Loaded}
 use Rattle.bsv_flow.specs.declared.refusal.Refusal.{Refusal}
 use Rattle.bsv_flow.specs.Loads.{IsLoaded}
@@ -11,7 +11,7 @@ module _ (first : List ℕ) (contents : List ℕ → List ℕ) where
   pub same : (l m : Loaded) → IsTyped first contents l → IsTyped first contents m → l ≡ m
   same l m one two = loading.same first contents l m one.loaded two.loaded
 
-  not_both : (given : Result Made Refusal) (made : Made) (r : Refusal) → given ≡ Ok made → given ≡ Err r → ⊥
+  not_both : (given : Result ProgramParts Refusal) (made : ProgramParts) (r : Refusal) → given ≡ Ok made → given ≡ Err r → ⊥
   not_both given made r one two = let e = sym one ∙ two in let no_value : ⊥ = cc in no_value
 
   pub apart : (l : Loaded) (r : Refusal) → IsTyped first contents l → IsUntyped first contents r → ⊥
@@ -22,7 +22,7 @@ module _ (first : List ℕ) (contents : List ℕ → List ℕ) where
   abbrev Outcome : Type 0
   Outcome = ((l : Loaded) × IsTyped first contents l) ⊎ ((r : Refusal) × IsUntyped first contents r)
 
-  by_typing : (l : Loaded) → IsLoaded first contents l → (given : Result Made Refusal) → typing_of l ≡ given → Outcome
+  by_typing : (l : Loaded) → IsLoaded first contents l → (given : Result ProgramParts Refusal) → typing_of l ≡ given → Outcome
   by_typing l loaded (Ok m) is = inl (l, record { loaded = loaded; made = m; typed = is })
   by_typing l loaded (Err r) is = inr (r, IsUntyped.typing l loaded is)
 

@@ -4,8 +4,8 @@ use Rattle.std.specs.Prelude.{IfOk}
 use Rattle.bsv_types.specs.declared.typed.Typed.{Typed}
 use Rattle.bsv_check.specs.Rightness.{is_in_order}
 use Rattle.bsv_design.specs.declared.schedule.Schedule.{Schedule}
-use Rattle.bsv_design.specs.Schemes.{tree_scheme}
-use Rattle.bsv_design.specs.Trees.{Hierarchy}
+use Rattle.bsv_design.specs.scheme.Schemes.{tree_scheme}
+use Rattle.bsv_design.specs.tree.Trees.{TreeData}
 use Rattle.bsv_clock.specs.Obeying.{Obeys}
 use Rattle.bsv_flow.specs.declared.loading.Loaded.{Loaded}
 use Rattle.bsv_flow.specs.declared.refusal.CompileFault.{CompileFault}
@@ -23,7 +23,7 @@ use Rattle.bsv_flow.proofs.Trees.{apart, built_as, in_order}
 
 -- ---- of what was loaded
 
-pub compiles : (l : Loaded) (program : Typed) (top : List ℕ) (tree : Hierarchy) (c : Compiled) → IsProgram l program → tree_of program top ≡ Ok tree
+pub compiles : (l : Loaded) (program : Typed) (top : List ℕ) (tree : TreeData) (c : Compiled) → IsProgram l program → tree_of program top ≡ Ok tree
     → IsScheduled (subject tree) c.schedule → IsCompiledOf tree c → Obeys (tree_scheme tree) c.schedule → CompilesTo l top c
 compiles l program top tree c typed built scheduled design obeys = record {
   tree = tree;
@@ -32,36 +32,36 @@ compiles l program top tree c typed built scheduled design obeys = record {
   obeys = obeys;
 }
 
-same_tree : {s t : Hierarchy} → ◌≡◌ {A = Result Hierarchy (Option Refusal)} (Ok s) (Ok t) → s ≡ t
+same_tree : {s t : TreeData} → ◌≡◌ {A = Result TreeData (Option Refusal)} (Ok s) (Ok t) → s ≡ t
 same_tree e = cc
 
-one_tree : (l : Loaded) (top : List ℕ) (t u : Hierarchy) (made other : Schedule) → IsScheduledAs l top t made → IsScheduledAs l top u other → t ≡ u
+one_tree : (l : Loaded) (top : List ℕ) (t u : TreeData) (made other : Schedule) → IsScheduledAs l top t made → IsScheduledAs l top u other → t ≡ u
 one_tree l top t u made other one two =
     same_tree (sym one.built ∙ ap (λ (p : Typed). tree_of p top) (one_program l one.program two.program one.typed two.typed) ∙ two.built)
 
-one_made : (l : Loaded) (top : List ℕ) (t u : Hierarchy) (made other : Schedule) → IsScheduledAs l top t made → IsScheduledAs l top u other → made ≡ other
+one_made : (l : Loaded) (top : List ℕ) (t u : TreeData) (made other : Schedule) → IsScheduledAs l top t made → IsScheduledAs l top u other → made ≡ other
 one_made l top t u made other one two =
     one_schedule (subject u) made other
-    (subst (λ (h : Hierarchy). IsScheduled (subject h) made) (one_tree l top t u made other one two) one.scheduled) two.scheduled
+    (subst (λ (h : TreeData). IsScheduled (subject h) made) (one_tree l top t u made other one two) one.scheduled) two.scheduled
 
 -- ---- of the files
 
 module _ (first : List ℕ) (contents : List ℕ → List ℕ) (top : List ℕ) where
-  plan_of : (l : Loaded) (t : Hierarchy) (made : Schedule) → IsLoaded first contents l → (p : IsPlanned first contents top t made) → IsScheduledAs l top t made
+  plan_of : (l : Loaded) (t : TreeData) (made : Schedule) → IsLoaded first contents l → (p : IsPlanned first contents top t made) → IsScheduledAs l top t made
   plan_of l t made files p =
       subst (λ (m : Loaded). IsScheduledAs m top t made) (loading.same first contents p.loaded l p.files files) p.planned
 
-  pub one_tree_planned : (t u : Hierarchy) (made other : Schedule) → IsPlanned first contents top t made → IsPlanned first contents top u other → t ≡ u
+  pub one_tree_planned : (t u : TreeData) (made other : Schedule) → IsPlanned first contents top t made → IsPlanned first contents top u other → t ≡ u
   one_tree_planned t u made other one two = one_tree two.loaded top t u made other (plan_of two.loaded t made two.files one) two.planned
 
-  pub one_made_planned : (t u : Hierarchy) (made other : Schedule) → IsPlanned first contents top t made → IsPlanned first contents top u other → made ≡ other
+  pub one_made_planned : (t u : TreeData) (made other : Schedule) → IsPlanned first contents top t made → IsPlanned first contents top u other → made ≡ other
   one_made_planned t u made other one two = one_made two.loaded top t u made other (plan_of two.loaded t made two.files one) two.planned
 
   -- what is planned is not refused
-  pub planned_built : (t : Hierarchy) (made : Schedule) (p : IsPlanned first contents top t made) → IsBuilt first contents top p.loaded
+  pub planned_built : (t : TreeData) (made : Schedule) (p : IsPlanned first contents top t made) → IsBuilt first contents top p.loaded
   planned_built t made p = built_as first contents top p.loaded p.planned.program t p.files p.planned.typed p.planned.built made p.planned.scheduled
 
-  pub planned_apart : (t : Hierarchy) (made : Schedule) (r : Refusal) → IsPlanned first contents top t made → Rejects first contents top r → ⊥
+  pub planned_apart : (t : TreeData) (made : Schedule) (r : Refusal) → IsPlanned first contents top t made → Rejects first contents top r → ⊥
   planned_apart t made r p = apart first contents top p.loaded r (planned_built t made p)
 
   -- what refuses what was loaded refuses the files
@@ -73,7 +73,7 @@ module _ (first : List ℕ) (contents : List ℕ → List ℕ) (top : List ℕ) 
   -- ---- what is built is planned, but for what is typed as no program
 
   pub data Plans (l : Loaded) : Type 0 where
-    planned : (t : Hierarchy) (made : Schedule) → IsPlanned first contents top t made → Plans l
+    planned : (t : TreeData) (made : Schedule) → IsPlanned first contents top t made → Plans l
     none : ((program : Typed) → IsProgram l program → ⊥) → Plans l
 
   plans_as : (l : Loaded) → IsBuilt first contents top l → (program : Typed) → IsProgram l program → Plans l
@@ -110,7 +110,7 @@ compiled_built first contents top l c files x = planned_built first contents top
 
 -- ---- of what a call gives
 
-pub all_compiled : (l : Loaded) (program : Typed) (top : List ℕ) (tree : Hierarchy) (given : Result Compiled CompileFault) → IsProgram l program
+pub all_compiled : (l : Loaded) (program : Typed) (top : List ℕ) (tree : TreeData) (given : Result Compiled CompileFault) → IsProgram l program
     → tree_of program top ≡ Ok tree → IfOk given (λ c. IsCompiledOf tree c) → IfOk given (λ c. IsScheduled (subject tree) c.schedule)
     → IfOk given (λ c. Obeys (tree_scheme tree) c.schedule) → IfOk given (λ c. CompilesTo l top c)
 all_compiled l program top tree (Ok c) typed built design scheduled obeys = compiles l program top tree c typed built scheduled design obeys

@@ -1,4 +1,4 @@
--- What imports add to the files goes behind those that wait.
+-- What imports add to the files goes after those that wait.
 use Rattle.std.proofs.Common.{◌≡◌, ℕ, suc, ◌<◌, ◌≤◌, Bool, true, false, if◌then◌else◌, List, [], ◌∷◌, ◌++◌, length, drop, get_or, refl, ap, sym, ◌∙◌, drop-cons, append_assoc, append-nil, length-append, arith}
 use Rattle.std.specs.List.{list_any}
 use Rattle.std.specs.Str.{bytes_eq}
@@ -39,10 +39,10 @@ with_items_longer first queue xs =
     let longer = with_items_extends first queue xs in
     omega (arith, ap length longer.1, length-append queue longer.0)
 
--- where the files are too many behind one item, they are behind all
-pub too_many_behind : (first : List ℕ) (queue after : List (List ℕ)) (xs : List Item) (i n : ℕ) (x : Item) → i < length xs → x ≡ get_or xs i x → after ≡ with_item first queue x
+-- where the files are too many after one item, they are after all
+pub too_many_after : (first : List ℕ) (queue after : List (List ℕ)) (xs : List Item) (i n : ℕ) (x : Item) → i < length xs → x ≡ get_or xs i x → after ≡ with_item first queue x
     → n < length after → n < length (with_items first queue (drop i xs))
-too_many_behind first queue after xs i n x below at is many =
+too_many_after first queue after xs i n x below at is many =
     let split : drop i xs ≡ x ∷ drop (suc i) xs = drop-cons xs i x below ∙ ap (λ y. y ∷ drop (suc i) xs) (sym at) in
     let longer : length (with_item first queue x) ≤ length (with_items first (with_item first queue x) (drop (suc i) xs)) = with_items_longer first (with_item first queue x) (drop (suc i) xs) in
     let same : length after ≡ length (with_item first queue x) = ap length is in

@@ -14,30 +14,30 @@ use Rattle.bsv_design.specs.declared.kind.Kind.{Kind}
 use Rattle.bsv_design.specs.declared.schedule.Guards.{Guards}
 use Rattle.bsv_design.specs.declared.schedule.Schedule.{Schedule}
 use Rattle.bsv_design.specs.declared.tree.Pair.{Pair}
-use Rattle.bsv_design.specs.Bodies.{words}
-use Rattle.bsv_design.specs.Guards.{needs_of}
-use Rattle.bsv_design.specs.Relations.{KeepsTheRule, sites_of, no_answers, goes, feeds}
-use Rattle.bsv_design.specs.Schemes.{Scheme, Outline, AreAlike, trace_of, design_scheme, tree_scheme, kinds_of, filled, ports_of}
-use Rattle.bsv_design.specs.Seen.{blueprint}
-use Rattle.bsv_design.specs.Sources.{parts_among}
-use Rattle.bsv_design.specs.Traces.{Trace, body_trace, site_at, demand_at}
-use Rattle.bsv_design.specs.Trees.{Hierarchy}
-use Rattle.bsv_design.specs.Roles.{is_rule, is_value}
+use Rattle.bsv_design.specs.design.Bodies.{words}
+use Rattle.bsv_design.specs.design.Guards.{needs_of}
+use Rattle.bsv_design.specs.scheme.Relations.{KeepsTheRule, sites_of, no_answers, goes, feeds}
+use Rattle.bsv_design.specs.scheme.Schemes.{Scheme, Outline, AreAlike, trace_of, design_scheme, tree_scheme, kinds_of, filled, ports_of}
+use Rattle.bsv_design.specs.tree.Seen.{design_data}
+use Rattle.bsv_design.specs.tree.Sources.{parts_among}
+use Rattle.bsv_design.specs.scheme.Traces.{Trace, body_trace, site_at, demand_at}
+use Rattle.bsv_design.specs.tree.Trees.{TreeData}
+use Rattle.bsv_design.specs.tree.Roles.{is_rule, is_value}
 use Rattle.bsv_schedule.specs.relating.Elements.{relating, has_role, edges_of, is_ordering, is_urging, preempts}
-use Rattle.bsv_schedule.specs.executing.Orders.{Executes}
+use Rattle.bsv_schedule.specs.execution_order.Orders.{Executes}
 use Rattle.bsv_graph.specs.Orders.{IsOrderOf}
 use Rattle.bsv_schedule.specs.relating.Relating.{Relating}
 use Rattle.bsv_schedule.specs.stopping.Stops.{AreStops}
-use Rattle.bsv_schedule.specs.urging.Orders.{Urges}
+use Rattle.bsv_schedule.specs.urgency_order.Orders.{Urges}
 use Rattle.bsv_guard.specs.Lifted.{AreLifted}
 use Rattle.bsv_guard.proofs.Alike as same
 use Rattle.bsv_inline.specs.Flattening.{top_name}
-use Rattle.bsv_schedule.specs.executing.Answers.{RefusesExecution}
-use Rattle.bsv_schedule.specs.declared.executing.fault.OrderFault.{OrderFault}
-use Rattle.bsv_schedule.specs.declared.executing.fault.OrderFault.TheVariants as order
-use Rattle.bsv_schedule.specs.urging.Answers.{RefusesUrgency}
-use Rattle.bsv_schedule.specs.declared.urging.fault.UrgencyFault.{UrgencyFault}
-use Rattle.bsv_schedule.specs.declared.urging.fault.UrgencyFault.TheVariants as urgency
+use Rattle.bsv_schedule.specs.execution_order.Answers.{RefusesExecution}
+use Rattle.bsv_schedule.specs.declared.execution_order.fault.OrderFault.{OrderFault}
+use Rattle.bsv_schedule.specs.declared.execution_order.fault.OrderFault.TheVariants as order
+use Rattle.bsv_schedule.specs.urgency_order.Answers.{RefusesUrgency}
+use Rattle.bsv_schedule.specs.declared.urgency_order.fault.UrgencyFault.{UrgencyFault}
+use Rattle.bsv_schedule.specs.declared.urgency_order.fault.UrgencyFault.TheVariants as urgency
 use Rattle.bsv_attr.specs.Asserting.{IsAccepted, NamesImplicit, NamesStopper}
 use Rattle.bsv_attr.specs.Implicit.{demands_of}
 use Rattle.bsv_clock.specs.Obeying.{Obeys}
@@ -48,10 +48,10 @@ use Rattle.bsv_schedule.proofs.RelationsLemmas.{agrees_design, pairs_are}
 use Rattle.bsv_clock.specs.Grounds.{IsScheduleOf, KeepsRules}
 use Rattle.bsv_clock.proofs.Belonging as belonging
 use Rattle.bsv_net.specs.declared.net.Net.{Net}
-use Rattle.bsv_net.specs.Hardware.{NetCarries}
+use Rattle.bsv_net.specs.ShowsByNet.{NetCarries}
 use Rattle.bsv_net.proofs.Hardware.{net_carried_to}
 use Rattle.bsv_vtext.specs.declared.modules.VModule.{VModule}
-use Rattle.bsv_vtext.specs.AtHand.{contents}
+use Rattle.bsv_vtext.specs.AtHand.{module_data}
 use Rattle.bsv_flow.specs.declared.refusal.CompileFault.{CompileFault}
 use Rattle.bsv_flow.specs.declared.refusal.CompileFault.TheVariants as fault
 use Rattle.bsv_flow.specs.declared.refusal.Refusal.{Refusal}
@@ -63,12 +63,12 @@ use Rattle.bsv_design.proofs.Elements.{length-filled}
 
 -- ---- names of conditions and calls
 
-got_behind : {A : Type 0} (xs ys : List A) (k : ℕ) → length xs ≤ k → slice_get (xs ++ ys) k ≡ slice_get ys (k - length xs)
-got_behind [] ys k l = let e : k ≡ k - 0 = omega arith in ap (slice_get ys) e
-got_behind (x ∷ xs) ys zero l = absurd (omega (arith, l))
-got_behind (x ∷ xs) ys (suc k) l =
+got_after : {A : Type 0} (xs ys : List A) (k : ℕ) → length xs ≤ k → slice_get (xs ++ ys) k ≡ slice_get ys (k - length xs)
+got_after [] ys k l = let e : k ≡ k - 0 = omega arith in ap (slice_get ys) e
+got_after (x ∷ xs) ys zero l = absurd (omega (arith, l))
+got_after (x ∷ xs) ys (suc k) l =
     let e : k - length xs ≡ suc k - suc (length xs) = omega arith in
-    got_behind xs ys k (omega (arith, l)) ∙ ap (slice_get ys) e
+    got_after xs ys k (omega (arith, l)) ∙ ap (slice_get ys) e
 
 map_long : {A B : Type 0} (f : A → B) (xs : List A) → length (map f xs) ≡ length xs
 map_long f [] = refl
@@ -102,7 +102,7 @@ of_call ps e place l =
     let front : List (List ℕ) = map (λ (c : Condition). or_no_name c.implicit) e.conditions in
     let same : length front ≡ length e.conditions = map_long (λ (c : Condition). or_no_name c.implicit) e.conditions in
     let long : length front ≤ place = omega (arith, l, same) in
-    sym (ap or_no_name (got_behind front (map (call_text ps) e.calls) place long)
+    sym (ap or_no_name (got_after front (map (call_text ps) e.calls) place long)
     ∙ ap (λ n. or_no_name (slice_get (map (call_text ps) e.calls) (place - n))) same
     ∙ call_got ps e.calls (place - length e.conditions))
 
@@ -122,17 +122,17 @@ site_texts ps ks ws (c ∷ cs) = ap (λ xs. call_text ps c ∷ xs) (site_texts p
 texts_same : (d : Design) (n : ℕ) (e : Element) → slice_get d.elements n ≡ Some e → names_in (design_subject d) n ≡ texts_in d.parts e
 unfolding design_scheme body_trace
 texts_same d n e at =
-    let ks = kinds_of (blueprint d) in
-    let ws = no_words (design_scheme (blueprint d)) n in
+    let ks = kinds_of (design_data d) in
+    let ws = no_words (design_scheme (design_data d)) n in
     ap (λ (o : Option Element). map demand_name (trace_of ks o no_answers ws).demands ++ map (call_name d.parts) (trace_of ks o no_answers ws).sites) at
     ∙ ap₂ (λ (xs ys : List (List ℕ)). xs ++ ys) (demand_texts (words e no_answers ws) e.conditions) (site_texts d.parts ks (words e no_answers ws) e.calls)
 
 pub implicit_same : (d : Design) (rule place : ℕ) (e : Element) (name call : List ℕ) (r : Refusal) → slice_get d.elements rule ≡ Some e
-    → name ≡ element_name (design_scheme (blueprint d)) rule → call ≡ or_no_name (slice_get (texts_in d.parts e) place) → r ≡ refusal.NoImplicit name call
+    → name ≡ element_name (design_scheme (design_data d)) rule → call ≡ or_no_name (slice_get (texts_in d.parts e) place) → r ≡ refusal.NoImplicit name call
     → r ≡ implicit_told (design_subject d) rule place
 implicit_same d rule place e name call r at named called told =
     told ∙ ap (λ (x : List ℕ). refusal.NoImplicit x call) named
-    ∙ ap (λ (x : List ℕ). refusal.NoImplicit (element_name (design_scheme (blueprint d)) rule) x)
+    ∙ ap (λ (x : List ℕ). refusal.NoImplicit (element_name (design_scheme (design_data d)) rule) x)
     (called ∙ ap (λ (xs : List (List ℕ)). or_no_name (slice_get xs place)) (sym (texts_same d rule e at)))
 
 pub declined : (d : Design) (f : UrgencyFault) (r : Refusal) → RefusesUrgency (related (design_subject d)) d.pairs f
@@ -159,12 +159,12 @@ fault_same f g e = ap (fault_in f) e
 pub told_same : {A : Type 0} (a b : Refusal) → ◌≡◌ {A = Result A CompileFault} (Err (fault.Refused a)) (Err (fault.Refused b)) → a ≡ b
 told_same a b e = ap (refusal_in a) (fault_same (fault.Refused a) (fault.Refused b) e)
 
-pub unasserted_implicit : (d : Design) (made : Schedule) (rule place : ℕ) (r : Refusal) → NamesImplicit (design_scheme (blueprint d)) rule place
+pub unasserted_implicit : (d : Design) (made : Schedule) (rule place : ℕ) (r : Refusal) → NamesImplicit (design_scheme (design_data d)) rule place
     → r ≡ implicit_told (design_subject d) rule place → IsUnasserted (design_subject d) made r
 unasserted_implicit d made rule place r names told =
     subst (λ (x : Refusal). IsUnasserted (design_subject d) made x) (sym told) (IsUnasserted.implicit rule place names)
 
-pub unasserted_stopped : (d : Design) (made : Schedule) (rule f : ℕ) (r : Refusal) → NamesStopper (design_scheme (blueprint d)) made rule f
+pub unasserted_stopped : (d : Design) (made : Schedule) (rule f : ℕ) (r : Refusal) → NamesStopper (design_scheme (design_data d)) made rule f
     → r ≡ stopper_told (design_subject d) rule f → IsUnasserted (design_subject d) made r
 unasserted_stopped d made rule f r names told =
     subst (λ (x : Refusal). IsUnasserted (design_subject d) made x) (sym told) (IsUnasserted.stopped rule f names)
@@ -195,12 +195,12 @@ related_alike S T alike =
 
 -- ---- a design and its tree
 
-module _ (h : Hierarchy) (d : Design) (alike : AreAlike (tree_scheme h) (design_scheme (blueprint d))) (parts : d.parts ≡ parts_among h.instances) where
+module _ (h : TreeData) (d : Design) (alike : AreAlike (tree_scheme h) (design_scheme (design_data d))) (parts : d.parts ≡ parts_among h.instances) where
   abbrev S : Scheme
   S = tree_scheme h
 
   abbrev T : Scheme
-  T = design_scheme (blueprint d)
+  T = design_scheme (design_data d)
 
   name_same : (n : ℕ) → element_name T n ≡ element_name S n
   name_same n = ap (λ (os : List Outline). outline_name (slice_get os n)) (sym alike.elements)
@@ -314,18 +314,18 @@ module _ (h : Hierarchy) (d : Design) (alike : AreAlike (tree_scheme h) (design_
       let listed = subst (λ (xs : List ℕ). AreStops R xs made.urgency made.stops) (sym e)
       (subst (λ (xs : List ℕ). AreStops R execution xs made.stops) (sym u) stops) in
       marks.obeys_alike S T made alike
-      (obeys ordering_before urging_stands (blueprint d) made (agrees_design d) least.order urged.order listed accepted)
+      (obeys ordering_before urging_stands (design_data d) made (agrees_design d) least.order urged.order listed accepted)
 
 -- ---- the net
 
 -- what a net is made from belongs together
-pub rules_there : (h : Hierarchy) (d : Design) → AreAlike (tree_scheme h) (design_scheme (blueprint d)) → ((n : ℕ) → KeepsTheRule (tree_scheme h) n)
-    → KeepsRules (design_scheme (blueprint d))
-rules_there h d alike kept n = ((same.alike (tree_scheme h) (design_scheme (blueprint d)) alike).rule_same n).0 (kept n)
+pub rules_there : (h : TreeData) (d : Design) → AreAlike (tree_scheme h) (design_scheme (design_data d)) → ((n : ℕ) → KeepsTheRule (tree_scheme h) n)
+    → KeepsRules (design_scheme (design_data d))
+rules_there h d alike kept n = ((same.alike (tree_scheme h) (design_scheme (design_data d)) alike).rule_same n).0 (kept n)
 
 pub schedule_there : (d : Design) (made : Schedule) (execution urgency : List ℕ) → made.execution ≡ execution → made.urgency ≡ urgency
     → Executes (related (design_subject d)) execution → Urges (related (design_subject d)) urgency
-    → AreStops (related (design_subject d)) execution urgency made.stops → IsScheduleOf (design_scheme (blueprint d)) made
+    → AreStops (related (design_subject d)) execution urgency made.stops → IsScheduleOf (design_scheme (design_data d)) made
 schedule_there d made execution urgency e u executes urges stops =
     let R = related (design_subject d) in
     record {
@@ -339,13 +339,13 @@ schedule_there d made execution urgency e u executes urges stops =
 
 -- ---- what was compiled
 
-pub compiled_of : (h : Hierarchy) (d : Design) (g : Guards) (s : Schedule) (n : Net) (v : VModule) → AreAlike (tree_scheme h) (design_scheme (blueprint d))
-    → top_name h ≡ Some d.name → d.parts ≡ parts_among h.instances → g.needs ≡ needs_of (kinds_of (blueprint d)) d.elements
-    → AreLifted (blueprint d) g.needs → NetCarries false (design_scheme (blueprint d)) s n
-    → IsVerilogOf h s (contents v) → IsCompiledOf h (record { design = d; guards = g; schedule = s; net = n; verilog = v })
+pub compiled_of : (h : TreeData) (d : Design) (g : Guards) (s : Schedule) (n : Net) (v : VModule) → AreAlike (tree_scheme h) (design_scheme (design_data d))
+    → top_name h ≡ Some d.name → d.parts ≡ parts_among h.instances → g.needs ≡ needs_of (kinds_of (design_data d)) d.elements
+    → AreLifted (design_data d) g.needs → NetCarries false (design_scheme (design_data d)) s n
+    → IsVerilogOf h s (module_data v) → IsCompiledOf h (record { design = d; guards = g; schedule = s; net = n; verilog = v })
 compiled_of h d g s n v alike name parts needs lifted carries verilog =
     let S = tree_scheme h in
-    let T = design_scheme (blueprint d) in
+    let T = design_scheme (design_data d) in
     record {
       alike = alike;
       name = name;

@@ -38,7 +38,7 @@ pub rest_chosen : (r s : Reading) (name given : List ℕ) (contents : List ℕ �
 rest_chosen r s name given contents h same told =
     ap rest h ∙ rest_of_start r.contents given contents told ∙ ap (λ (n : List ℕ). Some (contents n)) same
 
--- what stands behind the limit stood there from the start
+-- what comes after the limit was there from the start
 pub still_within : (limit : ℕ) (first second third : Reading) → (limit < bytes_given second → second.current ≡ first.current) → (limit < bytes_given third → third.current ≡ second.current) → limit < bytes_given third → third.current ≡ first.current
 still_within limit first second third before this far =
     let same = this far in

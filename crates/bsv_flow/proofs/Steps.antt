@@ -35,9 +35,9 @@ module _ (first : List ℕ) (contents : List ℕ → List ℕ) (queue : List (Li
   refused_here r yields = Refuses.file reached yields
 
   -- its imports name too many packages
-  pub refused_behind : (x : Package) (r : Refusal) → Yields name (contents name) (Ok x) → r ≡ refusal.Limit (codes "packages") most_packages → most_packages < length (with_imports first queue x) → Refuses first contents r
+  pub refused_after : (x : Package) (r : Refusal) → Yields name (contents name) (Ok x) → r ≡ refusal.Limit (codes "packages") most_packages → most_packages < length (with_imports first queue x) → Refuses first contents r
   unfolding reached
-  refused_behind x r yields is many = subst (Refuses first contents) (sym is) (Refuses.packages reached yields many)
+  refused_after x r yields is many = subst (Refuses first contents) (sym is) (Refuses.packages reached yields many)
 
   -- it is loaded
   pub loads_more : (x : Package) (after : List (List ℕ)) → Yields name (contents name) (Ok x) → after ≡ with_imports first queue x → length after ≤ most_packages → Loads first contents after (packages ++ x ∷ [])

@@ -3,11 +3,11 @@ use Rattle.std.proofs.Common.{◌≡◌, ℕ, ◌⊎◌, inl, inr, Bool, true, f
 use Rattle.bsv_fail.specs.Given.{over}
 use Rattle.bsv_types.specs.declared.modules.Module.{Module}
 use Rattle.bsv_types.specs.declared.typed.Typed.{Typed}
-use Rattle.bsv_check.specs.Checked.{Made}
+use Rattle.bsv_check.specs.Checked.{ProgramParts}
 use Rattle.bsv_check.specs.Rightness.{is_in_order}
 use Rattle.bsv_check.specs.Seen.{typed_seen}
 use Rattle.bsv_design.specs.declared.schedule.Schedule.{Schedule}
-use Rattle.bsv_design.specs.Trees.{Hierarchy}
+use Rattle.bsv_design.specs.tree.Trees.{TreeData}
 use Rattle.bsv_design.specs.declared.values.Fault.TheVariants as carry
 use Rattle.bsv_elab.specs.declared.refused.Refused.{Refused}
 use Rattle.bsv_elab.specs.declared.refused.Refused.TheVariants as met
@@ -28,7 +28,7 @@ use Rattle.bsv_flow.proofs.Programs.{made_is, one_program, program_at}
 
 -- ---- what building answers, as a refusal
 
-pub built_at : (program : Typed) (name top : List ℕ) (t : Hierarchy) → name ≡ top → Builds program name ≡ Ok t → tree_of program top ≡ Ok t
+pub built_at : (program : Typed) (name top : List ℕ) (t : TreeData) → name ≡ top → Builds program name ≡ Ok t → tree_of program top ≡ Ok t
 built_at program name top t same is = subst (λ (n : List ℕ). tree_of program n ≡ Ok t) same (ap (over refusal_of) is)
 
 -- what refuses is told as a refusal
@@ -43,10 +43,10 @@ is_told top ms (met.NameTaken path) e = cc
 is_told top ms (met.Limit kind most) e = cc
 is_told top ms (met.NoSuchRule attribute name) e = cc
 
-same_told : (o other : Option Refusal) → ◌≡◌ {A = Result Hierarchy (Option Refusal)} (Err o) (Err other) → o ≡ other
+same_told : (o other : Option Refusal) → ◌≡◌ {A = Result TreeData (Option Refusal)} (Err o) (Err other) → o ≡ other
 same_told o other e = cc
 
-told_whole : (top : List ℕ) (ms : List Module) (given : Result Hierarchy Refused) → over refusal_of (over (told_as top ms) given) ≡ Err None → ⊥
+told_whole : (top : List ℕ) (ms : List Module) (given : Result TreeData Refused) → over refusal_of (over (told_as top ms) given) ≡ Err None → ⊥
 told_whole top ms (Ok t) e = cc
 told_whole top ms (Err r) e = is_told top ms r (same_told (refusal_of (told_as top ms r)) None e)
 
@@ -56,14 +56,14 @@ module _ (first : List ℕ) (contents : List ℕ → List ℕ) (top : List ℕ) 
   pub same : (l m : Loaded) → IsBuilt first contents top l → IsBuilt first contents top m → l ≡ m
   same l m one two = typing.same first contents l m one.typed two.typed
 
-  not_both : (given : Result Hierarchy (Option Refusal)) (t : Hierarchy) (r : Refusal) → given ≡ Ok t → given ≡ Err (Some r) → ⊥
+  not_both : (given : Result TreeData (Option Refusal)) (t : TreeData) (r : Refusal) → given ≡ Ok t → given ≡ Err (Some r) → ⊥
   not_both given t r one two = let e = sym one ∙ two in let no_value : ⊥ = cc in no_value
 
-  same_tree : {s t : Hierarchy} → ◌≡◌ {A = Result Hierarchy (Option Refusal)} (Ok s) (Ok t) → s ≡ t
+  same_tree : {s t : TreeData} → ◌≡◌ {A = Result TreeData (Option Refusal)} (Ok s) (Ok t) → s ≡ t
   same_tree e = cc
 
-  same_refused : (s t : Hierarchy) (r : Refusal) → s ≡ t → Unscheduled s r → Unscheduled t r
-  same_refused s t r e u = subst (λ (h : Hierarchy). Unscheduled h r) e u
+  same_refused : (s t : TreeData) (r : Refusal) → s ≡ t → Unscheduled s r → Unscheduled t r
+  same_refused s t r e u = subst (λ (h : TreeData). Unscheduled h r) e u
 
   pub apart : (l : Loaded) (r : Refusal) → IsBuilt first contents top l → Rejects first contents top r → ⊥
   apart l r built (Rejects.untyped refused) = typing.apart first contents l r built.typed refused
@@ -85,7 +85,7 @@ module _ (first : List ℕ) (contents : List ℕ → List ℕ) (top : List ℕ) 
   Outcome = ((l : Loaded) × IsBuilt first contents top l) ⊎ ((r : Refusal) × Rejects first contents top r)
 
   -- what has a design as one program is built
-  pub built_as : (l : Loaded) (program : Typed) (t : Hierarchy) → IsLoaded first contents l → IsProgram l program → tree_of program top ≡ Ok t
+  pub built_as : (l : Loaded) (program : Typed) (t : TreeData) → IsLoaded first contents l → IsProgram l program → tree_of program top ≡ Ok t
       → (made : Schedule) → IsScheduled (subject t) made → IsBuilt first contents top l
   built_as l program t loaded is built made scheduled =
       record {
@@ -94,22 +94,22 @@ module _ (first : List ℕ) (contents : List ℕ → List ℕ) (top : List ℕ) 
             (record { tree = t; built = built; made = made; scheduled = scheduled });
       }
 
-  by_schedule : (l : Loaded) → IsLoaded first contents l → (program : Typed) → IsProgram l program → (t : Hierarchy) → tree_of program top ≡ Ok t → Outcome
+  by_schedule : (l : Loaded) → IsLoaded first contents l → (program : Typed) → IsProgram l program → (t : TreeData) → tree_of program top ≡ Ok t → Outcome
   by_schedule l loaded program is t built =
       elim (decided t) [
         | inl found ↦ inl (l, built_as l program t loaded is built found.0 found.1)
         | inr refused ↦ inr (refused.0, Rejects.scheduling l program t loaded is built refused.1)
       ]
 
-  by_tree : (l : Loaded) → IsLoaded first contents l → (program : Typed) → IsProgram l program → (given : Result Hierarchy (Option Refusal)) → tree_of program top ≡ given → Outcome
+  by_tree : (l : Loaded) → IsLoaded first contents l → (program : Typed) → IsProgram l program → (given : Result TreeData (Option Refusal)) → tree_of program top ≡ given → Outcome
   by_tree l loaded program is (Ok t) built = by_schedule l loaded program is t built
   by_tree l loaded program is (Err (Some r)) built = inr (r, Rejects.building l program loaded is built)
   by_tree l loaded program is (Err None) built = absurd (told_whole top program.modules (elaboration.building program top) built)
 
   -- a program is in order
-  pub in_order : (l : Loaded) (made : Made) (program : Typed) → typing_of l ≡ Ok made → IsProgram l program → IsTrue (is_in_order made)
+  pub in_order : (l : Loaded) (made : ProgramParts) (program : Typed) → typing_of l ≡ Ok made → IsProgram l program → IsTrue (is_in_order made)
   in_order l made program is also =
-      subst (λ (m : Made). IsTrue (is_in_order m)) (made_is (typed_seen program) made (sym also ∙ is)) program.right
+      subst (λ (m : ProgramParts). IsTrue (is_in_order m)) (made_is (typed_seen program) made (sym also ∙ is)) program.right
 
   by_order : (l : Loaded) (typed : IsTyped first contents l) (b : Bool) → is_in_order typed.made ≡ b → Outcome
   by_order l typed true right =

@@ -1,13 +1,13 @@
--- How two calls of one element that may not stand in it are told: the element, the part and the methods, by their names.
+-- How two calls of one element that may not be in it are told: the element, the part and the methods, by their names.
 use Rattle.std.specs.Prelude.{◌≡◌, ℕ, List, [], slice_get, Option, Some, None}
 use Rattle.bsv_design.specs.declared.design.NamedPart.{NamedPart}
-use Rattle.bsv_design.specs.Designs.{Blueprint}
-use Rattle.bsv_design.specs.MethodNames.{method_names}
-use Rattle.bsv_design.specs.Relations.{IsFirstBreach}
-use Rattle.bsv_design.specs.Schemes.{Scheme, Outline, design_scheme, tree_scheme}
-use Rattle.bsv_design.specs.Sources.{parts_among}
-use Rattle.bsv_design.specs.Traces.{Site}
-use Rattle.bsv_design.specs.Trees.{Hierarchy}
+use Rattle.bsv_design.specs.design.Designs.{DesignData}
+use Rattle.bsv_design.specs.tree.MethodNames.{method_names}
+use Rattle.bsv_design.specs.scheme.Relations.{IsFirstBreach}
+use Rattle.bsv_design.specs.scheme.Schemes.{Scheme, Outline, design_scheme, tree_scheme}
+use Rattle.bsv_design.specs.tree.Sources.{parts_among}
+use Rattle.bsv_design.specs.scheme.Traces.{Site}
+use Rattle.bsv_design.specs.tree.Trees.{TreeData}
 use Rattle.bsv_flow.specs.declared.refusal.Refusal.{Refusal}
 use Rattle.bsv_flow.specs.declared.refusal.Refusal.TheVariants as refusal
 
@@ -40,8 +40,8 @@ method_of (Some p) m = or_no_name (slice_get (method_names p.kind) m)
 abbrev pub method_name : List NamedPart → ℕ → ℕ → List ℕ
 method_name ps part m = method_of (slice_get ps part) m
 
--- the refusal tells the first two calls of a tree that may not stand in one element
-pub record TellsBreach (h : Hierarchy) (r : Refusal) : Type 0 where
+-- the refusal tells the first two calls of a tree that may not be in one element
+pub record TellsBreach (h : TreeData) (r : Refusal) : Type 0 where
   pub element : ℕ
   pub earlier : ℕ
   pub later : ℕ
@@ -53,6 +53,6 @@ pub record TellsBreach (h : Hierarchy) (r : Refusal) : Type 0 where
       (method_name (parts_among h.instances) one.target.part other.target.method)
 
 -- the refusal of two calls of a design, of this part by these methods
-abbrev pub told_in : Blueprint → ℕ → ℕ → ℕ → ℕ → Refusal
+abbrev pub told_in : DesignData → ℕ → ℕ → ℕ → ℕ → Refusal
 told_in b n part first second =
     refusal.InRule (element_name (design_scheme b) n) (part_path b.parts part) (method_name b.parts part first) (method_name b.parts part second)

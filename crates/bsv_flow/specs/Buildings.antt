@@ -5,7 +5,7 @@ use Rattle.bsv_fail.specs.Given.{over}
 use Rattle.bsv_types.specs.declared.typed.Typed.{Typed}
 use Rattle.bsv_check.specs.Seen.{typed_seen}
 use Rattle.bsv_design.specs.declared.schedule.Schedule.{Schedule}
-use Rattle.bsv_design.specs.Trees.{Hierarchy}
+use Rattle.bsv_design.specs.tree.Trees.{TreeData}
 use Rattle.bsv_elab.specs.declared.fault.ElabFault.{ElabFault}
 use Rattle.bsv_elab.specs.declared.fault.ElabFault.TheVariants as fault
 use Rattle.bsv_elab.specs.declared.refused.LimitKind.{LimitKind}
@@ -40,7 +40,7 @@ refusal_of (fault.NoSuchRule a name) = Some (refusal.NoSuchRule (attribute_word 
 refusal_of fault.OutOfMemory = None
 
 -- the tree of a program by the name of its top, or what refuses it
-abbrev pub tree_of : Typed → List ℕ → Result Hierarchy (Option Refusal)
+abbrev pub tree_of : Typed → List ℕ → Result TreeData (Option Refusal)
 tree_of program top = over refusal_of (Builds program top)
 
 -- what was loaded is typed as this program
@@ -49,7 +49,7 @@ IsProgram l program = typing_of l ≡ Ok (typed_seen program)
 
 -- a program has a tree, and the tree has a schedule
 pub record HasDesign (program : Typed) (top : List ℕ) : Type 0 where
-  pub tree : Hierarchy
+  pub tree : TreeData
   pub built : tree_of program top ≡ Ok tree
   pub made : Schedule
   pub scheduled : IsScheduled (subject tree) made
@@ -59,8 +59,8 @@ pub record IsBuilt (first : List ℕ) (contents : List ℕ → List ℕ) (top : 
   pub typed : IsTyped first contents l
   pub built : (program : Typed) → IsProgram l program → HasDesign program top
 
--- the first refusal of a design: in loading or typing, behind them in building, or behind that in scheduling
+-- the first refusal of a design: in loading or typing, after them in building, or after that in scheduling
 pub data Rejects (first : List ℕ) (contents : List ℕ → List ℕ) (top : List ℕ) (r : Refusal) : Type 0 where
   untyped : IsUntyped first contents r → Rejects first contents top r
   building : (l : Loaded) (program : Typed) → IsLoaded first contents l → IsProgram l program → tree_of program top ≡ Err (Some r) → Rejects first contents top r
-  scheduling : (l : Loaded) (program : Typed) (tree : Hierarchy) → IsLoaded first contents l → IsProgram l program → tree_of program top ≡ Ok tree → Unscheduled tree r → Rejects first contents top r
+  scheduling : (l : Loaded) (program : Typed) (tree : TreeData) → IsLoaded first contents l → IsProgram l program → tree_of program top ≡ Ok tree → Unscheduled tree r → Rejects first contents top r

@@ -5,7 +5,7 @@ use Rattle.std.specs.List.{list_any}
 abbrev pub is_line_feed : ℕ → Bool
 is_line_feed b = b == 10
 
--- what stands behind the last LF
+-- what comes after the last LF
 abbrev pub last_line : List ℕ → List ℕ
 last_line [] = []
 last_line (b ∷ bytes) = if list_any is_line_feed (b ∷ bytes) then last_line bytes else b ∷ bytes

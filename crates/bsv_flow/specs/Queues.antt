@@ -23,7 +23,7 @@ file_of first package_name = folder first ++ package_name ++ codes ".bsv"
 abbrev pub is_given : List ℕ → Bool
 is_given name = bytes_eq name (codes "FIFO") || bytes_eq name (codes "FIFOF") || bytes_eq name (codes "SpecialFIFOs")
 
--- a file goes behind those that wait, once
+-- a file goes after those that wait, once
 abbrev pub with_file : List (List ℕ) → List ℕ → List (List ℕ)
 with_file queue file = if list_any (bytes_eq file) queue then queue else queue ++ file ∷ []
 

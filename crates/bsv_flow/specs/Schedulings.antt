@@ -1,4 +1,4 @@
--- What scheduling answers of a tree: its schedule, or the first refusal behind building (Hoe and Arvind 2004; Bluespec
+-- What scheduling answers of a tree: its schedule, or the first refusal after building (Hoe and Arvind 2004; Bluespec
 -- reference guide, "Scheduling attributes").
 use Rattle.std.specs.Prelude.{◌≡◌, ℕ, false, List, [], ◌++◌, map, slice_get, Option, Some, None}
 use Rattle.bsv_design.specs.declared.design.Design.{Design}
@@ -8,33 +8,33 @@ use Rattle.bsv_design.specs.declared.element.Condition.{Condition}
 use Rattle.bsv_design.specs.declared.element.Element.{Element}
 use Rattle.bsv_design.specs.declared.schedule.Schedule.{Schedule}
 use Rattle.bsv_design.specs.declared.tree.Pair.{Pair}
-use Rattle.bsv_design.specs.Guards.{needs_of}
-use Rattle.bsv_design.specs.Relations.{KeepsTheRule, sites_of}
-use Rattle.bsv_design.specs.Schemes.{Scheme, AreAlike, design_scheme, kinds_of, tree_scheme}
-use Rattle.bsv_design.specs.Seen.{blueprint}
-use Rattle.bsv_design.specs.Sources.{parts_among}
-use Rattle.bsv_design.specs.Traces.{Site, Demand, with_dot}
-use Rattle.bsv_design.specs.Trees.{Hierarchy}
+use Rattle.bsv_design.specs.design.Guards.{needs_of}
+use Rattle.bsv_design.specs.scheme.Relations.{KeepsTheRule, sites_of}
+use Rattle.bsv_design.specs.scheme.Schemes.{Scheme, AreAlike, design_scheme, kinds_of, tree_scheme}
+use Rattle.bsv_design.specs.tree.Seen.{design_data}
+use Rattle.bsv_design.specs.tree.Sources.{parts_among}
+use Rattle.bsv_design.specs.scheme.Traces.{Site, Demand, with_dot}
+use Rattle.bsv_design.specs.tree.Trees.{TreeData}
 use Rattle.bsv_schedule.specs.relating.Elements.{relating}
-use Rattle.bsv_schedule.specs.executing.Orders.{Executes}
+use Rattle.bsv_schedule.specs.execution_order.Orders.{Executes}
 use Rattle.bsv_schedule.specs.relating.Relating.{Relating}
 use Rattle.bsv_schedule.specs.stopping.Stops.{AreStops}
-use Rattle.bsv_schedule.specs.urging.Orders.{Urges}
-use Rattle.bsv_schedule.specs.declared.executing.fault.OrderFault.{OrderFault}
-use Rattle.bsv_schedule.specs.declared.executing.fault.OrderFault.TheVariants as order
-use Rattle.bsv_schedule.specs.executing.Answers.{RefusesExecution}
-use Rattle.bsv_schedule.specs.declared.urging.fault.UrgencyFault.{UrgencyFault}
-use Rattle.bsv_schedule.specs.declared.urging.fault.UrgencyFault.TheVariants as urgency
-use Rattle.bsv_schedule.specs.urging.Answers.{RefusesUrgency}
+use Rattle.bsv_schedule.specs.urgency_order.Orders.{Urges}
+use Rattle.bsv_schedule.specs.declared.execution_order.fault.OrderFault.{OrderFault}
+use Rattle.bsv_schedule.specs.declared.execution_order.fault.OrderFault.TheVariants as order
+use Rattle.bsv_schedule.specs.execution_order.Answers.{RefusesExecution}
+use Rattle.bsv_schedule.specs.declared.urgency_order.fault.UrgencyFault.{UrgencyFault}
+use Rattle.bsv_schedule.specs.declared.urgency_order.fault.UrgencyFault.TheVariants as urgency
+use Rattle.bsv_schedule.specs.urgency_order.Answers.{RefusesUrgency}
 use Rattle.bsv_attr.specs.Asserting.{IsAccepted, NamesImplicit, NamesStopper}
 use Rattle.bsv_attr.specs.Implicit.{demands_of}
 use Rattle.bsv_guard.specs.Lifted.{AreLifted}
 use Rattle.bsv_inline.specs.Flattening.{top_name}
-use Rattle.bsv_net.specs.Hardware.{NetCarries}
-use Rattle.bsv_vtext.specs.AtHand.{contents}
+use Rattle.bsv_net.specs.ShowsByNet.{NetCarries}
+use Rattle.bsv_vtext.specs.AtHand.{module_data}
 use Rattle.bsv_vtext.specs.Modules.{IsModule}
-use Rattle.bsv_vtext.specs.Signals.{Contents}
-use Rattle.bsv_vgen.specs.Hardware.{ModuleCarries}
+use Rattle.bsv_vtext.specs.Signals.{VModuleData}
+use Rattle.bsv_vgen.specs.ShowsByModule.{ModuleCarries}
 use Rattle.bsv_vgen.specs.Interfaces.{IsModuleOf}
 use Rattle.bsv_vgen.specs.Resetting.{BeginsOpen, Resets}
 use Rattle.bsv_vgen.specs.Runs.{RunsAs}
@@ -49,12 +49,12 @@ pub record Subject : Type 0 where
   pub scheme : Scheme
   pub parts : List NamedPart
 
-abbrev pub subject : Hierarchy → Subject
+abbrev pub subject : TreeData → Subject
 subject h = record { scheme = tree_scheme h; parts = parts_among h.instances }
 
 -- the same of a design
 abbrev pub design_subject : Design → Subject
-design_subject d = record { scheme = design_scheme (blueprint d); parts = d.parts }
+design_subject d = record { scheme = design_scheme (design_data d); parts = d.parts }
 
 abbrev pub related : Subject → Relating
 related s = relating s.scheme
@@ -154,8 +154,8 @@ pub data IsUnasserted (s : Subject) (made : Schedule) : Refusal → Type 0 where
 
 -- ---- the first refusal
 
--- each behind the ones before it
-pub data Unscheduled (h : Hierarchy) (r : Refusal) : Type 0 where
+-- each after the ones before it
+pub data Unscheduled (h : TreeData) (r : Refusal) : Type 0 where
   in_rule : TellsBreach h r → Unscheduled h r
   executing : ((n : ℕ) → KeepsTheRule (tree_scheme h) n) → IsUnexecuted (subject h) r → Unscheduled h r
   urging : ((n : ℕ) → KeepsTheRule (tree_scheme h) n) → (execution : List ℕ) → Executes (related (subject h)) execution
@@ -167,7 +167,7 @@ pub data Unscheduled (h : Hierarchy) (r : Refusal) : Type 0 where
 
 -- the module carries the tree: its name, ports, registers and wires are those of the tree, from its initial words on it runs as the
 -- tree does, and a reset shows the parts before the first clock again but for registers without a start
-pub record IsVerilogOf (h : Hierarchy) (made : Schedule) (v : Contents) : Type 0 where
+pub record IsVerilogOf (h : TreeData) (made : Schedule) (v : VModuleData) : Type 0 where
   pub right : ∥ IsModule v ∥₁
   pub name : List ℕ
   pub top : top_name h ≡ Some name
@@ -178,11 +178,11 @@ pub record IsVerilogOf (h : Hierarchy) (made : Schedule) (v : Contents) : Type 0
   pub resets : Resets (tree_scheme h).kinds v
 
 -- the design is that of the tree, with the guards that its calls need, its net and its module
-pub record IsCompiledOf (h : Hierarchy) (c : Compiled) : Type 0 where
-  pub alike : AreAlike (tree_scheme h) (design_scheme (blueprint c.design))
+pub record IsCompiledOf (h : TreeData) (c : Compiled) : Type 0 where
+  pub alike : AreAlike (tree_scheme h) (design_scheme (design_data c.design))
   pub name : top_name h ≡ Some c.design.name
   pub parts : c.design.parts ≡ parts_among h.instances
-  pub needs : c.guards.needs ≡ needs_of (kinds_of (blueprint c.design)) c.design.elements
-  pub lifted : AreLifted (blueprint c.design) c.guards.needs
+  pub needs : c.guards.needs ≡ needs_of (kinds_of (design_data c.design)) c.design.elements
+  pub lifted : AreLifted (design_data c.design) c.guards.needs
   pub carries : NetCarries false (tree_scheme h) c.schedule c.net
-  pub verilog : IsVerilogOf h c.schedule (contents c.verilog)
+  pub verilog : IsVerilogOf h c.schedule (module_data c.verilog)

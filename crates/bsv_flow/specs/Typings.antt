@@ -4,7 +4,7 @@ use Rattle.bsv_names.specs.declared.place.Place.{Place}
 use Rattle.bsv_check.specs.declared.fault.CheckFault.{CheckFault}
 use Rattle.bsv_check.specs.declared.fault.CheckFault.TheVariants as fault
 use Rattle.bsv_check.specs.Checked as checked
-use Rattle.bsv_check.specs.Checked.{Made, Refused, checked}
+use Rattle.bsv_check.specs.Checked.{ProgramParts, Refused, checked}
 use Rattle.bsv_flow.specs.declared.loading.Loaded.{Loaded}
 use Rattle.bsv_flow.specs.declared.refusal.Refusal.{Refusal}
 use Rattle.bsv_flow.specs.declared.refusal.Refusal.TheVariants as refusal
@@ -45,21 +45,21 @@ told (fault.UnknownName p) = Some (checked.Refused.unknown_name p)
 told (fault.TypeFault p) = Some (checked.Refused.type_fault p)
 told (fault.WidthFault p) = Some (checked.Refused.width_fault p)
 
-abbrev pub with_place : Loaded → Result Made Refused → Result Made Refusal
+abbrev pub with_place : Loaded → Result ProgramParts Refused → Result ProgramParts Refusal
 with_place l (Ok m) = Ok m
 with_place l (Err r) = Err (placed l r)
 
 -- what the packages are typed as, or the first refusal
-abbrev pub typing_of : Loaded → Result Made Refusal
+abbrev pub typing_of : Loaded → Result ProgramParts Refusal
 typing_of l = with_place l (checked l.packages)
 
 -- what is loaded, and has a typing
 pub record IsTyped (first : List ℕ) (contents : List ℕ → List ℕ) (l : Loaded) : Type 0 where
   pub loaded : IsLoaded first contents l
-  pub made : Made
+  pub made : ProgramParts
   pub typed : typing_of l ≡ Ok made
 
--- nothing is typed: the first refusal, in loading or behind it in typing
+-- nothing is typed: the first refusal, in loading or after it in typing
 pub data IsUntyped (first : List ℕ) (contents : List ℕ → List ℕ) (r : Refusal) : Type 0 where
   loading : Refuses first contents r → IsUntyped first contents r
   typing : (l : Loaded) → IsLoaded first contents l → typing_of l ≡ Err r → IsUntyped first contents r

@@ -1,7 +1,7 @@
 ghost use Rattle.std.specs.Prelude.{◌≡◌, ◌⊎◌, ℕ, List, Some, Ok, Err, IfOk, IsTrue};
-ghost use Rattle.bsv_check.specs.Checked.{Made};
+ghost use Rattle.bsv_check.specs.Checked.{ProgramParts};
 ghost use Rattle.bsv_check.specs.Rightness.{is_counted};
-ghost use Rattle.bsv_design.specs.Seen.{hierarchy};
+ghost use Rattle.bsv_design.specs.tree.Seen.{tree_data};
 ghost use Rattle.bsv_types.specs.declared.typed.Typed.{Typed as TheTyped};
 ghost use Rattle.bsv_flow.specs.Buildings.{limit_word, refusal_of, tree_of, IsProgram, IsBuilt, Rejects};
 ghost use Rattle.bsv_flow.specs.OneAnswer.{IsSameRefusal};
@@ -57,7 +57,7 @@ fn refusal(alloc: Global, fault: ElabFault) -> Result<Refusal, OutOfMemory>
 /// The tree of a typed program whose top is the module of the name, or the first refusal of 12 to 17
 /// and 26 that is met as it is built.
 pub fn tree(alloc: Global, typed: Typed, top: &str) -> Result<Tree, CompileFault>
-    ensures built { IfOk result (λ t. tree_of typed top.now ≡ Ok (hierarchy t)) }
+    ensures built { IfOk result (λ t. tree_of typed top.now ≡ Ok (tree_data t)) }
     ensures refused { (r : TheRefusal) → result ≡ Err (Refused r)
         → tree_of typed top.now ≡ Err (Some r) }
     ensures own { (name : List ℕ) → result ≡ Err (ReadFault name) → ⊥ }
@@ -84,7 +84,7 @@ pub fn one_building()
         ⊎ ((r : TheRefusal) × Rejects first contents top r) }
     ensures one_program { (l : TheLoaded) (program other : TheTyped)
         → IsProgram l program → IsProgram l other → program ≡ other }
-    ensures a_program { (l : TheLoaded) (made : Made) → typing_of l ≡ Ok made
+    ensures a_program { (l : TheLoaded) (made : ProgramParts) → typing_of l ≡ Ok made
         → IsTrue (is_counted made) → (program : TheTyped) × IsProgram l program }
     ensures one_refusal { (first : List ℕ) (contents : List ℕ → List ℕ) (top : List ℕ)
         (r other : TheRefusal) → Rejects first contents top r → Rejects first contents top other

@@ -1,12 +1,12 @@
 ghost use Rattle.std.specs.Prelude.{◌≡◌, ℕ, ◌<◌, ◌≤◌, List, Some, Err, IfOk};
-ghost use Rattle.bsv_design.specs.Trees.{Hierarchy};
+ghost use Rattle.bsv_design.specs.tree.Trees.{TreeData};
 ghost use Rattle.bsv_design.specs.declared.schedule.Schedule.{Schedule};
 ghost use Rattle.bsv_io.specs.Faults.{MayFault};
 ghost use Rattle.bsv_io.specs.Reading.{bytes_given};
 ghost use Rattle.bsv_flow.specs.Buildings.{IsBuilt, Rejects};
 ghost use Rattle.bsv_flow.specs.Compilings.{CompilesTo, Declines, IsCompiled, IsPlanned};
 ghost use Rattle.bsv_flow.specs.Loads.{Reaches};
-ghost use Rattle.bsv_flow.specs.Running.{CanRun};
+ghost use Rattle.bsv_flow.specs.Running.{BelongTogether};
 ghost use Rattle.bsv_flow.specs.Sources.{read_limit};
 ghost use Rattle.bsv_flow.specs.declared.refusal.CompileFault.TheVariants.{Refused, ReadFault};
 ghost use Rattle.bsv_flow.specs.declared.refusal.Refusal.{Refusal as TheRefusal};
@@ -29,7 +29,7 @@ pub fn compiled<R: Threads + Sync>(
     top: &str,
 ) -> Result<Compiled, CompileFault>
     ensures compiled { IfOk result (λ c. CompilesTo loaded.now top.now c) }
-    ensures runs { IfOk result CanRun }
+    ensures runs { IfOk result BelongTogether }
     ensures refused { (r : TheRefusal) → result ≡ Err (Refused r) → Declines loaded.now top.now r }
     ensures own { (name : List ℕ) → result ≡ Err (ReadFault name) → ⊥ }
 {
@@ -55,7 +55,7 @@ pub fn compile<R: Threads + Sync, F: Files>(
     ensures compiled { IfOk result (λ c. (contents : List ℕ → List ℕ)
         → (F.reading files.old).contents ≡ Some contents
         → IsCompiled name.now contents top.now c) }
-    ensures runs { IfOk result CanRun }
+    ensures runs { IfOk result BelongTogether }
     ensures refused { (r : TheRefusal) → result ≡ Err (Refused r)
         → (contents : List ℕ → List ℕ)
         → (F.reading files.old).contents ≡ Some contents → Rejects name.now contents top.now r }
@@ -65,7 +65,7 @@ pub fn compile<R: Threads + Sync, F: Files>(
     ensures reached { (blamed : List ℕ) → result ≡ Err (ReadFault blamed)
         → (contents : List ℕ → List ℕ)
         → (F.reading files.old).contents ≡ Some contents → Reaches name.now contents blamed }
-    // No source is read on behind one byte more than it may have.
+    // No source is read on after one byte more than it may have.
     ensures within { read_limit < bytes_given (F.reading files.new)
         → (F.reading files.new).current ≡ (F.reading files.old).current }
     ensures contents { (F.reading files.new).contents ≡ (F.reading files.old).contents }
@@ -81,15 +81,15 @@ pub fn compile<R: Threads + Sync, F: Files>(
 /// is refused.
 pub fn one_plan()
     ensures tree { (first : List ℕ) (contents : List ℕ → List ℕ) (top : List ℕ)
-        (t u : Hierarchy) (made other : Schedule) → IsPlanned first contents top t made
+        (t u : TreeData) (made other : Schedule) → IsPlanned first contents top t made
         → IsPlanned first contents top u other → t ≡ u }
     ensures schedule { (first : List ℕ) (contents : List ℕ → List ℕ) (top : List ℕ)
-        (t u : Hierarchy) (made other : Schedule) → IsPlanned first contents top t made
+        (t u : TreeData) (made other : Schedule) → IsPlanned first contents top t made
         → IsPlanned first contents top u other → made ≡ other }
     ensures built { (first : List ℕ) (contents : List ℕ → List ℕ) (top : List ℕ)
-        (t : Hierarchy) (made : Schedule) → (plan : IsPlanned first contents top t made)
+        (t : TreeData) (made : Schedule) → (plan : IsPlanned first contents top t made)
         → IsBuilt first contents top plan.loaded }
     ensures apart { (first : List ℕ) (contents : List ℕ → List ℕ) (top : List ℕ)
-        (t : Hierarchy) (made : Schedule) (r : TheRefusal) → IsPlanned first contents top t made
+        (t : TreeData) (made : Schedule) (r : TheRefusal) → IsPlanned first contents top t made
         → Rejects first contents top r → ⊥ }
 {}

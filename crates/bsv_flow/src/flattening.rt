@@ -1,9 +1,9 @@
 ghost use Rattle.std.specs.Prelude.{◌≡◌, ℕ, List, slice_get, Some, Err, IfOk};
-ghost use Rattle.bsv_design.specs.Guards.{needs_of, body_ready};
-ghost use Rattle.bsv_design.specs.Relations.{KeepsTheRule};
-ghost use Rattle.bsv_design.specs.Schemes.{design_scheme, kinds_of, tree_scheme, AreAlike};
-ghost use Rattle.bsv_design.specs.Seen.{blueprint, hierarchy};
-ghost use Rattle.bsv_design.specs.Sources.{parts_among};
+ghost use Rattle.bsv_design.specs.design.Guards.{needs_of, body_ready};
+ghost use Rattle.bsv_design.specs.scheme.Relations.{KeepsTheRule};
+ghost use Rattle.bsv_design.specs.scheme.Schemes.{design_scheme, kinds_of, tree_scheme, AreAlike};
+ghost use Rattle.bsv_design.specs.tree.Seen.{design_data, tree_data};
+ghost use Rattle.bsv_design.specs.tree.Sources.{parts_among};
 ghost use Rattle.bsv_guard.specs.ElementLaws.{ElementLaws};
 ghost use Rattle.bsv_guard.specs.Lifted.{AreLifted};
 ghost use Rattle.bsv_inline.specs.Flattening.{top_name};
@@ -20,7 +20,7 @@ use bsv_guard::{GuardFault, lift};
 use bsv_inline::flatten;
 use std::alloc::Global;
 
-/// The refusal of two calls of an element that may not stand in it.
+/// The refusal of two calls of an element that may not be in it.
 fn breach(
     alloc: Global,
     design: &Design,
@@ -30,7 +30,7 @@ fn breach(
     second: u32,
 ) -> Result<Refusal, OutOfMemory>
     ensures { IfOk result (λ r.
-        r ≡ breaches.told_in (blueprint design.now) element part first second) }
+        r ≡ breaches.told_in (design_data design.now) element part first second) }
 {
     let parts = design.parts.as_slice();
     Ok(Refusal::InRule(
@@ -42,20 +42,20 @@ fn breach(
 }
 
 /// The design of a tree, with the guards of its elements; or the refusal of the first two calls of one
-/// element that may not stand in it.
+/// element that may not be in it.
 #[tactic(auto, using(crate::proofs::Flattened::tells, crate::proofs::Flattened::keeps, crate::proofs::Flattened::laws_of))]
 pub fn flat(alloc: Global, tree: &Tree) -> Result<(Design, Guards), CompileFault>
     ensures alike { IfOk result (λ x.
-        AreAlike (tree_scheme (hierarchy tree.now)) (design_scheme (blueprint x.0))) }
-    ensures name { IfOk result (λ x. top_name (hierarchy tree.now) ≡ Some x.0.name) }
+        AreAlike (tree_scheme (tree_data tree.now)) (design_scheme (design_data x.0))) }
+    ensures name { IfOk result (λ x. top_name (tree_data tree.now) ≡ Some x.0.name) }
     ensures parts { IfOk result (λ x. x.0.parts ≡ parts_among tree.now.instances) }
     ensures needs { IfOk result (λ x.
-        x.1.needs ≡ needs_of (kinds_of (blueprint x.0)) x.0.elements) }
-    ensures lifted { IfOk result (λ x. AreLifted (blueprint x.0) x.1.needs) }
-    ensures kept { IfOk result (λ x. (n : ℕ) → KeepsTheRule (tree_scheme (hierarchy tree.now)) n) }
-    ensures laws { IfOk result (λ x. ∥ ElementLaws (tree_scheme (hierarchy tree.now)) ∥₁) }
+        x.1.needs ≡ needs_of (kinds_of (design_data x.0)) x.0.elements) }
+    ensures lifted { IfOk result (λ x. AreLifted (design_data x.0) x.1.needs) }
+    ensures kept { IfOk result (λ x. (n : ℕ) → KeepsTheRule (tree_scheme (tree_data tree.now)) n) }
+    ensures laws { IfOk result (λ x. ∥ ElementLaws (tree_scheme (tree_data tree.now)) ∥₁) }
     ensures refused { (r : TheRefusal) → result ≡ Err (Refused r)
-        → TellsBreach (hierarchy tree.now) r }
+        → TellsBreach (tree_data tree.now) r }
     ensures own { (name : List ℕ) → result ≡ Err (ReadFault name) → ⊥ }
 {
     let design = flatten(alloc, tree)?;

@@ -31,7 +31,7 @@ pub struct Loaded {
 /// The first file lies where its name says, and the file `P.bsv` of a package P beside it. A package
 /// is loaded once, in the order in which the imports name it; `FIFO`, `FIFOF` and `SpecialFIFOs` have
 /// no file. At most 64 packages are loaded, of at most 1,048,576 bytes each. Where a file is refused,
-/// those behind it are not read.
+/// those after it are not read.
 pub fn load<F: Files>(alloc: Global, files: &mut F, name: &str) -> Result<Loaded, CompileFault>
     ensures loaded { IfOk result (λ l. (contents : List ℕ → List ℕ)
         → (F.reading files.old).contents ≡ Some contents → IsLoaded name.now contents l) }
@@ -43,7 +43,7 @@ pub fn load<F: Files>(alloc: Global, files: &mut F, name: &str) -> Result<Loaded
     ensures reached { (blamed : List ℕ) → result ≡ Err (ReadFault blamed)
         → (contents : List ℕ → List ℕ)
         → (F.reading files.old).contents ≡ Some contents → Reaches name.now contents blamed }
-    // No source is read on behind one byte more than it may have.
+    // No source is read on after one byte more than it may have.
     ensures within { read_limit < bytes_given (F.reading files.new)
         → (F.reading files.new).current ≡ (F.reading files.old).current }
     ensures contents { (F.reading files.new).contents ≡ (F.reading files.old).contents }

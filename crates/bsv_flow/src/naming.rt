@@ -1,6 +1,6 @@
 ghost use Rattle.std.specs.Prelude.{◌≡◌};
-ghost use Rattle.bsv_design.specs.Schemes.{design_scheme};
-ghost use Rattle.bsv_design.specs.Seen.{blueprint};
+ghost use Rattle.bsv_design.specs.scheme.Schemes.{design_scheme};
+ghost use Rattle.bsv_design.specs.tree.Seen.{design_data};
 ghost use Rattle.bsv_flow.specs.Attributes.{attribute_word};
 ghost use Rattle.bsv_flow.specs.Breaches as breaches;
 
@@ -19,9 +19,9 @@ pub(crate) fn attribute_word(attribute: Attribute) -> &'static str
 }
 
 /// The name of an element, by its position.
-#[tactic(auto, using(crate::proofs::Flattened::names_same), unfolding(bsv_design::specs::Schemes::design_scheme))]
+#[tactic(auto, using(crate::proofs::Flattened::names_same), unfolding(bsv_design::specs::scheme::Schemes::design_scheme))]
 pub(crate) fn element_name(design: &Design, position: u32) -> &[u8]
-    ensures { result.now ≡ breaches.element_name (design_scheme (blueprint design.now)) position }
+    ensures { result.now ≡ breaches.element_name (design_scheme (design_data design.now)) position }
 {
     match design.elements.get(position as usize) {
         Some(element) => element.name.bytes(),

@@ -52,7 +52,7 @@ fn is_queued(queue: &Items<Name>, file: &[u8]) -> bool
     queue.as_slice().iter().any(|name| file == name.bytes())
 }
 
-/// The files, with this one behind them if it is not named already.
+/// The files, with this one after them if it is not named already.
 fn with_file(mut queue: Items<Name>, file: Name) -> Result<Items<Name>, AllocError>
     ensures { IfOk result (λ x. x ≡ spec.with_file queue file) }
 {

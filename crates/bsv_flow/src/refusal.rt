@@ -61,7 +61,7 @@ pub enum Refusal {
     ExecutionCycle(Name, Name, Name),
     /// A pair closes a cycle of the urgency order: its attribute, and both elements.
     UrgencyCycle(Name, Name, Name),
-    /// This method is behind a rule in the urgency order: the method, and the first rule.
+    /// This method is after a rule in the urgency order: the method, and the first rule.
     MethodBehindRule(Name, Name),
     /// An attribute names no rule of its module: the attribute, and the name.
     NoSuchRule(Name, Name),

@@ -2,18 +2,18 @@ ghost use Rattle.std.specs.Prelude.{◌≡◌, ◌⊎◌, ℕ, false, List, Some
 ghost use Rattle.bsv_attr.specs.Asserting.{IsAccepted};
 ghost use Rattle.bsv_clock.specs.Obeying.{Obeys};
 ghost use Rattle.bsv_clock.specs.Grounds.{IsScheduleOf, KeepsRules};
-ghost use Rattle.bsv_design.specs.Guards.{needs_of};
-ghost use Rattle.bsv_design.specs.Schemes.{design_scheme, kinds_of, tree_scheme};
-ghost use Rattle.bsv_design.specs.Seen.{blueprint, hierarchy};
-ghost use Rattle.bsv_design.specs.Trees.{Hierarchy};
+ghost use Rattle.bsv_design.specs.design.Guards.{needs_of};
+ghost use Rattle.bsv_design.specs.scheme.Schemes.{design_scheme, kinds_of, tree_scheme};
+ghost use Rattle.bsv_design.specs.tree.Seen.{design_data, tree_data};
+ghost use Rattle.bsv_design.specs.tree.Trees.{TreeData};
 ghost use Rattle.bsv_design.specs.declared.schedule.Schedule.{Schedule as TheSchedule};
-ghost use Rattle.bsv_schedule.specs.executing.Orders.{Executes};
+ghost use Rattle.bsv_schedule.specs.execution_order.Orders.{Executes};
 ghost use Rattle.bsv_schedule.specs.relating.Relating.{feed_edges};
-ghost use Rattle.bsv_schedule.specs.urging.Orders.{Urges};
+ghost use Rattle.bsv_schedule.specs.urgency_order.Orders.{Urges};
 ghost use Rattle.bsv_graph.specs.Walks.{IsAcyclic};
-ghost use Rattle.bsv_net.specs.Hardware.{NetCarries};
+ghost use Rattle.bsv_net.specs.ShowsByNet.{NetCarries};
 ghost use Rattle.bsv_flow.specs.Breaches as breaches;
-ghost use Rattle.bsv_flow.specs.Running.{CanRun};
+ghost use Rattle.bsv_flow.specs.Running.{BelongTogether};
 ghost use Rattle.bsv_flow.specs.Schedulings as spec;
 ghost use Rattle.bsv_flow.specs.Schedulings.{
   IsScheduled,
@@ -57,7 +57,7 @@ pub struct Compiled {
 /// The name of an element.
 fn named(alloc: Global, design: &Design, position: u32) -> Result<Name, OutOfMemory>
     ensures { IfOk result (λ name.
-        name ≡ breaches.element_name (design_scheme (blueprint design.now)) position) }
+        name ≡ breaches.element_name (design_scheme (design_data design.now)) position) }
 {
     Name::new(alloc, element_name(design, position))
 }
@@ -236,7 +236,7 @@ fn urged(alloc: Global, design: &Design) -> Result<Items<u32>, CompileFault>
 #[tactic(auto, using(crate::proofs::ScheduledTrees::unasserted_implicit, crate::proofs::ScheduledTrees::unasserted_stopped))]
 fn asserted(alloc: Global, design: &Design, schedule: &Schedule) -> Result<(), CompileFault>
     ensures accepted { OnOk result
-        (IsAccepted (design_scheme (blueprint design.now)) schedule.now) }
+        (IsAccepted (design_scheme (design_data design.now)) schedule.now) }
     ensures refused { (r : TheRefusal) → result ≡ Err (Refused r)
         → IsUnasserted (design_subject design.now) schedule.now r }
     ensures own { (name : List ℕ) → result ≡ Err (ReadFault name) → ⊥ }
@@ -264,12 +264,12 @@ fn net_of(
     guards: &Guards,
     schedule: &Schedule,
 ) -> Result<Net, OutOfMemory>
-    requires rules { KeepsRules (design_scheme (blueprint design.now)) }
+    requires rules { KeepsRules (design_scheme (design_data design.now)) }
     requires needs { guards.now.needs
-        ≡ needs_of (kinds_of (blueprint design.now)) design.now.elements }
-    requires schedule { IsScheduleOf (design_scheme (blueprint design.now)) schedule.now }
+        ≡ needs_of (kinds_of (design_data design.now)) design.now.elements }
+    requires schedule { IsScheduleOf (design_scheme (design_data design.now)) schedule.now }
     ensures { IfOk result
-        (NetCarries false (design_scheme (blueprint design.now)) schedule.now) }
+        (NetCarries false (design_scheme (design_data design.now)) schedule.now) }
 {
     let net = add_fire(alloc, design, guards, schedule)?;
     add_next(alloc, design, schedule, net)
@@ -284,13 +284,13 @@ pub fn scheduled<R: Threads + Sync>(
     alloc: Global,
     tree: &Tree,
 ) -> Result<Compiled, CompileFault>
-    ensures compiled { IfOk result (λ c. spec.IsCompiledOf (hierarchy tree.now) c) }
+    ensures compiled { IfOk result (λ c. spec.IsCompiledOf (tree_data tree.now) c) }
     ensures scheduled { IfOk result (λ c.
-        IsScheduled (subject (hierarchy tree.now)) c.schedule) }
-    ensures obeys { IfOk result (λ c. Obeys (tree_scheme (hierarchy tree.now)) c.schedule) }
-    ensures runs { IfOk result CanRun }
+        IsScheduled (subject (tree_data tree.now)) c.schedule) }
+    ensures obeys { IfOk result (λ c. Obeys (tree_scheme (tree_data tree.now)) c.schedule) }
+    ensures runs { IfOk result BelongTogether }
     ensures refused { (r : TheRefusal) → result ≡ Err (Refused r)
-        → Unscheduled (hierarchy tree.now) r }
+        → Unscheduled (tree_data tree.now) r }
     ensures own { (name : List ℕ) → result ≡ Err (ReadFault name) → ⊥ }
 {
     let (design, guards) = flat(alloc, tree)?;
@@ -311,12 +311,12 @@ pub fn scheduled<R: Threads + Sync>(
 
 /// A tree has one schedule or one first refusal of scheduling, and not both.
 pub fn one_schedule()
-    ensures one { (h : Hierarchy) (made other : TheSchedule)
+    ensures one { (h : TreeData) (made other : TheSchedule)
         → IsScheduled (subject h) made → IsScheduled (subject h) other → made ≡ other }
-    ensures one_refusal { (h : Hierarchy) (r other : TheRefusal)
+    ensures one_refusal { (h : TreeData) (r other : TheRefusal)
         → Unscheduled h r → Unscheduled h other → r ≡ other }
-    ensures apart { (h : Hierarchy) (made : TheSchedule) (r : TheRefusal)
+    ensures apart { (h : TreeData) (made : TheSchedule) (r : TheRefusal)
         → IsScheduled (subject h) made → Unscheduled h r → ⊥ }
-    ensures some { (h : Hierarchy) → ((made : TheSchedule) × IsScheduled (subject h) made)
+    ensures some { (h : TreeData) → ((made : TheSchedule) × IsScheduled (subject h) made)
         ⊎ ((r : TheRefusal) × Unscheduled h r) }
 {}

@@ -2,7 +2,7 @@ use Rattle.std.proofs.Common.{◌≡◌, ℕ, ◌<◌, ◌⊎◌, inl, inr, Bool
 use Rattle.std.proofs.lemmas.Bool.{cases_eq, cases_lt}
 use Rattle.std.specs.Prelude.{IsTrue, IsFalse}
 use Rattle.bsv_graph.specs.declared.edge.Edge.{Edge}
-use Rattle.bsv_graph.specs.Orders.{In, StandsBefore}
+use Rattle.bsv_graph.specs.Orders.{In, IsBefore}
 use Rattle.bsv_graph.specs.Reaching.{AreWithin}
 use Rattle.bsv_graph.specs.Walks.{Walk, step, more, IsAcyclic, LeastOnCycle, Closes}
 use Rattle.bsv_graph.proofs.WalkLemmas.{Upto, Since, walk_with, walk_weaken, walk_through, walk_inside}
@@ -81,11 +81,11 @@ cycle_or_none n es f = elim (first_with (λ a. Walk es a a) (λ a. decide_walk e
   | inr x ↦ inr (x.0, record { cycle = x.1.holds; lower = x.1.lower })
 ]
 
--- where a number stands in a list
+-- where a number is in a list
 pub decide_in : (xs : List ℕ) (a : ℕ) → Decided (In xs a)
 decide_in [] a = inr (λ h. h)
 decide_in (x ∷ xs) a = decide_either (cases_eq a x) (decide_in xs a)
 
-pub decide_before : (xs : List ℕ) (a b : ℕ) → Decided (StandsBefore xs a b)
+pub decide_before : (xs : List ℕ) (a b : ℕ) → Decided (IsBefore xs a b)
 decide_before [] a b = inr (λ h. h)
 decide_before (x ∷ xs) a b = decide_either (decide_both (cases_eq a x) (decide_in xs b)) (decide_before xs a b)

@@ -6,10 +6,10 @@ use Rattle.bsv_graph.proofs.LeastLemmas.{once_apart}
 use Rattle.bsv_graph.proofs.OrderedLemmas.{place_here, place_there}
 
 -- a number after some others, among which it is not, has their count as its place
-pub place_behind : (us ws : List ℕ) (f : ℕ) → ¬ In us f → length us ≤ place_of (us ++ ws) f
-place_behind [] ws f out = omega arith
-place_behind (u ∷ us) ws f out =
-    let rest = place_behind us ws f (λ i. out (inr i)) in
+pub place_after : (us ws : List ℕ) (f : ℕ) → ¬ In us f → length us ≤ place_of (us ++ ws) f
+place_after [] ws f out = omega arith
+place_after (u ∷ us) ws f out =
+    let rest = place_after us ws f (λ i. out (inr i)) in
     let here = place_there u f (1 + place_of (us ++ ws) f) (λ e. out (inl e)) in
     omega (arith, rest, here)
 
@@ -32,10 +32,10 @@ is_or_not (u ∷ us) f = of (cases_eq f u) (is_or_not us f)
 pub not_yet : (us rest : List ℕ) (n : ℕ) → IsOnce (us ++ n ∷ rest) → ¬ In us n
 not_yet us rest n once i = once_apart us (n ∷ rest) n once i (inl refl)
 
--- what has an earlier place stands in front
+-- what has an earlier place is in front
 pub in_front : (us rest : List ℕ) (n f : ℕ) → IsOnce (us ++ n ∷ rest) → place_of (us ++ n ∷ rest) f < place_of (us ++ n ∷ rest) n → In us f
 in_front us rest n f once l = of (is_or_not us f)
   where
     of : In us f ⊎ ¬ In us f → In us f
     of (inl i) = i
-    of (inr o) = absurd (let m = place_behind us (n ∷ rest) f o in let e = place_next us rest n (not_yet us rest n once) in omega (arith, l, m, e))
+    of (inr o) = absurd (let m = place_after us (n ∷ rest) f o in let e = place_next us rest n (not_yet us rest n once) in omega (arith, l, m, e))

@@ -106,7 +106,7 @@ in_parts [] ys a h = inr h
 in_parts (x ∷ xs) ys a (inl h) = inl (inl h)
 in_parts (x ∷ xs) ys a (inr h) = elim (in_parts xs ys a h) [ inl k ↦ inl (inr k) | inr k ↦ inr k ]
 
--- what stands in front does not come again
+-- what is in front does not come again
 pub once_apart : (xs ys : List ℕ) (a : ℕ) → IsOnce (xs ++ ys) → In xs a → In ys a → ⊥
 once_apart [] ys a o h k = h
 once_apart (x ∷ xs) ys a o (inl h) k = o.0 (in_right xs ys x (subst (λ z. In ys z) h k))
@@ -119,15 +119,15 @@ once_snoc (x ∷ xs) a o n = (
   once_snoc xs a o.1 (λ h. n (inr h)),
 )
 
--- no edge leads back from behind
+-- no edge leads back from after
 pub respects_apart : (es : List Edge) (xs ys : List ℕ) (p a : ℕ) → Respects es (xs ++ ys) → In xs p → In ys a → ¬ HasEdge es a p
 respects_apart es [] ys p a r h k e = h
 respects_apart es (x ∷ xs) ys p a r (inl h) k e = r.0 a (inr (in_right xs ys a k)) (subst (λ z. HasEdge es a z) h e)
 respects_apart es (x ∷ xs) ys p a r (inr h) k e = respects_apart es xs ys p a r.1 h k e
 
-pub respects_behind : (es : List Edge) (xs ys : List ℕ) → Respects es (xs ++ ys) → Respects es ys
-respects_behind es [] ys r = r
-respects_behind es (x ∷ xs) ys r = respects_behind es xs ys r.1
+pub respects_after : (es : List Edge) (xs ys : List ℕ) → Respects es (xs ++ ys) → Respects es ys
+respects_after es [] ys r = r
+respects_after es (x ∷ xs) ys r = respects_after es xs ys r.1
 
 -- the least element that has no walk from another that is not in the list
 pub record IsNext (es : List Edge) (n : ℕ) (before : List ℕ) (x : ℕ) : Type 0 where
@@ -156,7 +156,7 @@ module _ (es : List Edge) (n : ℕ) (within : AreWithin n es) (before : List ℕ
   stays a c h e = left_of c (within a c e).1 (λ k. respects_apart es before (y ∷ ys) c a r k h e)
 
   no_walk : (a b : ℕ) → b ≡ y → In (y ∷ ys) a → ¬ Walk es a b
-  no_walk a b e h (step k) = (respects_behind es before (y ∷ ys) r).0 a h (subst (λ z. HasEdge es a z) e k)
+  no_walk a b e h (step k) = (respects_after es before (y ∷ ys) r).0 a h (subst (λ z. HasEdge es a z) e k)
   no_walk a b e h (more k w) = no_walk _ b e (stays a _ h k) w
 
 pub greedy_least : (es : List Edge) (n : ℕ) → AreWithin n es → (before xs ys : List ℕ) → IsGreedy es n before xs
@@ -299,7 +299,7 @@ pub greedy_more : (es : List Edge) (t : Table) (placed : List Bool) (order : Lis
     → IsLeastReady t placed x → IsGreedy es t.side [] order → IsGreedy es t.side [] (order ++ (x ∷ []))
 greedy_more es t placed order i x m f r g = greedy_snoc es t.side [] order x g (next_from_ready es t placed order i x m f r)
 
--- where nothing is waited for, the cursors stand at 0
+-- where nothing is waited for, the cursors are at 0
 pub clear_first : (t : Table) (placed : List Bool) (waits : List ℕ) (z : ℕ) → z ≡ 0 → waits ≡ replicate t.side z → AreClear t placed waits
 clear_first t placed waits z zeroth e = rw e (record {
   size = length-replicate t.side z;

@@ -163,7 +163,7 @@ edge_parts [] ys a b h = inr h
 edge_parts (x ∷ xs) ys a b (inl h) = inl (inl h)
 edge_parts (x ∷ xs) ys a b (inr h) = elim (edge_parts xs ys a b h) [ inl k ↦ inl (inr k) | inr k ↦ inr k ]
 
--- a first edge may stand last
+-- a first edge may be last
 pub snoc_there : (xs es : List Edge) (e : Edge) (a b : ℕ) → HasEdge (e ∷ (xs ++ es)) a b → HasEdge ((xs ++ (e ∷ [])) ++ es) a b
 snoc_there xs es e a b (inl h) = edge_left (xs ++ (e ∷ [])) es a b (edge_right xs (e ∷ []) a b (inl h))
 snoc_there xs es e a b (inr h) = elim (edge_parts xs es a b h) [
@@ -243,7 +243,7 @@ pub none_first : (es : List Edge) → NoneCloses es []
 none_first es [] behind p e c = cc
 none_first es (x ∷ before) behind p e c = cc
 
--- an element of a list, with what stands before it and behind it
+-- an element of a list, with what comes before it and after it
 pub read_split : (ps : List Edge) (k : ℕ) (d : Edge) → k < length ps → ps ≡ take k ps ++ (get_or ps k d ∷ drop_list (suc k) ps)
 read_split ps k d h = sym (take-append-drop k ps) ∙ ap (λ z. take k ps ++ z) (drop-cons ps k d h)
 

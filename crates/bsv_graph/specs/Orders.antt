@@ -36,10 +36,10 @@ pub record IsLeastOrder (n : ℕ) (es : List Edge) (xs : List ℕ) : Type 0 wher
   pub respects : Respects es xs
   pub least : (ys : List ℕ) → IsOrderOf n ys → Respects es ys → IsUpTo xs ys
 
--- a stands before b in the list
-abbrev pub StandsBefore : List ℕ → ℕ → ℕ → Type 0
-StandsBefore [] a b = ⊥
-StandsBefore (x ∷ xs) a b = ((a ≡ x) × In xs b) ⊎ StandsBefore xs a b
+-- a comes before b in the list
+abbrev pub IsBefore : List ℕ → ℕ → ℕ → Type 0
+IsBefore [] a b = ⊥
+IsBefore (x ∷ xs) a b = ((a ≡ x) × In xs b) ⊎ IsBefore xs a b
 
 -- the place of a in the list
 abbrev pub place_of : List ℕ → ℕ → ℕ

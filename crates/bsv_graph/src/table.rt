@@ -3,7 +3,7 @@ ghost use Rattle.std.specs.Prelude.{◌≡◌, ℕ, ◌*◌, ◌^◌, ◌<◌, v
 use bsv_bits::OutOfMemory;
 use std::alloc::Global;
 
-/// A square of marks, row behind row.
+/// A square of marks, row after row.
 #[derive(Drop)]
 pub struct Table {
     side: usize,

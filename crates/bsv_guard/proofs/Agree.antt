@@ -3,10 +3,10 @@ use Rattle.std.proofs.Common.{◌≡◌, ◌∙◌, ℕ, Bool, true, false, cond
 use Rattle.std.specs.Prelude.{slice_get}
 use Rattle.bsv_bits.specs.Words.{Bits}
 use Rattle.bsv_design.specs.declared.kind.Kind.{Kind}
-use Rattle.bsv_design.specs.Bodies.{Answers}
-use Rattle.bsv_design.specs.Branches.{AgreeOnTaken, AreSameWhereTaken}
-use Rattle.bsv_design.specs.Schemes.{Scheme, AreArgumentsOf}
-use Rattle.bsv_design.specs.Traces.{Site, acts, kind_at}
+use Rattle.bsv_design.specs.design.Bodies.{Answers}
+use Rattle.bsv_design.specs.design.Branches.{AgreeOnTaken, AreSameWhereTaken}
+use Rattle.bsv_design.specs.scheme.Schemes.{Scheme, AreArgumentsOf}
+use Rattle.bsv_design.specs.scheme.Traces.{Site, acts, kind_at}
 use Rattle.bsv_guard.specs.Sound.{IsSound}
 
 -- the first answers to calls that act, and the second ones to all others

@@ -3,11 +3,11 @@ use Rattle.std.proofs.Common.{◌≡◌, ◌∙◌, ℕ, Bool, ◌&&◌, List, [
 use Rattle.std.specs.Prelude.{slice_get}
 use Rattle.bsv_prim.specs.declared.part.Part.{Part}
 use Rattle.bsv_design.specs.declared.kind.Kind.{Kind}
-use Rattle.bsv_design.specs.Relations.{goes, feeds, for_all, for_some, may_precede, is_seen, no_answers, sites_of, break_the_rule, IsBreach, KeepsTheRule, IsFirstBreach}
-use Rattle.bsv_design.specs.Schemes.{Scheme, Outline, Asking, Look, AreAlike, ports_of, filled, if_asked, answers, given, seen, all_hold, all_open, ready, calls, value, taken_actions}
-use Rattle.bsv_design.specs.Serial.{by_rank, run_whole, Serial, done, turn}
-use Rattle.bsv_design.specs.States.{plain, after_calls}
-use Rattle.bsv_design.specs.Traces.{Site, Trace}
+use Rattle.bsv_design.specs.scheme.Relations.{goes, feeds, for_all, for_some, may_precede, is_seen, no_answers, sites_of, break_the_rule, IsBreach, KeepsTheRule, IsFirstBreach}
+use Rattle.bsv_design.specs.scheme.Schemes.{Scheme, Outline, Asking, Look, AreAlike, ports_of, filled, if_asked, answers, given, seen, all_hold, all_open, ready, calls, value, taken_actions}
+use Rattle.bsv_design.specs.scheme.Serial.{by_rank, run_whole, Serial, done, turn}
+use Rattle.bsv_design.specs.scheme.States.{plain, after_calls}
+use Rattle.bsv_design.specs.scheme.Traces.{Site, Trace}
 use Rattle.bsv_guard.specs.ElementLaws.{DoTheSame}
 use Rattle.bsv_guard.proofs.Given.{given_arguments}
 use Rattle.bsv_design.proofs.Elements.{length-filled}

@@ -10,11 +10,11 @@ use Rattle.bsv_design.specs.declared.element.Port.{Port}
 use Rattle.bsv_design.specs.declared.kind.Kind.{Kind}
 use Rattle.bsv_design.specs.declared.node.Node.{Node}
 use Rattle.bsv_design.specs.declared.node.Node.TheVariants as node
-use Rattle.bsv_design.specs.Bodies.{target, Answers, at, answer, node_word, values, words_behind}
-use Rattle.bsv_design.specs.Kinds.{kind_table}
-use Rattle.bsv_design.specs.Running.{or_zero}
-use Rattle.bsv_design.specs.States.{AreWordsOf}
-use Rattle.bsv_design.specs.Widths.{has_width, args_fit, method_fits, gives_word, result_width, node_width, widths_from, two_width, pick_width, slice_width, join_width, extend_width}
+use Rattle.bsv_design.specs.design.Bodies.{target, Answers, at, answer, node_word, values, words_after}
+use Rattle.bsv_design.specs.tree.Kinds.{kind_table}
+use Rattle.bsv_design.specs.carrying.Running.{or_zero}
+use Rattle.bsv_design.specs.scheme.States.{AreWordsOf}
+use Rattle.bsv_design.specs.design.Widths.{has_width, args_fit, method_fits, gives_word, result_width, node_width, widths_from, two_width, pick_width, slice_width, join_width, extend_width}
 use Rattle.bsv_guard.specs.Fitting.{HaveWidths, IsFitCall, IsFitAnswer, AnswersFit}
 use Rattle.bsv_guard.proofs.Nodes.{chained, where_width}
 use Rattle.bsv_guard.proofs.Words.{constant_fits, not_fits, two_fits, pick_fits, slice_fits, join_fits, extend_fits, sign_extend_fits}
@@ -165,7 +165,7 @@ module _ (ks : List Kind) (ports : List Port) (cs : List Call) (ws : List Bits) 
       sign_extend_fits (at vs a) width v x.word (ap (λ p. extend_width (Some p) width) x.same_width ∙ ap (λ p. extend_width p width) (sym is.1) ∙ e)
 
   words_from : (ns : List Node) (us ends : List ℕ) (vs : List Bits) → HaveWidths us vs → widths_from ports ks cs us ns ≡ Some ends → HaveWidths ends (values r ws cs vs ns)
-  unfolding words_behind widths_from
+  unfolding words_after widths_from
   words_from [] us ends vs have e = let same : us ≡ ends = cc in subst (λ (ms : List ℕ). HaveWidths ms vs) same have
   words_from (x ∷ ns) us ends vs have e =
       let c = chained (node_width ports ks cs us x) (λ w. widths_from ports ks cs (us ++ w ∷ []) ns) ends e in

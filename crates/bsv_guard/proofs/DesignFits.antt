@@ -11,14 +11,14 @@ use Rattle.bsv_design.specs.declared.element.Call.{Call}
 use Rattle.bsv_design.specs.declared.element.Element.{Element}
 use Rattle.bsv_design.specs.declared.element.Port.{Port}
 use Rattle.bsv_design.specs.declared.kind.Kind.{Kind}
-use Rattle.bsv_design.specs.Bodies.{Target, target, Answers, at, words}
-use Rattle.bsv_design.specs.Designs.{Blueprint, IsElement, IsDesign}
-use Rattle.bsv_design.specs.Kinds.{kind_table}
-use Rattle.bsv_design.specs.Roles.{is_rule, gives_value}
-use Rattle.bsv_design.specs.Schemes.{Asking, outline, ports_of, filled, if_asked, given, answers, Look, calls_of, trace_of, kinds_of, design_scheme}
-use Rattle.bsv_design.specs.States.{FitLook, AreWordsOf, FitMethods, AskingFits, methods_in}
-use Rattle.bsv_design.specs.Traces.{Site, kind_at, site_at, body_trace}
-use Rattle.bsv_design.specs.Widths.{widths_from, has_width, method_fits, call_fits, port_fits, result_fits}
+use Rattle.bsv_design.specs.design.Bodies.{Target, target, Answers, at, words}
+use Rattle.bsv_design.specs.design.Designs.{DesignData, IsElement, IsDesign}
+use Rattle.bsv_design.specs.tree.Kinds.{kind_table}
+use Rattle.bsv_design.specs.tree.Roles.{is_rule, gives_value}
+use Rattle.bsv_design.specs.scheme.Schemes.{Asking, outline, ports_of, filled, if_asked, given, answers, Look, calls_of, trace_of, kinds_of, design_scheme}
+use Rattle.bsv_design.specs.scheme.States.{FitLook, AreWordsOf, FitMethods, AskingFits, methods_in}
+use Rattle.bsv_design.specs.scheme.Traces.{Site, kind_at, site_at, body_trace}
+use Rattle.bsv_design.specs.design.Widths.{widths_from, has_width, method_fits, call_fits, port_fits, result_fits}
 use Rattle.bsv_design.proofs.Asked.{some_width, most_width}
 use Rattle.bsv_guard.specs.Fitting.{HaveWidths, IsMethodOf, IsFitCall, AnswersFit, RequestFits, IsFitting, DesignFits}
 use Rattle.bsv_guard.proofs.BodyFits.{words_fit, word_there, call_fit}
@@ -82,17 +82,17 @@ module _ (ks : List Kind) (e : Element) (is : IsElement ks e) where
 
 -- ---- the whole
 
-each_runs : (b : Blueprint) → IsDesign b → (n : ℕ) → RunsInWidths (kinds_of b) (slice_get b.elements n)
+each_runs : (b : DesignData) → IsDesign b → (n : ℕ) → RunsInWidths (kinds_of b) (slice_get b.elements n)
 each_runs b is n = of (slice_get b.elements n) refl
   where
     of : (o : Option Element) → slice_get b.elements n ≡ o → RunsInWidths (kinds_of b) o
     of None e = nothing_runs (kinds_of b)
     of (Some x) e = body_runs (kinds_of b) x (is.elements n x e)
 
-ports_there : (b : Blueprint) (n : ℕ) (ws : List Bits) → AreWordsOf (ports_of (slice_get (map outline b.elements) n)) ws → AreWordsOf (ports_of (option_map outline (slice_get b.elements n))) ws
+ports_there : (b : DesignData) (n : ℕ) (ws : List Bits) → AreWordsOf (ports_of (slice_get (map outline b.elements) n)) ws → AreWordsOf (ports_of (option_map outline (slice_get b.elements n))) ws
 ports_there b n ws h = subst (λ o. AreWordsOf (ports_of o) ws) (slice_get-map outline b.elements n) h
 
-pub design_is_fitting : (b : Blueprint) → IsDesign b → IsFitting (design_scheme b)
+pub design_is_fitting : (b : DesignData) → IsDesign b → IsFitting (design_scheme b)
 unfolding design_scheme
 design_is_fitting b is = record {
   methods = λ n t u. (each_runs b is n).methods u.index t u.is;
@@ -138,7 +138,7 @@ request_among (x ∷ es) asked args h n e g ports = cases (is_rule x.role) asked
     cases false (a ∷ asked) (ws ∷ args) h more (suc n) g = more asked args h.1 n g
 
 -- requests that fit a design give each element words of its widths
-pub request_fits : (b : Blueprint) → IsDesign b → (q : Asking) → AskingFits b.elements q → (n : ℕ) → RequestFits (design_scheme b) q n
+pub request_fits : (b : DesignData) → IsDesign b → (q : Asking) → AskingFits b.elements q → (n : ℕ) → RequestFits (design_scheme b) q n
 unfolding design_scheme given
 request_fits b is q fit n =
     subst (λ o. AreWordsOf (ports_of o) (filled (ports_of o) (if_asked (slice_get q.asked n) (slice_get q.args n)))) (sym (slice_get-map outline b.elements n))
@@ -148,7 +148,7 @@ request_fits b is q fit n =
     of None e = tt
     of (Some x) e = request_among b.elements q.asked q.args fit n x e (is.elements n x e).fits.ports
 
-nodes_fit : (b : Blueprint) → IsDesign b → (n : ℕ) (e : Element) → slice_get b.elements n ≡ Some e → (q : Asking) → AskingFits b.elements q → (a : Look) → FitLook (kinds_of b) a
+nodes_fit : (b : DesignData) → IsDesign b → (n : ℕ) (e : Element) → slice_get b.elements n ≡ Some e → (q : Asking) → AskingFits b.elements q → (a : Look) → FitLook (kinds_of b) a
     → (widths : List ℕ) → widths_from e.arguments (kinds_of b) e.calls [] e.nodes ≡ Some widths → HaveWidths widths (words e (answers (kinds_of b) a) (given (design_scheme b) q n))
 unfolding design_scheme
 nodes_fit b is n e here q fit a look widths w =
@@ -156,5 +156,5 @@ nodes_fit b is n e here q fit a look widths w =
     words_fit (kinds_of b) e.arguments e.calls (given (design_scheme b) q n) (subst (λ o. AreWordsOf (ports_of o) (given (design_scheme b) q n)) ports (request_fits b is q fit n))
     (answers (kinds_of b) a) (answers_fit (kinds_of b) a look) e.nodes widths w
 
-pub design_fits : (b : Blueprint) → IsDesign b → DesignFits b
+pub design_fits : (b : DesignData) → IsDesign b → DesignFits b
 design_fits b is = record { requests = request_fits b is; nodes = nodes_fit b is }

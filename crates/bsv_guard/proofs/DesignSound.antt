@@ -10,13 +10,13 @@ use Rattle.bsv_design.specs.declared.element.Condition.{Condition}
 use Rattle.bsv_design.specs.declared.element.Element.{Element}
 use Rattle.bsv_design.specs.declared.element.Role.TheVariants as role
 use Rattle.bsv_design.specs.declared.kind.Kind.{Kind}
-use Rattle.bsv_design.specs.Bodies.{target, Answers, at, words}
-use Rattle.bsv_design.specs.Branches.{AreExclusive, AgreeOnTaken, AreSameWhereTaken}
-use Rattle.bsv_design.specs.Designs.{Blueprint, IsElement, IsDesign}
-use Rattle.bsv_design.specs.Kinds.{kind_table}
-use Rattle.bsv_design.specs.Schemes.{Outline, AreArgumentsOf, outline, ports_of, calls_of, trace_of, kinds_of, design_scheme}
-use Rattle.bsv_design.specs.Traces.{Site, Demand, acts, kind_at, site_at, demand_at, body_trace}
-use Rattle.bsv_design.specs.Widths.{acts_not}
+use Rattle.bsv_design.specs.design.Bodies.{target, Answers, at, words}
+use Rattle.bsv_design.specs.design.Branches.{AreExclusive, AgreeOnTaken, AreSameWhereTaken}
+use Rattle.bsv_design.specs.design.Designs.{DesignData, IsElement, IsDesign}
+use Rattle.bsv_design.specs.tree.Kinds.{kind_table}
+use Rattle.bsv_design.specs.scheme.Schemes.{Outline, AreArgumentsOf, outline, ports_of, calls_of, trace_of, kinds_of, design_scheme}
+use Rattle.bsv_design.specs.scheme.Traces.{Site, Demand, acts, kind_at, site_at, demand_at, body_trace}
+use Rattle.bsv_design.specs.design.Widths.{acts_not}
 use Rattle.bsv_guard.specs.Sound.{IsSound, AreSamePlaces, AgreeOnReads, Place, place}
 use Rattle.bsv_guard.proofs.Lists.{holds_at_all, item_of}
 use Rattle.bsv_guard.proofs.Nodes.{same_words}
@@ -85,18 +85,18 @@ body_runs ks e is = record {
       sym (ap (λ (y : Site). y.action) i.gives) ∙ quiet ks i.item (holds_at_all (acts_not ks) e.calls (is.value (ap (λ (z : Element). z.role) one ∙ v)) k i.item i.is));
 }
 
-fit_of : (b : Blueprint) (n : ℕ) (ws : List Bits) → AreArgumentsOf (design_scheme b) n ws → Fit (slice_get b.elements n) ws
+fit_of : (b : DesignData) (n : ℕ) (ws : List Bits) → AreArgumentsOf (design_scheme b) n ws → Fit (slice_get b.elements n) ws
 unfolding design_scheme
 fit_of b n ws f = f ∙ ap (λ o. length (ports_of o)) (slice_get-map outline b.elements n)
 
-each_runs : (b : Blueprint) → IsDesign b → (n : ℕ) → RunsSoundly (kinds_of b) (slice_get b.elements n)
+each_runs : (b : DesignData) → IsDesign b → (n : ℕ) → RunsSoundly (kinds_of b) (slice_get b.elements n)
 each_runs b is n = of (slice_get b.elements n) refl
   where
     of : (o : Option Element) → slice_get b.elements n ≡ o → RunsSoundly (kinds_of b) o
     of None e = nothing_runs (kinds_of b)
     of (Some x) e = body_runs (kinds_of b) x (is.elements n x e)
 
-pub design_is_sound : (b : Blueprint) → IsDesign b → IsSound (design_scheme b)
+pub design_is_sound : (b : DesignData) → IsDesign b → IsSound (design_scheme b)
 unfolding design_scheme
 design_is_sound b is = record {
   uses = λ n r ws f. (each_runs b is n).uses r ws (fit_of b n ws f);

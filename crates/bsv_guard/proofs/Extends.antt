@@ -5,10 +5,10 @@ use Rattle.std.proofs.lemmas.Bool.{and_parts, and_from}
 use Rattle.bsv_lemmas.proofs.Places.{mapped_at}
 use Rattle.bsv_bits.specs.Words.{Bits}
 use Rattle.bsv_design.specs.declared.kind.Kind.{Kind}
-use Rattle.bsv_design.specs.Bodies.{Target}
-use Rattle.bsv_design.specs.Branches.{AreSameWhereTaken, AreSameSites, AreSameDemands, IsSameSite}
-use Rattle.bsv_design.specs.Schemes.{Scheme, Asking, Look, Called, is_open, guard_of, result_of, no_result, answers, given, seen, required, all_open, all_hold, ready, calls, value, taken_actions}
-use Rattle.bsv_design.specs.Traces.{Site, Demand, Trace, kind_at}
+use Rattle.bsv_design.specs.design.Bodies.{Target}
+use Rattle.bsv_design.specs.design.Branches.{AreSameWhereTaken, AreSameSites, AreSameDemands, IsSameSite}
+use Rattle.bsv_design.specs.scheme.Schemes.{Scheme, Asking, Look, Called, is_open, guard_of, result_of, no_result, answers, given, seen, required, all_open, all_hold, ready, calls, value, taken_actions}
+use Rattle.bsv_design.specs.scheme.Traces.{Site, Demand, Trace, kind_at}
 use Rattle.bsv_guard.specs.Sound.{IsSound}
 use Rattle.bsv_guard.specs.ElementLaws.{IsUse, ActsAlike, StaysOpen}
 use Rattle.bsv_guard.proofs.Agree.{decided_by_reads}

@@ -1,7 +1,7 @@
 -- The words of a request are as many as an element has arguments.
 use Rattle.std.proofs.Common.{ℕ}
 use Rattle.std.specs.Prelude.{slice_get}
-use Rattle.bsv_design.specs.Schemes.{Scheme, Asking, AreArgumentsOf, ports_of, if_asked, given}
+use Rattle.bsv_design.specs.scheme.Schemes.{Scheme, Asking, AreArgumentsOf, ports_of, if_asked, given}
 use Rattle.bsv_design.proofs.Elements.{length-filled}
 
 pub given_arguments : (S : Scheme) (q : Asking) (n : ℕ) → AreArgumentsOf S n (given S q n)

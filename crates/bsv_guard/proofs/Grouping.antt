@@ -1,4 +1,4 @@
--- A call that is added stands in its group, and those that stood in one still do.
+-- A call that is added is in its group, and those that was in one still do.
 use Rattle.std.proofs.Common.{◌≡◌, ◌∙◌, ℕ, ◌+◌, ◌<◌, ◌≢◌, List, [], ◌∷◌, ◌++◌, length, get_or, Some, sym, ap, subst, arith, ◌⊎◌, inl, inr}
 use Rattle.std.specs.Prelude.{slice_get}
 use Rattle.std.proofs.Math.ListN.{length-set, length-append, get_or-append}
@@ -23,7 +23,7 @@ last_in js x = record {
   is = get_or-append_seam js x [] 0;
 }
 
--- in each group as it is behind the change
+-- in each group as it is after the change
 at_same : (gs : List (List ℕ)) (at n : ℕ) → at < length gs → get_or (added gs at n) at [] ≡ get_or gs at [] ++ n ∷ []
 at_same gs at n h = get_or-set_same gs at (get_or gs at [] ++ n ∷ []) [] h
 

@@ -1,6 +1,6 @@
 -- A sound scheme keeps the laws of one element.
-use Rattle.bsv_design.specs.Schemes.{Scheme, calls}
-use Rattle.bsv_design.specs.Serial.{by_rank}
+use Rattle.bsv_design.specs.scheme.Schemes.{Scheme, calls}
+use Rattle.bsv_design.specs.scheme.Serial.{by_rank}
 use Rattle.bsv_guard.specs.Sound.{IsSound}
 use Rattle.bsv_guard.specs.ElementLaws.{ElementLaws}
 use Rattle.bsv_guard.proofs.Alike.{alike}

@@ -26,7 +26,7 @@ holds_at_all p [] h k x e = absurd (let n : ⊥ = cc in n)
 holds_at_all p (y ∷ ys) h zero x e = let same : y ≡ x = cc in ap p (sym same) ∙ (and_parts (p y) (list_all p ys) h).0
 holds_at_all p (y ∷ ys) h (suc k) x e = holds_at_all p ys (and_parts (p y) (list_all p ys) h).1 k x e
 
--- each item of a list stands in this relation to each later one
+-- each item of a list is in this relation to each later one
 abbrev pub Pairs : {A : Type 0} → (A → A → Type 0) → List A → Type 0
 Pairs P [] = Unit {0}
 Pairs P (x ∷ xs) = AllByRecursion (P x) xs × Pairs P xs

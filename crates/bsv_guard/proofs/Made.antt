@@ -9,11 +9,11 @@ use Rattle.bsv_prim.specs.declared.primitive.Rel.{Rel}
 use Rattle.bsv_prim.specs.declared.primitive.Rel.TheVariants.{Cf, Sb, Sa, Sbr, C}
 use Rattle.bsv_design.specs.declared.element.Role.TheVariants as role
 use Rattle.bsv_design.specs.declared.kind.Kind.{Kind}
-use Rattle.bsv_design.specs.Branches.{apart}
-use Rattle.bsv_design.specs.Kinds.{kind_table, kind_laws}
-use Rattle.bsv_design.specs.Relations.{may_stand, break_the_rule, no_answers, KeepsTheRule}
-use Rattle.bsv_design.specs.Schemes.{Scheme, Outline, Asking, Look, Called, ports_of, filled, is_open, answers, given, seen, required, all_open, all_hold, ready, calls, taken_actions}
-use Rattle.bsv_design.specs.Traces.{Site, Trace, acts, kind_at}
+use Rattle.bsv_design.specs.design.Branches.{apart}
+use Rattle.bsv_design.specs.tree.Kinds.{kind_table, kind_laws}
+use Rattle.bsv_design.specs.scheme.Relations.{may_stand, break_the_rule, no_answers, KeepsTheRule}
+use Rattle.bsv_design.specs.scheme.Schemes.{Scheme, Outline, Asking, Look, Called, ports_of, filled, is_open, answers, given, seen, required, all_open, all_hold, ready, calls, taken_actions}
+use Rattle.bsv_design.specs.scheme.Traces.{Site, Trace, acts, kind_at}
 use Rattle.bsv_guard.specs.Sound.{IsSound, Place, place}
 use Rattle.bsv_guard.specs.ElementLaws.{IsUse}
 use Rattle.bsv_guard.proofs.Extends.{under, is_use, each_open, taken_is_open, called}
@@ -52,7 +52,7 @@ none_taken (x ∷ xs) h =
     ap (λ (a : Bool). cond (a && x.taken) (called x ∷ taken_actions xs) (taken_actions xs)) (h zero x refl)
     ∙ none_taken xs (λ k y e. h (suc k) y e)
 
--- ---- which methods may stand in one element
+-- ---- which methods may be in one element
 
 turned : (r : Rel) → in_one_element (converse r) ≡ in_one_element r
 turned Cf = refl
@@ -79,7 +79,7 @@ may_stand-turned (Some k) m n =
     (sym (ap in_one_element ((kind_laws k).table.dual m n) ∙ turned (t.relation m n)))
     ∙ swapped (in_one_element (t.relation n m)) (t.sees m n) (t.sees n m)
 
--- two calls on one part may stand in one element
+-- two calls on one part may be in one element
 abbrev pub StandBeside : List Kind → Called → Called → Type 0
 StandBeside ks c d = c.target.part ≡ d.target.part → may_stand (kind_at ks c.target) c.target.method d.target.method ≡ true
 

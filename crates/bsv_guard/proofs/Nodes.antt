@@ -11,12 +11,12 @@ use Rattle.bsv_design.specs.declared.element.Port.{Port}
 use Rattle.bsv_design.specs.declared.kind.Kind.{Kind}
 use Rattle.bsv_design.specs.declared.node.Node.{Node}
 use Rattle.bsv_design.specs.declared.node.Node.TheVariants as node
-use Rattle.bsv_design.specs.Bodies.{target, Answers, at, answer, node_word, of_parts, values, words_behind}
-use Rattle.bsv_design.specs.Kinds.{kind_table}
+use Rattle.bsv_design.specs.design.Bodies.{target, Answers, at, answer, node_word, of_parts, values, words_after}
+use Rattle.bsv_design.specs.tree.Kinds.{kind_table}
 use Rattle.bsv_design.proofs.Bodies.{words_grown}
-use Rattle.bsv_design.specs.Running.{or_zero}
-use Rattle.bsv_design.specs.Traces.{acts, kind_at}
-use Rattle.bsv_design.specs.Widths.{has_width, if_width, args_fit, method_fits, gives_word, result_width, if_some, node_width, widths_from}
+use Rattle.bsv_design.specs.carrying.Running.{or_zero}
+use Rattle.bsv_design.specs.scheme.Traces.{acts, kind_at}
+use Rattle.bsv_design.specs.design.Widths.{has_width, if_width, args_fit, method_fits, gives_word, result_width, if_some, node_width, widths_from}
 
 -- ---- what widths tell
 
@@ -39,7 +39,7 @@ has_one [] k w h = absurd (let n : ⊥ = cc in n)
 has_one (u ∷ us) zero w h = omega arith
 has_one (u ∷ us) (suc k) w h = let l = has_one us k w h in omega arith
 
--- the nodes of the arguments stand before
+-- the nodes of the arguments come before
 pub arguments_before : (t : Table) (m : ℕ) (us : List ℕ) (k : ℕ) (args : List ℕ) → args_fit t m us k args ≡ true → AllByRecursion (λ a. a < length us) args
 arguments_before t m us k [] h = tt
 arguments_before t m us k (a ∷ args) h =
@@ -98,7 +98,7 @@ module _ (ks : List Kind) (ports : List Port) (cs : List Call) (ws : List Bits) 
 
   same_from : (q r : Answers) (all : List Bits) → AgreeAt q r all → (ns : List Node) (vs : List Bits) (us ends : List ℕ) → values q ws cs vs ns ≡ all → length vs ≡ length us → widths_from ports ks cs us ns ≡ Some ends
       → values q ws cs vs ns ≡ values r ws cs vs ns
-  unfolding words_behind widths_from
+  unfolding words_after widths_from
   same_from q r all h [] vs us ends is long e = refl
   same_from q r all h (x ∷ ns) vs us ends is long e =
       let c = chained (node_width ports ks cs us x) (λ w. widths_from ports ks cs (us ++ w ∷ []) ns) ends e in

@@ -6,12 +6,12 @@ use Rattle.std.proofs.lemmas.Bool.{and_parts, eqb-true, leb-true, leb-false}
 use Rattle.bsv_prim.specs.Elements.{IsByRank}
 use Rattle.bsv_prim.specs.Table.{in_one_element}
 use Rattle.bsv_design.specs.declared.kind.Kind.{Kind}
-use Rattle.bsv_design.specs.Bodies.{Target}
-use Rattle.bsv_design.specs.Kinds.{kind_table, kind_laws}
-use Rattle.bsv_design.specs.Relations.{may_precede, may_precede_of, may_stand}
-use Rattle.bsv_design.specs.Schemes.{Called}
-use Rattle.bsv_design.specs.Serial.{rank, rank_of, put_by_rank, by_rank}
-use Rattle.bsv_design.specs.Traces.{kind_at}
+use Rattle.bsv_design.specs.design.Bodies.{Target}
+use Rattle.bsv_design.specs.tree.Kinds.{kind_table, kind_laws}
+use Rattle.bsv_design.specs.scheme.Relations.{may_precede, may_precede_of, may_stand}
+use Rattle.bsv_design.specs.scheme.Schemes.{Called}
+use Rattle.bsv_design.specs.scheme.Serial.{rank, rank_of, put_by_rank, by_rank}
+use Rattle.bsv_design.specs.scheme.Traces.{kind_at}
 use Rattle.bsv_guard.specs.ElementLaws.{AreRanked, is_call_of, call_of}
 use Rattle.bsv_guard.proofs.Lists.{Pairs, pair_at}
 use Rattle.bsv_guard.proofs.Made.{StandBeside}
@@ -109,7 +109,7 @@ module _ (ks : List Kind) where
   pub ranked : (cs : List Called) → AreRanked ks cs (by_rank ks cs)
   ranked cs = record { same = λ t. same_calls t cs; ranks = λ i j c d l e f. pair_at RankRises (by_rank ks cs) (ranks_rise cs) i j c d l e f }
 
-  -- ---- calls that may stand in one element, by rank
+  -- ---- calls that may be in one element, by rank
 
   three_parts : (a b c : Bool) → (a && not b && not c) ≡ true → (a ≡ true) × (b ≡ false) × (c ≡ false)
   three_parts true false false h = (refl, refl, refl)

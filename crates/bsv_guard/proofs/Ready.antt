@@ -8,10 +8,10 @@ use Rattle.bsv_design.specs.declared.element.Call.{Call}
 use Rattle.bsv_design.specs.declared.element.Element.{Element}
 use Rattle.bsv_design.specs.declared.kind.Kind.{Kind}
 use Rattle.bsv_design.specs.declared.schedule.Need.{Need}
-use Rattle.bsv_design.specs.Bodies.{target, words}
-use Rattle.bsv_design.specs.Guards.{is_guarded, needs_from, needs_hold, holds_at, body_ready}
-use Rattle.bsv_design.specs.Schemes.{Look, is_open, answers, all_hold, all_open, required}
-use Rattle.bsv_design.specs.Traces.{kind_at, site_at, demand_at, body_trace}
+use Rattle.bsv_design.specs.design.Bodies.{target, words}
+use Rattle.bsv_design.specs.design.Guards.{is_guarded, needs_from, needs_hold, holds_at, body_ready}
+use Rattle.bsv_design.specs.scheme.Schemes.{Look, is_open, answers, all_hold, all_open, required}
+use Rattle.bsv_design.specs.scheme.Traces.{kind_at, site_at, demand_at, body_trace}
 use Rattle.bsv_guard.specs.Lifted.{all_ready}
 use Rattle.bsv_design.proofs.Elements.{unguarded}
 

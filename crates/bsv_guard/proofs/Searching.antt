@@ -7,12 +7,12 @@ use Rattle.std.proofs.lemmas.Option.{same_Some}
 use Rattle.bsv_lemmas.proofs.Truths.{both_right, both_left}
 use Rattle.bsv_design.specs.declared.element.Call.{Call}
 use Rattle.bsv_design.specs.declared.kind.Kind.{Kind}
-use Rattle.bsv_design.specs.Branches.{apart}
-use Rattle.bsv_design.specs.Kinds.{kind_table}
-use Rattle.bsv_design.specs.Relations.{may_stand}
-use Rattle.bsv_design.specs.Widths.{has_method, call_named}
+use Rattle.bsv_design.specs.design.Branches.{apart}
+use Rattle.bsv_design.specs.tree.Kinds.{kind_table}
+use Rattle.bsv_design.specs.scheme.Relations.{may_stand}
+use Rattle.bsv_design.specs.design.Widths.{has_method, call_named}
 use Rattle.bsv_guard.specs.Groups.{AreGrouped, StandsIn, group_of}
-use Rattle.bsv_guard.specs.Pairs.{breaks, IsPair, AreFree, IsFound, NoneAmong, NoneBehind, IsFirstBehind}
+use Rattle.bsv_guard.specs.Pairs.{breaks, IsPair, AreFree, IsFound, NoneAmong, NoneAfter, IsFirstAfter}
 
 pub named_at : (ks : List Kind) (cs : List Call) (j : ℕ) (c : Call) → IsTrue (list_all (call_named ks) cs) → slice_get cs j ≡ Some c → call_named ks c ≡ true
 named_at ks [] j c h e = absurd cc
@@ -35,14 +35,14 @@ method_within ks c d k at h named =
     let it : has_method (Some k) d.method ≡ true = subst (λ o. has_method o d.method ≡ true) same named in
     ltb-true _ _ it
 
--- they call a method that may not stand beside the first one's
+-- they call a method that may not be beside the first one's
 pub stand_otherwise : (ks : List Kind) (c d : Call) (k : Kind) (m : ℕ) → slice_get ks c.part ≡ Some k → breaks ks c d ≡ true → may_stand (Some k) c.method m ≡ true → d.method ≡ m → ⊥
 stand_otherwise ks c d k m at h stand is =
     let not_so : may_stand (Some k) c.method m ≡ false = subst (λ n. may_stand (Some k) c.method n ≡ false) is (may_not_stand ks c d k at h) in
     let differ : true ≡ false = sym stand ∙ not_so in
     absurd cc
 
--- a call of this method that stands in no group of those looked at
+-- a call of this method that is in no group of those looked at
 pub not_among : (ks : List Kind) (cs : List Call) (gs : List (List ℕ)) (i j : ℕ) (c d : Call) (m : ℕ) → AreGrouped cs gs → NoneAmong ks cs i c (group_of gs c.part m)
     → slice_get cs j ≡ Some d → i < j → breaks ks c d ≡ true → d.method ≡ m → ⊥
 not_among ks cs gs i j c d m grouped none at behind broken is =
@@ -59,24 +59,24 @@ not_among ks cs gs i j c d m grouped none at behind broken is =
       s_is : get_or (group_of gs c.part m) s.at 0 ≡ j
       s_is = subst (λ js. get_or js s.at 0 ≡ j) there s.is
 
--- no call behind the one call more
-pub none_more : (ks : List Kind) (cs : List Call) (n : ℕ) (one : Call) → ((i : ℕ) (c : Call) → i < n → slice_get cs i ≡ Some c → NoneBehind ks cs i c)
-    → slice_get cs n ≡ Some one → NoneBehind ks cs n one → (i : ℕ) (c : Call) → i < n + 1 → slice_get cs i ≡ Some c → NoneBehind ks cs i c
+-- no call after the one call more
+pub none_more : (ks : List Kind) (cs : List Call) (n : ℕ) (one : Call) → ((i : ℕ) (c : Call) → i < n → slice_get cs i ≡ Some c → NoneAfter ks cs i c)
+    → slice_get cs n ≡ Some one → NoneAfter ks cs n one → (i : ℕ) (c : Call) → i < n + 1 → slice_get cs i ≡ Some c → NoneAfter ks cs i c
 none_more ks cs n one before at here i c h is = of (cases_order i n) where
-  of : (i ≡ n) ⊎ ((i < n) ⊎ (n < i)) → NoneBehind ks cs i c
+  of : (i ≡ n) ⊎ ((i < n) ⊎ (n < i)) → NoneAfter ks cs i c
   of (inl e) =
       let same : one ≡ c = same_Some one c (sym at ∙ (ap (slice_get cs) (sym e) ∙ is)) in
-      subst (λ k. NoneBehind ks cs k c) (sym e) (subst (NoneBehind ks cs n) same here)
+      subst (λ k. NoneAfter ks cs k c) (sym e) (subst (NoneAfter ks cs n) same here)
   of (inr (inl e)) = before i c e is
   of (inr (inr e)) = absurd (omega arith)
 
 -- ---- all pairs
 
-pub all_free : (ks : List Kind) (cs : List Call) → ((i : ℕ) (c : Call) → slice_get cs i ≡ Some c → NoneBehind ks cs i c) → AreFree ks cs
+pub all_free : (ks : List Kind) (cs : List Call) → ((i : ℕ) (c : Call) → slice_get cs i ≡ Some c → NoneAfter ks cs i c) → AreFree ks cs
 all_free ks cs h = λ i j c d p. h i c p.first j d p.second p.earlier p.broken
 
-pub found : (ks : List Kind) (cs : List Call) (i : ℕ) (c : Call) (m : ℕ) → ((k : ℕ) (d : Call) → k < i → slice_get cs k ≡ Some d → NoneBehind ks cs k d)
-    → slice_get cs i ≡ Some c → IsFirstBehind ks cs i c m → IsFound ks cs c.part c.method m
+pub found : (ks : List Kind) (cs : List Call) (i : ℕ) (c : Call) (m : ℕ) → ((k : ℕ) (d : Call) → k < i → slice_get cs k ≡ Some d → NoneAfter ks cs k d)
+    → slice_get cs i ≡ Some c → IsFirstAfter ks cs i c m → IsFound ks cs c.part c.method m
 found ks cs i c m before at f = record {
   earlier = i;
   later = f.later;

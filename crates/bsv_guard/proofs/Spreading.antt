@@ -1,4 +1,4 @@
--- Calls that stand in later and later arms stand in different arms of one choice, each with each.
+-- Calls that are in later and later arms are in different arms of one choice, each with each.
 use Rattle.std.proofs.Common.{◌≡◌, ◌∙◌, ℕ, zero, suc, ◌<◌, ◌≢◌, Bool, true, false, not, ◌&&◌, ◌||◌, eqb, ltb, List, [], ◌∷◌, length, get_or, map, Some, refl, sym, ap, subst, arith, ◌⊎◌, inl, inr, eqb-true, ltb-true, eq-eqb, ne_eqb, lt-ltb}
 use Rattle.std.specs.Prelude.{slice_get}
 use Rattle.std.proofs.lemmas.Bool.{cases_order, or_left, and_from, or_right}
@@ -7,11 +7,11 @@ use Rattle.bsv_lemmas.proofs.Truths.{both_left, both_right}
 use Rattle.bsv_design.specs.declared.element.Call.{Call}
 use Rattle.bsv_design.specs.declared.kind.Kind.{Kind}
 use Rattle.bsv_design.specs.declared.node.Branch.{Branch}
-use Rattle.bsv_design.specs.Branches.{apart, other_arm, other_arm_of}
-use Rattle.bsv_design.specs.Relations.{may_stand}
+use Rattle.bsv_design.specs.design.Branches.{apart, other_arm, other_arm_of}
+use Rattle.bsv_design.specs.scheme.Relations.{may_stand}
 use Rattle.bsv_guard.specs.Groups.{AreGrouped, StandsIn, group_of, place}
 use Rattle.bsv_guard.specs.Pairs.{breaks}
-use Rattle.bsv_guard.specs.Spread.{in_later_arm, arms_in, arms_of, spread_behind, is_spread, spread_of}
+use Rattle.bsv_guard.specs.Spread.{in_later_arm, arms_in, arms_of, spread_after, is_spread, spread_of}
 use Rattle.bsv_guard.proofs.Searching.{same_part, stand_otherwise}
 
 -- ---- later arms
@@ -71,8 +71,8 @@ differ a b same ne = and_from (eqb a.choice b.choice) _ (eq-eqb _ _ same) (ap no
 apart_here : (a b : Branch) (xs ys : List Branch) → other_arm a b ≡ true → apart (a ∷ xs) (b ∷ ys) ≡ true
 apart_here a b xs ys h = or_left (other_arm a b || other_arm_of a ys) _ (or_left (other_arm a b) _ h)
 
-apart_behind : (a b : Branch) (xs ys : List Branch) → apart xs ys ≡ true → apart (a ∷ xs) (b ∷ ys) ≡ true
-apart_behind a b xs ys h = or_right (other_arm a b || other_arm_of a ys) _ (apart_more xs ys b h)
+apart_after : (a b : Branch) (xs ys : List Branch) → apart xs ys ≡ true → apart (a ∷ xs) (b ∷ ys) ≡ true
+apart_after a b xs ys h = or_right (other_arm a b || other_arm_of a ys) _ (apart_more xs ys b h)
 
 both_of : (a b : Branch) (xs ys : List Branch) → (in_later_arm xs ys ≡ true → (apart xs ys ≡ true) × (apart ys xs ≡ true)) → a.choice ≡ b.choice
     → (a.arm < b.arm) ⊎ ((a.arm ≡ b.arm) × (in_later_arm xs ys ≡ true)) → (apart (a ∷ xs) (b ∷ ys) ≡ true) × (apart (b ∷ ys) (a ∷ xs) ≡ true)
@@ -80,7 +80,7 @@ both_of a b xs ys inner same (inl less) =
     let there : a.arm ≢ b.arm = omega arith in
     let back : b.arm ≢ a.arm = omega arith in
     (apart_here a b xs ys (differ a b same there), apart_here b a ys xs (differ b a (sym same) back))
-both_of a b xs ys inner same (inr (arm, rest)) = let h = inner rest in (apart_behind a b xs ys h.0, apart_behind b a ys xs h.1)
+both_of a b xs ys inner same (inr (arm, rest)) = let h = inner rest in (apart_after a b xs ys h.0, apart_after b a ys xs h.1)
 
 both_apart : (xs ys : List Branch) → in_later_arm xs ys ≡ true → (apart xs ys ≡ true) × (apart ys xs ≡ true)
 both_apart [] ys h = absurd cc
@@ -89,11 +89,11 @@ both_apart (a ∷ xs) (b ∷ ys) h = let p = later_parts a b xs ys h in both_of 
 
 -- ---- calls of a group
 
-first_before : (cs : List Call) (i : ℕ) (js : List ℕ) (k : ℕ) → spread_behind cs i js ≡ true → k < length js → in_later_arm (arms_of cs i) (arms_of cs (get_or js k 0)) ≡ true
+first_before : (cs : List Call) (i : ℕ) (js : List ℕ) (k : ℕ) → spread_after cs i js ≡ true → k < length js → in_later_arm (arms_of cs i) (arms_of cs (get_or js k 0)) ≡ true
 first_before cs i [] k h within = absurd (omega arith)
-first_before cs i (j ∷ js) zero h within = both_left _ (spread_behind cs j js) h
+first_before cs i (j ∷ js) zero h within = both_left _ (spread_after cs j js) h
 first_before cs i (j ∷ js) (suc k) h within =
-    later_onward (arms_of cs i) (arms_of cs j) (arms_of cs (get_or js k 0)) (both_left _ (spread_behind cs j js) h)
+    later_onward (arms_of cs i) (arms_of cs j) (arms_of cs (get_or js k 0)) (both_left _ (spread_after cs j js) h)
     (first_before cs j js k (both_right (in_later_arm (arms_of cs i) (arms_of cs j)) _ h) (omega arith))
 
 rest_spread : (cs : List Call) (j : ℕ) (js : List ℕ) → is_spread cs (j ∷ js) ≡ true → is_spread cs js ≡ true
@@ -137,7 +137,7 @@ of_group cs gs ss part m are some h =
     subst (λ xs. get_or xs (place part m (length gs)) false ≡ true) are (subst (λ n. get_or ss (place part m n) false ≡ true) long h) in
     sym (get_or-map (is_spread cs) gs (place part m (length gs)) [] false within) ∙ told
 
--- a call behind another one, of a method that is free of it
+-- a call after another one, of a method that is free of it
 pub free_of : (ks : List Kind) (cs : List Call) (gs : List (List ℕ)) (ss : List Bool) (i j : ℕ) (c d : Call) (k : Kind) (m : ℕ) → AreGrouped cs gs → ss ≡ map (is_spread cs) gs → 0 < length gs
     → slice_get cs i ≡ Some c → slice_get cs j ≡ Some d → i < j → slice_get ks c.part ≡ Some k → breaks ks c d ≡ true
     → (may_stand (Some k) c.method m || (eqb c.method m && spread_of ss c.part m)) ≡ true → d.method ≡ m → ⊥

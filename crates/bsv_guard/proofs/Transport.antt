@@ -3,11 +3,11 @@ use Rattle.std.proofs.Common.{◌≡◌, ◌∙◌, ℕ, List, length, sym, ap, 
 use Rattle.std.specs.Prelude.{map, slice_get, Some}
 use Rattle.bsv_bits.specs.Words.{Bits}
 use Rattle.bsv_design.specs.declared.kind.Kind.{Kind}
-use Rattle.bsv_design.specs.Bodies.{Target, Answers}
-use Rattle.bsv_design.specs.Branches.{AreExclusive, AgreeOnTaken, AreSameWhereTaken}
-use Rattle.bsv_design.specs.Schemes.{Scheme, Outline, AreArgumentsOf, AreAlike, ports_of}
-use Rattle.bsv_design.specs.States.{AreWordsOf}
-use Rattle.bsv_design.specs.Traces.{Site, Trace, acts, kind_at}
+use Rattle.bsv_design.specs.design.Bodies.{Target, Answers}
+use Rattle.bsv_design.specs.design.Branches.{AreExclusive, AgreeOnTaken, AreSameWhereTaken}
+use Rattle.bsv_design.specs.scheme.Schemes.{Scheme, Outline, AreArgumentsOf, AreAlike, ports_of}
+use Rattle.bsv_design.specs.scheme.States.{AreWordsOf}
+use Rattle.bsv_design.specs.scheme.Traces.{Site, Trace, acts, kind_at}
 use Rattle.bsv_guard.specs.Sound.{IsSound, AreSamePlaces, AgreeOnReads}
 use Rattle.bsv_guard.specs.Fitting.{AnswersFit, IsMethodOf, IsFitCall, IsFitting}
 use Rattle.bsv_design.proofs.Elements.{length-words}

@@ -14,11 +14,11 @@ use Rattle.bsv_prim.specs.Elements.{IsByRank, AreByRank}
 use Rattle.bsv_prim.specs.Table.{Table, Call, CallFits}
 use Rattle.bsv_prim.specs.declared.part.Part.{Part}
 use Rattle.bsv_design.specs.declared.kind.Kind.{Kind}
-use Rattle.bsv_design.specs.Kinds.{kind_table, kind_laws}
-use Rattle.bsv_design.specs.Schemes.{Scheme, Asking, Called, guard_of, calls}
-use Rattle.bsv_design.specs.Serial.{made, run_whole}
-use Rattle.bsv_design.specs.States.{FitsKinds, FitLook, part_at, plain, applied, after_call, after_calls}
-use Rattle.bsv_design.specs.Traces.{kind_at}
+use Rattle.bsv_design.specs.tree.Kinds.{kind_table, kind_laws}
+use Rattle.bsv_design.specs.scheme.Schemes.{Scheme, Asking, Called, guard_of, calls}
+use Rattle.bsv_design.specs.scheme.Serial.{calls_made, run_whole}
+use Rattle.bsv_design.specs.scheme.States.{FitsKinds, FitLook, part_at, plain, applied, after_call, after_calls}
+use Rattle.bsv_design.specs.scheme.Traces.{kind_at}
 use Rattle.bsv_guard.specs.Sound.{IsSound}
 use Rattle.bsv_guard.specs.ElementLaws.{ElementLaws, call_of}
 use Rattle.bsv_guard.specs.Fitting.{IsFitting, IsFitCall, FittingLaws}
@@ -128,44 +128,44 @@ module _ (S : Scheme) (laws : ElementLaws S) (fits : FittingLaws S) where
 
   module _ (g : Bool) (q : Asking) (n : ℕ) (ps : List Part) (turn : IsTurn g S q n ps) (i : ℕ) (kind : Kind) (is : slice_get S.kinds i ≡ Some kind) where
     -- a fact of the calls of the element, of those on the part by rank
-    of_made : (P : Call → Type 0) → ((k : ℕ) (c : Called) → slice_get (calls S q n (plain ps)) k ≡ Some c → c.target.part ≡ i → P (call_of c)) → AllByRecursion P (calls_on i (made S q n ps))
+    of_made : (P : Call → Type 0) → ((k : ℕ) (c : Called) → slice_get (calls S q n (plain ps)) k ≡ Some c → c.target.part ≡ i → P (call_of c)) → AllByRecursion P (calls_on i (calls_made S q n ps))
     of_made P h =
-        all_on P i (made S q n ps)
+        all_on P i (calls_made S q n ps)
         (all_by_rank S.kinds (λ c. c.target.part ≡ i → P (call_of c)) (calls S q n (plain ps)) (all_from (λ c. c.target.part ≡ i → P (call_of c)) (calls S q n (plain ps)) h))
 
     kind_there : (c : Called) → c.target.part ≡ i → kind_at S.kinds c.target ≡ Some kind
     kind_there c e = ap (slice_get S.kinds) e ∙ is
 
-    all_calls_fit : AllByRecursion (CallFits (kind_table kind)) (calls_on i (made S q n ps))
+    all_calls_fit : AllByRecursion (CallFits (kind_table kind)) (calls_on i (calls_made S q n ps))
     all_calls_fit =
         of_made (CallFits (kind_table kind))
         (λ k c e p. subst (λ (o : Option Kind). IsFitCall o c.target.method c.arguments) (kind_there c p) (fits.made_fit q n (plain ps) turn.request (plain_fits ps turn.parts) k c e))
 
-    all_ready : AllByRecursion (IsReady (kind_table kind) (part_at ps i)) (calls_on i (made S q n ps))
+    all_ready : AllByRecursion (IsReady (kind_table kind) (part_at ps i)) (calls_on i (calls_made S q n ps))
     all_ready =
         of_made (IsReady (kind_table kind) (part_at ps i))
         (λ k c e p.
         subst (λ (o : Option Kind). guard_of o c.target.method (part_at ps i) ≡ true) (kind_there c p)
         (subst (λ (j : ℕ). guard_of (kind_at S.kinds c.target) c.target.method (part_at ps j) ≡ true) p (laws.open_calls g q n (plain ps) turn.is_ready k c e)))
 
-    pub turn_orderly : IsOrderly (kind_table kind) (part_at ps i) (calls_on i (made S q n ps))
+    pub turn_orderly : IsOrderly (kind_table kind) (part_at ps i) (calls_on i (calls_made S q n ps))
     turn_orderly =
-        element_in_turn (kind_table kind) (kind_laws kind) (part_at ps i) (calls_on i (made S q n ps))
+        element_in_turn (kind_table kind) (kind_laws kind) (part_at ps i) (calls_on i (calls_made S q n ps))
         (record {
           part = fits_at S.kinds ps turn.parts i kind is;
           calls = all_calls_fit;
           ready = all_ready;
-          ranks = ranks_on (kind_table kind) i (made S q n ps)
+          ranks = ranks_on (kind_table kind) i (calls_made S q n ps)
               (λ k j c d l x y u v. laws.on_part n turn.rule q (plain ps) k j c d kind l x y (u ∙ sym v) (kind_there c u));
         })
 
   still_fits : (g : Bool) (q : Asking) (n : ℕ) (ps : List Part) → IsTurn g S q n ps → FitsKinds S.kinds (run_whole S q n ps)
   unfolding run_whole
   still_fits g q n ps turn =
-      all_fit S.kinds (after_calls S.kinds ps (made S q n ps)) (length-after S.kinds ps (made S q n ps) ∙ length-parts S.kinds ps turn.parts)
+      all_fit S.kinds (after_calls S.kinds ps (calls_made S q n ps)) (length-after S.kinds ps (calls_made S q n ps) ∙ length-parts S.kinds ps turn.parts)
       (λ i kind e.
-      subst (kind_table kind).Fits (sym (each_part ps turn.parts (made S q n ps) i kind e))
-      (fits_after (kind_table kind) (kind_laws kind) (part_at ps i) (calls_on i (made S q n ps)) (fits_at S.kinds ps turn.parts i kind e) (turn_orderly g q n ps turn i kind e)))
+      subst (kind_table kind).Fits (sym (each_part ps turn.parts (calls_made S q n ps) i kind e))
+      (fits_after (kind_table kind) (kind_laws kind) (part_at ps i) (calls_on i (calls_made S q n ps)) (fits_at S.kinds ps turn.parts i kind e) (turn_orderly g q n ps turn i kind e)))
 
   pub turns : TurnLaws S
   turns = record {

@@ -15,14 +15,14 @@ use Rattle.bsv_design.specs.declared.element.Call.{Call}
 use Rattle.bsv_design.specs.declared.element.Element.{Element}
 use Rattle.bsv_design.specs.declared.kind.Kind.{Kind}
 use Rattle.bsv_design.specs.declared.schedule.Need.{Need}
-use Rattle.bsv_design.specs.Bodies.{words}
-use Rattle.bsv_design.specs.Designs.{Blueprint, IsDesign}
-use Rattle.bsv_design.specs.Guards.{needs_of, needs_from, body_ready}
-use Rattle.bsv_design.specs.Relations.{IsBreach, KeepsTheRule, break_the_rule, sites_of, no_answers}
-use Rattle.bsv_design.specs.Schemes.{Look, Asking, design_scheme, kinds_of, trace_of, ports_of, filled, answers, given, seen, ready}
-use Rattle.bsv_design.specs.Seen.{blueprint}
-use Rattle.bsv_design.specs.Traces.{Site, site_at, body_trace}
-use Rattle.bsv_design.specs.Widths.{call_named}
+use Rattle.bsv_design.specs.design.Bodies.{words}
+use Rattle.bsv_design.specs.design.Designs.{DesignData, IsDesign}
+use Rattle.bsv_design.specs.design.Guards.{needs_of, needs_from, body_ready}
+use Rattle.bsv_design.specs.scheme.Relations.{IsBreach, KeepsTheRule, break_the_rule, sites_of, no_answers}
+use Rattle.bsv_design.specs.scheme.Schemes.{Look, Asking, design_scheme, kinds_of, trace_of, ports_of, filled, answers, given, seen, ready}
+use Rattle.bsv_design.specs.tree.Seen.{design_data}
+use Rattle.bsv_design.specs.scheme.Traces.{Site, site_at, body_trace}
+use Rattle.bsv_design.specs.design.Widths.{call_named}
 use Rattle.bsv_design.proofs.Named.{calls_named}
 use Rattle.bsv_guard.specs.declared.fault.GuardFault.{GuardFault}
 use Rattle.bsv_guard.specs.declared.fault.GuardFault.TheVariants.{InRule, OutOfMemory}
@@ -34,18 +34,18 @@ use Rattle.bsv_guard.proofs.Ready.{body_says_all}
 
 calls_few : (d : Design) (n : ℕ) (e : Element) → slice_get d.elements n ≡ Some e → length e.calls < 2 ^ 32
 calls_few d n e at =
-    let few : nat_lt (length e.calls) (2 ^ 32) ≡ true = ∥∥₁_elim d.right (Bool-set _ _) (λ (right : IsDesign (blueprint d)). (right.elements n e at).calls) in
+    let few : nat_lt (length e.calls) (2 ^ 32) ≡ true = ∥∥₁_elim d.right (Bool-set _ _) (λ (right : IsDesign (design_data d)). (right.elements n e at).calls) in
     ltb-true _ _ few
 
-pub named_in : (d : Design) (n : ℕ) (e : Element) (ks : List Kind) (cs : List Call) → slice_get d.elements n ≡ Some e → ks ≡ kinds_of (blueprint d) → cs ≡ e.calls
+pub named_in : (d : Design) (n : ℕ) (e : Element) (ks : List Kind) (cs : List Call) → slice_get d.elements n ≡ Some e → ks ≡ kinds_of (design_data d) → cs ≡ e.calls
     → IsTrue (list_all (call_named ks) cs)
 named_in d n e ks cs at kinds calls =
-    subst (λ k. IsTrue (list_all (call_named k) cs)) (sym kinds) (subst (λ c. IsTrue (list_all (call_named (kinds_of (blueprint d))) c)) (sym calls) (calls_named d n e at))
+    subst (λ k. IsTrue (list_all (call_named k) cs)) (sym kinds) (subst (λ c. IsTrue (list_all (call_named (kinds_of (design_data d))) c)) (sym calls) (calls_named d n e at))
 
 pub few_in : (d : Design) (n : ℕ) (e : Element) (cs : List Call) → slice_get d.elements n ≡ Some e → cs ≡ e.calls → length cs < 2 ^ 32
 few_in d n e cs at calls = subst (λ c. length c < 2 ^ 32) (sym calls) (calls_few d n e at)
 
--- ---- what stands in a list that another one is mapped to
+-- ---- what is in a list that another one is mapped to
 
 mapped_at : {A B : Type 0} (f : A → B) (xs : List A) (i : ℕ) (y : B) → slice_get (map f xs) i ≡ Some y → (x : A) × (slice_get xs i ≡ Some x) × (f x ≡ y)
 mapped_at f [] i y h = absurd cc
@@ -55,24 +55,24 @@ mapped_at f (x ∷ xs) (suc i) y h = mapped_at f xs i y h
 -- ---- pairs of calls, and pairs of sites
 
 -- the words at the nodes of an element where no call gives anything
-some_words : Blueprint → ℕ → Element → List Bits
+some_words : DesignData → ℕ → Element → List Bits
 some_words b n e = words e no_answers (filled (ports_of (slice_get (design_scheme b).elements n)) [])
 
-sites_are : (b : Blueprint) (n : ℕ) (e : Element) → slice_get b.elements n ≡ Some e
+sites_are : (b : DesignData) (n : ℕ) (e : Element) → slice_get b.elements n ≡ Some e
     → sites_of (design_scheme b) n ≡ map (site_at (kinds_of b) (some_words b n e)) e.calls
 unfolding design_scheme body_trace some_words
 sites_are b n e at = ap (λ o. (trace_of (kinds_of b) o no_answers (filled (ports_of (slice_get (design_scheme b).elements n)) [])).sites) at
 
-no_sites : (b : Blueprint) (n : ℕ) → slice_get b.elements n ≡ None → sites_of (design_scheme b) n ≡ []
+no_sites : (b : DesignData) (n : ℕ) → slice_get b.elements n ≡ None → sites_of (design_scheme b) n ≡ []
 unfolding design_scheme
 no_sites b n at = ap (λ o. (trace_of (kinds_of b) o no_answers (filled (ports_of (slice_get (design_scheme b).elements n)) [])).sites) at
 
-record IsPairOfSites (b : Blueprint) (n : ℕ) (e : Element) (i j : ℕ) (x y : Site) : Type 0 where
+record IsPairOfSites (b : DesignData) (n : ℕ) (e : Element) (i j : ℕ) (x y : Site) : Type 0 where
   one : Call
   other : Call
   pair : IsPair (kinds_of b) e.calls i j one other
 
-pair_of : (b : Blueprint) (n : ℕ) (e : Element) (i j : ℕ) (x y : Site) → slice_get b.elements n ≡ Some e → IsBreach (design_scheme b) n i j x y → IsPairOfSites b n e i j x y
+pair_of : (b : DesignData) (n : ℕ) (e : Element) (i j : ℕ) (x y : Site) → slice_get b.elements n ≡ Some e → IsBreach (design_scheme b) n i j x y → IsPairOfSites b n e i j x y
 unfolding design_scheme
 pair_of b n e i j x y at h =
     let f : Call → Site = site_at (kinds_of b) (some_words b n e) in
@@ -89,7 +89,7 @@ pair_of b n e i j x y at h =
       };
     }
 
-breach_of : (b : Blueprint) (n : ℕ) (e : Element) (i j : ℕ) (c d : Call) → slice_get b.elements n ≡ Some e → IsPair (kinds_of b) e.calls i j c d
+breach_of : (b : DesignData) (n : ℕ) (e : Element) (i j : ℕ) (c d : Call) → slice_get b.elements n ≡ Some e → IsPair (kinds_of b) e.calls i j c d
     → IsBreach (design_scheme b) n i j (site_at (kinds_of b) (some_words b n e) c) (site_at (kinds_of b) (some_words b n e) d)
 unfolding design_scheme
 breach_of b n e i j c d at p =
@@ -103,17 +103,17 @@ breach_of b n e i j c d at p =
 
 -- ---- the rule
 
-keeps_at : (b : Blueprint) (n : ℕ) (o : Option Element) → slice_get b.elements n ≡ o → ((e : Element) → slice_get b.elements n ≡ Some e → AreFree (kinds_of b) e.calls)
+keeps_at : (b : DesignData) (n : ℕ) (o : Option Element) → slice_get b.elements n ≡ o → ((e : Element) → slice_get b.elements n ≡ Some e → AreFree (kinds_of b) e.calls)
     → KeepsTheRule (design_scheme b) n
 keeps_at b n None at free = λ i j x y h.
     let none : slice_get [] i ≡ Some x = subst (λ xs. slice_get xs i ≡ Some x) (no_sites b n at) h.first in
     absurd cc
 keeps_at b n (Some e) at free = λ i j x y h. let p = pair_of b n e i j x y at h in free e at i j p.one p.other p.pair
 
-pub keeps : (b : Blueprint) (n : ℕ) → ((e : Element) → slice_get b.elements n ≡ Some e → AreFree (kinds_of b) e.calls) → KeepsTheRule (design_scheme b) n
+pub keeps : (b : DesignData) (n : ℕ) → ((e : Element) → slice_get b.elements n ≡ Some e → AreFree (kinds_of b) e.calls) → KeepsTheRule (design_scheme b) n
 keeps b n = keeps_at b n (slice_get b.elements n) refl
 
-first_of : (b : Blueprint) (n part x y : ℕ) (e : Element) → slice_get b.elements n ≡ Some e
+first_of : (b : DesignData) (n part x y : ℕ) (e : Element) → slice_get b.elements n ≡ Some e
     → ((m : ℕ) (d : Element) → m < n → slice_get b.elements m ≡ Some d → AreFree (kinds_of b) d.calls)
     → IsFound (kinds_of b) e.calls part x y → NamesFirst b n part x y
 first_of b n part x y e at before h = record {
@@ -131,7 +131,7 @@ first_of b n part x y e at before h = record {
   second_is = h.second_is;
 }
 
-pub refused : (b : Blueprint) (ks : List Kind) (n : ℕ) (e : Element) (f : GuardFault) → ks ≡ kinds_of b → slice_get b.elements n ≡ Some e
+pub refused : (b : DesignData) (ks : List Kind) (n : ℕ) (e : Element) (f : GuardFault) → ks ≡ kinds_of b → slice_get b.elements n ≡ Some e
     → ((m : ℕ) (d : Element) → m < n → slice_get b.elements m ≡ Some d → AreFree ks d.calls)
     → IsElementRefused ks n e.calls f → IsRefused b f
 refused b ks n e OutOfMemory are at before h = tt
@@ -162,13 +162,13 @@ needs_more ks es n e old new are at is =
 pub needs_whole : (ks : List Kind) (es : List Element) (n : ℕ) (needs : List (List Need)) → needs ≡ needs_of ks (take n es) → length es ≤ n → needs ≡ needs_of ks es
 needs_whole ks es n needs are h = are ∙ ap (needs_of ks) (take_all n es h)
 
-ready_is : (b : Blueprint) (n : ℕ) (e : Element) (look : Look) (q : Asking) → slice_get b.elements n ≡ Some e
+ready_is : (b : DesignData) (n : ℕ) (e : Element) (look : Look) (q : Asking) → slice_get b.elements n ≡ Some e
     → ready false (design_scheme b) q n look ≡ all_ready (kinds_of b) look (body_trace (kinds_of b) e (answers (kinds_of b) look) (given (design_scheme b) q n))
 unfolding design_scheme ready seen
 ready_is b n e look q at =
     ap (λ o. all_ready (kinds_of b) look (trace_of (kinds_of b) o (answers (kinds_of b) look) (given (design_scheme b) q n))) at
 
-pub lifted : (b : Blueprint) (needs : List (List Need)) → needs ≡ needs_of (kinds_of b) b.elements → AreLifted b needs
+pub lifted : (b : DesignData) (needs : List (List Need)) → needs ≡ needs_of (kinds_of b) b.elements → AreLifted b needs
 lifted b needs is = record {
   body = λ n e ns look ws at there. by n e ns look ws at there;
   whole = λ n e ns look q at there. ready_is b n e look q at ∙ sym (by n e ns look (given (design_scheme b) q n) at there);

@@ -6,12 +6,12 @@ use Rattle.bsv_prim.specs.Table.{Call}
 use Rattle.bsv_prim.specs.declared.part.Part.{Part}
 use Rattle.bsv_design.specs.declared.element.Role.TheVariants as role
 use Rattle.bsv_design.specs.declared.kind.Kind.{Kind}
-use Rattle.bsv_design.specs.Bodies.{Target}
-use Rattle.bsv_design.specs.Kinds.{kind_table}
-use Rattle.bsv_design.specs.Relations.{goes, feeds, may_precede, may_stand, KeepsTheRule, IsFirstBreach}
-use Rattle.bsv_design.specs.Schemes.{Scheme, Outline, Asking, Look, Called, AreAlike, is_open, result_of, given, seen, ready, calls, value}
-use Rattle.bsv_design.specs.Serial.{rank, by_rank, run_whole, Serial}
-use Rattle.bsv_design.specs.Traces.{Site, acts, kind_at}
+use Rattle.bsv_design.specs.design.Bodies.{Target}
+use Rattle.bsv_design.specs.tree.Kinds.{kind_table}
+use Rattle.bsv_design.specs.scheme.Relations.{goes, feeds, may_precede, may_stand, KeepsTheRule, IsFirstBreach}
+use Rattle.bsv_design.specs.scheme.Schemes.{Scheme, Outline, Asking, Look, Called, AreAlike, is_open, result_of, given, seen, ready, calls, value}
+use Rattle.bsv_design.specs.scheme.Serial.{rank, by_rank, run_whole, Serial}
+use Rattle.bsv_design.specs.scheme.Traces.{Site, acts, kind_at}
 
 -- a method at a call site of the element
 pub record IsUse (S : Scheme) (n : ℕ) (t : Target) : Type 0 where
@@ -87,7 +87,7 @@ pub record ElementLaws (S : Scheme) : Type 0 where
   -- a method that gives a value and does not act makes none
   pub none_made : (n : ℕ) (o : Outline) → slice_get S.elements n ≡ Some o → o.role ≡ role.Value
       → (q : Asking) (a : Look) → calls S q n a ≡ []
-  -- two calls that it makes on one part may stand in one element
+  -- two calls that it makes on one part may be in one element
   pub beside : (n : ℕ) → KeepsTheRule S n → (q : Asking) (a : Look) (i j : ℕ) (c d : Called)
       → slice_get (calls S q n a) i ≡ Some c → slice_get (calls S q n a) j ≡ Some d → (i ≡ j → ⊥)
       → c.target.part ≡ d.target.part
@@ -98,7 +98,7 @@ pub record ElementLaws (S : Scheme) : Type 0 where
   pub in_order : (n : ℕ) → KeepsTheRule S n → (q : Asking) (a : Look) (i j : ℕ) (c d : Called) → i < j
       → slice_get (ranked_calls S q n a) i ≡ Some c → slice_get (ranked_calls S q n a) j ≡ Some d
       → may_precede S.kinds c.target d.target ≡ true
-  -- and on one part they stand as its kind asks of the calls of one element
+  -- and on one part they are as its kind asks of the calls of one element
   pub on_part : (n : ℕ) → KeepsTheRule S n → (q : Asking) (a : Look) (i j : ℕ) (c d : Called) (kind : Kind) → i < j
       → slice_get (ranked_calls S q n a) i ≡ Some c → slice_get (ranked_calls S q n a) j ≡ Some d
       → c.target.part ≡ d.target.part → kind_at S.kinds c.target ≡ Some kind

@@ -5,13 +5,13 @@ use Rattle.bsv_bits.specs.Words.{Bits, IsWord}
 use Rattle.bsv_prim.specs.Table.{CallFits, IsWordOf}
 use Rattle.bsv_design.specs.declared.element.Element.{Element}
 use Rattle.bsv_design.specs.declared.kind.Kind.{Kind}
-use Rattle.bsv_design.specs.Bodies.{Target, Answers, words}
-use Rattle.bsv_design.specs.Designs.{Blueprint}
-use Rattle.bsv_design.specs.Kinds.{kind_table}
-use Rattle.bsv_design.specs.Schemes.{Scheme, Asking, Look, Called, ports_of, is_open, result_of, answers, given, ready, calls, value, kinds_of, design_scheme}
-use Rattle.bsv_design.specs.States.{FitLook, AreWordsOf, AskingFits}
-use Rattle.bsv_design.specs.Traces.{Site, acts, kind_at}
-use Rattle.bsv_design.specs.Widths.{widths_from}
+use Rattle.bsv_design.specs.design.Bodies.{Target, Answers, words}
+use Rattle.bsv_design.specs.design.Designs.{DesignData}
+use Rattle.bsv_design.specs.tree.Kinds.{kind_table}
+use Rattle.bsv_design.specs.scheme.Schemes.{Scheme, Asking, Look, Called, ports_of, is_open, result_of, answers, given, ready, calls, value, kinds_of, design_scheme}
+use Rattle.bsv_design.specs.scheme.States.{FitLook, AreWordsOf, AskingFits}
+use Rattle.bsv_design.specs.scheme.Traces.{Site, acts, kind_at}
+use Rattle.bsv_design.specs.design.Widths.{widths_from}
 use Rattle.bsv_guard.specs.ElementLaws.{IsUse, ActsAlike}
 
 -- words of these widths, one by one
@@ -86,7 +86,7 @@ pub record FittingLaws (S : Scheme) : Type 0 where
 -- ---- designs
 
 -- what fits a design: its requests, and the words of the nodes of each element under a look of parts that fit
-pub record DesignFits (b : Blueprint) : Type 0 where
+pub record DesignFits (b : DesignData) : Type 0 where
   pub requests : (q : Asking) → AskingFits b.elements q → (n : ℕ) → RequestFits (design_scheme b) q n
   pub nodes : (n : ℕ) (e : Element) → slice_get b.elements n ≡ Some e → (q : Asking) → AskingFits b.elements q
       → (a : Look) → FitLook (kinds_of b) a

@@ -2,11 +2,11 @@
 use Rattle.std.specs.Prelude.{◌≡◌, ℕ, ◌==◌, ◌<◌, ◌≤◌, Bool, true, not, ◌&&◌, List, length, slice_get, slice_index_or, Option, Some, None, ◌⊎◌}
 use Rattle.bsv_design.specs.declared.element.Call.{Call}
 use Rattle.bsv_design.specs.declared.kind.Kind.{Kind}
-use Rattle.bsv_design.specs.Branches.{apart}
-use Rattle.bsv_design.specs.Relations.{may_stand}
+use Rattle.bsv_design.specs.design.Branches.{apart}
+use Rattle.bsv_design.specs.scheme.Relations.{may_stand}
 use Rattle.bsv_guard.specs.declared.search.Breach.{Breach}
 
--- two calls on one part that stand in different arms of no choice, and may not stand in one element
+-- two calls on one part that are in different arms of no choice, and may not be in one element
 abbrev pub breaks : List Kind → Call → Call → Bool
 breaks ks c d = (c.part == d.part) && not (apart c.branches d.branches) && not (may_stand (slice_get ks c.part) c.method d.method)
 
@@ -38,19 +38,19 @@ abbrev pub IsSearched : List Kind → List Call → Option Breach → Type 0
 IsSearched ks cs None = AreFree ks cs
 IsSearched ks cs (Some b) = IsFound ks cs b.part b.first b.second
 
--- ---- behind one call
+-- ---- after one call
 
--- none of the calls of these numbers stands behind the call of this number and breaks the rule with it
+-- none of the calls of these numbers comes after the call of this number and breaks the rule with it
 abbrev pub NoneAmong : List Kind → List Call → ℕ → Call → List ℕ → Type 0
 NoneAmong ks cs i c js =
     (k : ℕ) → k < length js → (d : Call) → slice_get cs (slice_index_or js k 0) ≡ Some d → i < slice_index_or js k 0 → breaks ks c d ≡ true → ⊥
 
--- no call behind it does
-abbrev pub NoneBehind : List Kind → List Call → ℕ → Call → Type 0
-NoneBehind ks cs i c = (j : ℕ) (d : Call) → slice_get cs j ≡ Some d → i < j → breaks ks c d ≡ true → ⊥
+-- no call after it does
+abbrev pub NoneAfter : List Kind → List Call → ℕ → Call → Type 0
+NoneAfter ks cs i c = (j : ℕ) (d : Call) → slice_get cs j ≡ Some d → i < j → breaks ks c d ≡ true → ⊥
 
--- the first call behind it that does calls this method
-pub record IsFirstBehind (ks : List Kind) (cs : List Call) (i : ℕ) (c : Call) (method : ℕ) : Type 0 where
+-- the first call after it that does calls this method
+pub record IsFirstAfter (ks : List Kind) (cs : List Call) (i : ℕ) (c : Call) (method : ℕ) : Type 0 where
   pub later : ℕ
   pub other : Call
   pub at : slice_get cs later ≡ Some other
@@ -59,6 +59,6 @@ pub record IsFirstBehind (ks : List Kind) (cs : List Call) (i : ℕ) (c : Call) 
   pub method_is : other.method ≡ method
   pub first : (j : ℕ) (d : Call) → slice_get cs j ≡ Some d → i < j → breaks ks c d ≡ true → later ≤ j
 
-abbrev pub IsSearchedBehind : List Kind → List Call → ℕ → Call → Option Breach → Type 0
-IsSearchedBehind ks cs i c None = NoneBehind ks cs i c
-IsSearchedBehind ks cs i c (Some b) = (c.part ≡ b.part) × (c.method ≡ b.first) × IsFirstBehind ks cs i c b.second
+abbrev pub IsSearchedAfter : List Kind → List Call → ℕ → Call → Option Breach → Type 0
+IsSearchedAfter ks cs i c None = NoneAfter ks cs i c
+IsSearchedAfter ks cs i c (Some b) = (c.part ≡ b.part) × (c.method ≡ b.first) × IsFirstAfter ks cs i c b.second

@@ -1,13 +1,13 @@
--- What is asked of a scheme, however its elements are written: that the calls of an element stand where they stand in
+-- What is asked of a scheme, however its elements are written: that the calls of an element are where they are in
 -- every run, and that a run rests on the answers to its own calls alone.
 use Rattle.std.specs.Prelude.{◌≡◌, ℕ, Bool, false, List, map, slice_get, Some}
 use Rattle.bsv_bits.specs.Words.{Bits}
 use Rattle.bsv_design.specs.declared.element.Role.TheVariants as role
 use Rattle.bsv_design.specs.declared.node.Branch.{Branch}
-use Rattle.bsv_design.specs.Bodies.{Target, Answers}
-use Rattle.bsv_design.specs.Branches.{AreExclusive, AgreeOnTaken, AreSameWhereTaken}
-use Rattle.bsv_design.specs.Schemes.{Scheme, Outline, AreArgumentsOf}
-use Rattle.bsv_design.specs.Traces.{Site, Trace, acts, kind_at}
+use Rattle.bsv_design.specs.design.Bodies.{Target, Answers}
+use Rattle.bsv_design.specs.design.Branches.{AreExclusive, AgreeOnTaken, AreSameWhereTaken}
+use Rattle.bsv_design.specs.scheme.Schemes.{Scheme, Outline, AreArgumentsOf}
+use Rattle.bsv_design.specs.scheme.Traces.{Site, Trace, acts, kind_at}
 
 -- where a call stands, and what it calls
 pub record Place : Type 0 where

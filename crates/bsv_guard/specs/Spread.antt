@@ -4,7 +4,7 @@ use Rattle.bsv_design.specs.declared.element.Call.{Call}
 use Rattle.bsv_design.specs.declared.node.Branch.{Branch}
 use Rattle.bsv_guard.specs.Groups.{place}
 
--- the second one stands in a later arm of a choice of both, and around it both stand in the same arms
+-- the second one is in a later arm of a choice of both, and around it both are in the same arms
 abbrev pub in_later_arm : List Branch → List Branch → Bool
 in_later_arm [] bs = false
 in_later_arm (a ∷ others) [] = false
@@ -18,14 +18,14 @@ arms_in (Some c) = c.branches
 abbrev pub arms_of : List Call → ℕ → List Branch
 arms_of cs j = arms_in (slice_get cs j)
 
--- behind the call of this number, each of these stands in a later arm than the one before it
-abbrev pub spread_behind : List Call → ℕ → List ℕ → Bool
-spread_behind cs i [] = true
-spread_behind cs i (j ∷ js) = in_later_arm (arms_of cs i) (arms_of cs j) && spread_behind cs j js
+-- after the call of this number, each of these is in a later arm than the one before it
+abbrev pub spread_after : List Call → ℕ → List ℕ → Bool
+spread_after cs i [] = true
+spread_after cs i (j ∷ js) = in_later_arm (arms_of cs i) (arms_of cs j) && spread_after cs j js
 
 abbrev pub is_spread : List Call → List ℕ → Bool
 is_spread cs [] = true
-is_spread cs (j ∷ js) = spread_behind cs j js
+is_spread cs (j ∷ js) = spread_after cs j js
 
 -- of the group of a method of a part
 abbrev pub spread_of : List Bool → ℕ → ℕ → Bool

@@ -5,11 +5,11 @@ use Rattle.bsv_prim.specs.Calls as prim
 use Rattle.bsv_prim.specs.Table.{Call}
 use Rattle.bsv_prim.specs.declared.part.Part.{Part}
 use Rattle.bsv_design.specs.declared.kind.Kind.{Kind}
-use Rattle.bsv_design.specs.Kinds.{kind_table}
-use Rattle.bsv_design.specs.Relations.{KeepsTheRule}
-use Rattle.bsv_design.specs.Schemes.{Scheme, Asking, Called, ready}
-use Rattle.bsv_design.specs.Serial.{made, run_whole}
-use Rattle.bsv_design.specs.States.{FitsKinds, FitLook, part_at, plain, after_calls}
+use Rattle.bsv_design.specs.tree.Kinds.{kind_table}
+use Rattle.bsv_design.specs.scheme.Relations.{KeepsTheRule}
+use Rattle.bsv_design.specs.scheme.Schemes.{Scheme, Asking, Called, ready}
+use Rattle.bsv_design.specs.scheme.Serial.{calls_made, run_whole}
+use Rattle.bsv_design.specs.scheme.States.{FitsKinds, FitLook, part_at, plain, after_calls}
 use Rattle.bsv_guard.specs.ElementLaws.{call_of}
 use Rattle.bsv_guard.specs.Fitting.{RequestFits}
 
@@ -27,14 +27,14 @@ pub record IsTurn (aggressive : Bool) (S : Scheme) (q : Asking) (n : ℕ) (ps : 
 
 pub record TurnLaws (S : Scheme) : Type 0 where
   pub plain_fits : (ps : List Part) → FitsKinds S.kinds ps → FitLook S.kinds (plain ps)
-  -- behind calls, a part is what it is behind the calls on it
+  -- after calls, a part is what it is after the calls on it
   pub each_part : (ps : List Part) → FitsKinds S.kinds ps → (cs : List Called) (i : ℕ) (kind : Kind)
       → slice_get S.kinds i ≡ Some kind
       → part_at (after_calls S.kinds ps cs) i ≡ prim.after_calls (kind_table kind) (part_at ps i) (calls_on i cs)
   -- the calls of the element on a part are in order, and each is ready where it is applied
   pub in_turn : (aggressive : Bool) (q : Asking) (n : ℕ) (ps : List Part) → IsTurn aggressive S q n ps
       → (i : ℕ) (kind : Kind) → slice_get S.kinds i ≡ Some kind
-      → IsOrderly (kind_table kind) (part_at ps i) (calls_on i (made S q n ps))
-  -- and the parts fit behind it
+      → IsOrderly (kind_table kind) (part_at ps i) (calls_on i (calls_made S q n ps))
+  -- and the parts fit after it
   pub still_fits : (aggressive : Bool) (q : Asking) (n : ℕ) (ps : List Part) → IsTurn aggressive S q n ps
       → FitsKinds S.kinds (run_whole S q n ps)

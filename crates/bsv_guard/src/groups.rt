@@ -26,7 +26,7 @@ fn empty(alloc: Global, count: usize) -> Result<Vec<Items<u32>>, AllocError>
     Ok(found)
 }
 
-/// The call of this number stands in the group, too.
+/// The call of this number is in the group, too.
 fn add(found: &mut Vec<Items<u32>>, at: usize, number: u32) -> Result<(), AllocError>
     requires { at < vec_len found.old }
     ensures { OnOk result (found.new.items ≡ groups.added found.old.items at number) }
@@ -36,7 +36,7 @@ fn add(found: &mut Vec<Items<u32>>, at: usize, number: u32) -> Result<(), AllocE
     Ok(())
 }
 
-/// The numbers of all calls, in groups: calls of one method of one part stand in one group.
+/// The numbers of all calls, in groups: calls of one method of one part are in one group.
 pub(crate) fn grouped(alloc: Global, calls: &[Call]) -> Result<Vec<Items<u32>>, AllocError>
     requires { length calls.now < 2 ^ 32 }
     ensures some { IfOk result (λ found. 0 < vec_len found) }

@@ -1,5 +1,5 @@
-ghost use Rattle.bsv_design.specs.Designs.{Blueprint, IsDesign};
-ghost use Rattle.bsv_design.specs.Schemes.{Scheme, AreAlike, design_scheme};
+ghost use Rattle.bsv_design.specs.design.Designs.{DesignData, IsDesign};
+ghost use Rattle.bsv_design.specs.scheme.Schemes.{Scheme, AreAlike, design_scheme};
 ghost use Rattle.bsv_guard.specs.ElementLaws.{ElementLaws};
 ghost use Rattle.bsv_guard.specs.Fitting.{DesignFits, FittingLaws, IsFitting};
 ghost use Rattle.bsv_guard.specs.Sound.{IsSound};
@@ -20,7 +20,7 @@ pub fn sound_schemes()
 
 /// A law of every design: its scheme is sound, and its words have their widths.
 pub fn sound_designs()
-    ensures sound { (b : Blueprint) → IsDesign b → IsSound (design_scheme b) }
-    ensures fitting { (b : Blueprint) → IsDesign b → IsFitting (design_scheme b) }
-    ensures fits { (b : Blueprint) → IsDesign b → DesignFits b }
+    ensures sound { (b : DesignData) → IsDesign b → IsSound (design_scheme b) }
+    ensures fitting { (b : DesignData) → IsDesign b → IsFitting (design_scheme b) }
+    ensures fits { (b : DesignData) → IsDesign b → DesignFits b }
 {}

@@ -4,7 +4,7 @@
 //! Modules in reading order: `fault` (why there are no guards), `pairs` (two calls of one element), `groups` (calls by
 //! what they call), `spread` (calls that are never both taken), `search` (the first pair that breaks the rule), `needs`
 //! (the guards of an element), `lifting` (the whole), `laws` (what holds of one element, however it is written). What
-//! is promised stands in `specs/Lifted.antt` and `specs/ElementLaws.antt`, what holds of the calls of one element in
+//! is promised is in `specs/Lifted.antt` and `specs/ElementLaws.antt`, what holds of the calls of one element in
 //! `specs/Pairs.antt`.
 #![tactic(auto)]
 

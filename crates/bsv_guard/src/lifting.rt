@@ -1,11 +1,11 @@
 ghost use Rattle.std.specs.Prelude.{◌≡◌, ◌<◌, ◌^◌};
 ghost use Rattle.std.specs.Prelude.{ℕ, IsTrue, IfOk, IfErr, OnOk, OnErr, Ok, length, map};
 ghost use Rattle.std.specs.List.{list_all};
-ghost use Rattle.bsv_design.specs.Guards as guards;
-ghost use Rattle.bsv_design.specs.Relations.{KeepsTheRule};
-ghost use Rattle.bsv_design.specs.Schemes.{design_scheme, kinds_of};
-ghost use Rattle.bsv_design.specs.Seen.{blueprint};
-ghost use Rattle.bsv_design.specs.Widths.{call_named};
+ghost use Rattle.bsv_design.specs.design.Guards as guards;
+ghost use Rattle.bsv_design.specs.scheme.Relations.{KeepsTheRule};
+ghost use Rattle.bsv_design.specs.scheme.Schemes.{design_scheme, kinds_of};
+ghost use Rattle.bsv_design.specs.tree.Seen.{design_data};
+ghost use Rattle.bsv_design.specs.design.Widths.{call_named};
 ghost use Rattle.bsv_guard.specs.Lifted.{AreLifted, IsRefused, IsElementLifted};
 
 use crate::fault::GuardFault;
@@ -46,10 +46,10 @@ fn lift_element(
 /// Of each element the guards that have to hold, or the first two calls that break the rule of one element.
 pub fn lift(alloc: Global, design: &Design) -> Result<Guards, GuardFault>
     ensures needs { IfOk result (λ g.
-        g.needs ≡ guards.needs_of (kinds_of (blueprint design.now)) design.now.elements) }
-    ensures kept { OnOk result ((n : ℕ) → KeepsTheRule (design_scheme (blueprint design.now)) n) }
-    ensures lifted { IfOk result (λ g. AreLifted (blueprint design.now) g.needs) }
-    ensures refused { IfErr result (IsRefused (blueprint design.now)) }
+        g.needs ≡ guards.needs_of (kinds_of (design_data design.now)) design.now.elements) }
+    ensures kept { OnOk result ((n : ℕ) → KeepsTheRule (design_scheme (design_data design.now)) n) }
+    ensures lifted { IfOk result (λ g. AreLifted (design_data design.now) g.needs) }
+    ensures refused { IfErr result (IsRefused (design_data design.now)) }
 {
     let kinds = kinds(alloc, design.parts.as_slice())?;
     let mut needs = Items::new(alloc);

@@ -1,7 +1,7 @@
 ghost use Rattle.std.specs.Prelude.{◌≡◌, ◌<◌, ◌^◌, IsTrue, IfOk, length, slice_get};
 ghost use Rattle.std.specs.List.{list_all};
-ghost use Rattle.bsv_design.specs.Guards as guards;
-ghost use Rattle.bsv_design.specs.Widths.{call_named};
+ghost use Rattle.bsv_design.specs.design.Guards as guards;
+ghost use Rattle.bsv_design.specs.design.Widths.{call_named};
 
 use bsv_design::{Call, Kind, Need};
 use bsv_prim::Primitive;

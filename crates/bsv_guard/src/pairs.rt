@@ -1,22 +1,22 @@
 ghost use Rattle.std.specs.Prelude.{◌≡◌, ◌<◌, IsTrue, Some, slice_get};
 ghost use Rattle.bsv_prim.specs.Table as table;
-ghost use Rattle.bsv_design.specs.Branches as arms;
-ghost use Rattle.bsv_design.specs.Kinds.{kind_table};
-ghost use Rattle.bsv_design.specs.Relations as relations;
-ghost use Rattle.bsv_design.specs.Widths.{call_named};
+ghost use Rattle.bsv_design.specs.design.Branches as arms;
+ghost use Rattle.bsv_design.specs.tree.Kinds.{kind_table};
+ghost use Rattle.bsv_design.specs.scheme.Relations as relations;
+ghost use Rattle.bsv_design.specs.design.Widths.{call_named};
 ghost use Rattle.bsv_guard.specs.Pairs.{breaks};
 
 use bsv_design::{Branch, Call, Kind};
 use bsv_prim::{Primitive, Rel};
 
-/// Whether calls that stand so to each other may stand in one element.
+/// Whether calls that are so to each other may be in one element.
 fn in_one_element(relation: Rel) -> bool
     ensures { result ≡ table.in_one_element relation }
 {
     matches!(relation, Rel::Cf | Rel::Sb | Rel::Sa)
 }
 
-/// Whether calls of both methods on one part may stand in one element, also where both are taken.
+/// Whether calls of both methods on one part may be in one element, also where both are taken.
 pub(crate) fn may_stand(kind: &Kind, first: u32, second: u32) -> bool
     requires first { first < (kind_table kind.now).methods }
     requires second { second < (kind_table kind.now).methods }

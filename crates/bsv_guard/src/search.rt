@@ -1,12 +1,12 @@
 ghost use Rattle.std.specs.Prelude.{◌≡◌, ◌<◌, ◌^◌, ◌==◌, ◌&&◌, ◌||◌};
 ghost use Rattle.std.specs.Prelude.{false, Some, map, IsTrue, IfOk, MatchOption, length, slice_get};
 ghost use Rattle.std.specs.List.{list_all};
-ghost use Rattle.bsv_design.specs.Kinds.{kind_table};
-ghost use Rattle.bsv_design.specs.Relations as relations;
-ghost use Rattle.bsv_design.specs.Widths.{call_named};
+ghost use Rattle.bsv_design.specs.tree.Kinds.{kind_table};
+ghost use Rattle.bsv_design.specs.scheme.Relations as relations;
+ghost use Rattle.bsv_design.specs.design.Widths.{call_named};
 ghost use Rattle.bsv_guard.specs.Groups.{AreGrouped};
-ghost use Rattle.bsv_guard.specs.Pairs.{NoneAmong, NoneBehind};
-ghost use Rattle.bsv_guard.specs.Pairs.{IsFirstBehind, IsSearched, IsSearchedBehind};
+ghost use Rattle.bsv_guard.specs.Pairs.{NoneAmong, NoneAfter};
+ghost use Rattle.bsv_guard.specs.Pairs.{IsFirstAfter, IsSearched, IsSearchedAfter};
 ghost use Rattle.bsv_guard.specs.Spread as arms;
 
 use crate::groups::{group_of, grouped};
@@ -25,7 +25,7 @@ pub struct Breach {
     pub second: u32,
 }
 
-/// Whether a call of this group behind this one breaks the rule with it.
+/// Whether a call of this group after this one breaks the rule with it.
 fn breaks_among(kinds: &[Kind], calls: &[Call], earlier: usize, one: &Call, group: &[u32]) -> bool
     requires named { IsTrue (list_all (call_named kinds.now) calls.now) }
     requires one { IsTrue (call_named kinds.now one.now) }
@@ -54,9 +54,9 @@ fn is_free(kind: &Kind, spread: &[bool], one: &Call, method: u32) -> bool
         || (one.method == method && spread_of(spread, one.part, method))
 }
 
-/// Whether a call behind this one breaks the rule with it. Only calls of methods that are not free of it are looked
+/// Whether a call after this one breaks the rule with it. Only calls of methods that are not free of it are looked
 /// at.
-fn breaks_behind(
+fn breaks_after(
     kinds: &[Kind],
     calls: &[Call],
     groups: &[Items<u32>],
@@ -70,7 +70,7 @@ fn breaks_behind(
     requires grouped { AreGrouped calls.now groups.now }
     requires spread { spread.now ≡ map (arms.is_spread calls.now) groups.now }
     requires at { slice_get calls.now earlier ≡ Some one.now }
-    ensures { result ≡ false → NoneBehind kinds.now calls.now earlier one.now }
+    ensures { result ≡ false → NoneAfter kinds.now calls.now earlier one.now }
 {
     let Some(kind) = kinds.get(one.part as usize) else {
         return false;
@@ -91,12 +91,12 @@ fn breaks_behind(
     false
 }
 
-/// The method of the first call behind this one that breaks the rule with it.
-fn first_behind(kinds: &[Kind], calls: &[Call], earlier: usize, one: &Call) -> Option<u32>
+/// The method of the first call after this one that breaks the rule with it.
+fn first_after(kinds: &[Kind], calls: &[Call], earlier: usize, one: &Call) -> Option<u32>
     requires named { IsTrue (list_all (call_named kinds.now) calls.now) }
     requires one { IsTrue (call_named kinds.now one.now) }
-    ensures { MatchOption result (NoneBehind kinds.now calls.now earlier one.now)
-        (IsFirstBehind kinds.now calls.now earlier one.now) }
+    ensures { MatchOption result (NoneAfter kinds.now calls.now earlier one.now)
+        (IsFirstAfter kinds.now calls.now earlier one.now) }
 {
     for (later, other) in calls.iter().enumerate() {
         if earlier < later && break_the_rule(kinds, one, other) {
@@ -106,8 +106,8 @@ fn first_behind(kinds: &[Kind], calls: &[Call], earlier: usize, one: &Call) -> O
     None
 }
 
-/// The first breach of the rule by this call and one behind it.
-fn breach_behind(
+/// The first breach of the rule by this call and one after it.
+fn breach_after(
     kinds: &[Kind],
     calls: &[Call],
     groups: &[Items<u32>],
@@ -121,12 +121,12 @@ fn breach_behind(
     requires grouped { AreGrouped calls.now groups.now }
     requires spread { spread.now ≡ map (arms.is_spread calls.now) groups.now }
     requires at { slice_get calls.now earlier ≡ Some one.now }
-    ensures { IsSearchedBehind kinds.now calls.now earlier one.now result }
+    ensures { IsSearchedAfter kinds.now calls.now earlier one.now result }
 {
-    if !breaks_behind(kinds, calls, groups, spread, earlier, one) {
+    if !breaks_after(kinds, calls, groups, spread, earlier, one) {
         return None;
     }
-    let second = first_behind(kinds, calls, earlier, one)?;
+    let second = first_after(kinds, calls, earlier, one)?;
     Some(Breach {
         part: one.part,
         first: one.method,
@@ -147,7 +147,7 @@ pub(crate) fn first_breach(
     let groups = grouped(alloc, calls)?;
     let spread = spread(alloc, calls, groups.as_slice())?;
     for (earlier, one) in calls.iter().enumerate() {
-        if let Some(breach) = breach_behind(
+        if let Some(breach) = breach_after(
             kinds,
             calls,
             groups.as_slice(),

@@ -6,7 +6,7 @@ use bsv_design::{Branch, Call};
 use sqlite_items::Items;
 use std::alloc::{AllocError, Global};
 
-/// Whether the second one stands in a later arm of a choice of both, and around it both stand in the same arms.
+/// Whether the second one is in a later arm of a choice of both, and around it both are in the same arms.
 fn in_later_arm(one: &[Branch], other: &[Branch]) -> bool
     ensures { result ≡ spec.in_later_arm one.now other.now }
 {
@@ -38,7 +38,7 @@ fn arms_of(calls: &[Call], number: u32) -> &[Branch]
     }
 }
 
-/// Whether each call of the group stands in a later arm than the one before it.
+/// Whether each call of the group is in a later arm than the one before it.
 fn is_spread(calls: &[Call], group: &[u32]) -> bool
     ensures { result ≡ spec.is_spread calls.now group.now }
 {
@@ -55,7 +55,7 @@ fn is_spread(calls: &[Call], group: &[u32]) -> bool
     true
 }
 
-/// Of each group, whether its calls stand in later and later arms.
+/// Of each group, whether its calls are in later and later arms.
 pub(crate) fn spread(
     alloc: Global,
     calls: &[Call],
@@ -70,7 +70,7 @@ pub(crate) fn spread(
     Ok(found)
 }
 
-/// Whether the calls of a method stand in later and later arms.
+/// Whether the calls of a method are in later and later arms.
 pub(crate) fn spread_of(found: &[bool], part: u32, method: u32) -> bool
     requires { 0 < length found.now }
     ensures { result ≡ spec.spread_of found.now part method }

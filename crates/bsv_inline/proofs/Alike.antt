@@ -7,24 +7,24 @@ use Rattle.bsv_lemmas.proofs.Places.{item_there, mapped_at}
 use Rattle.bsv_bits.specs.Words.{Bits}
 use Rattle.bsv_design.specs.declared.element.Element.{Element}
 use Rattle.bsv_design.specs.declared.design.NamedPart.{NamedPart}
-use Rattle.bsv_design.specs.Bodies.{Answers}
-use Rattle.bsv_design.specs.Designs.{Blueprint}
-use Rattle.bsv_design.specs.Relations.{no_answers}
-use Rattle.bsv_design.specs.Schemes.{Outline, outline, outline_of, outline_at, outlines_below, calls_of, uses_of, trace_of, carried_trace, kinds_of, ports_of, filled, design_scheme, tree_scheme, AreAlike}
-use Rattle.bsv_design.specs.Sources.{source_at, element_at, element_count, parts_among}
-use Rattle.bsv_design.specs.Traces.{Site, Trace, body_trace}
-use Rattle.bsv_design.specs.Trees.{Hierarchy}
+use Rattle.bsv_design.specs.design.Bodies.{Answers}
+use Rattle.bsv_design.specs.design.Designs.{DesignData}
+use Rattle.bsv_design.specs.scheme.Relations.{no_answers}
+use Rattle.bsv_design.specs.scheme.Schemes.{Outline, outline, outline_of, outline_at, outlines_below, calls_of, uses_of, trace_of, carried_trace, kinds_of, ports_of, filled, design_scheme, tree_scheme, AreAlike}
+use Rattle.bsv_design.specs.tree.Sources.{source_at, element_at, element_count, parts_among}
+use Rattle.bsv_design.specs.scheme.Traces.{Site, Trace, body_trace}
+use Rattle.bsv_design.specs.tree.Trees.{TreeData}
 use Rattle.bsv_inline.specs.Flattening.{kinds, IsFlat, AreFlat}
 use Rattle.bsv_inline.proofs.Flattened.{flat_at, targets_of}
 use Rattle.bsv_inline.proofs.StepUses.{targets_are_uses}
 
-outline_is : (h : Hierarchy) (n : ℕ) (e : Element) (f : IsFlat h n e) → outline e ≡ outline_of f.source
+outline_is : (h : TreeData) (n : ℕ) (e : Element) (f : IsFlat h n e) → outline e ≡ outline_of f.source
 outline_is h n e f =
     ap (λ (x : List ℕ). let o : Outline = record { name = x; role = e.role; ports = e.arguments } in o) f.name
     ∙ ap (λ x. let o : Outline = record { name = f.source.name; role = x; ports = e.arguments } in o) f.role
     ∙ ap (λ x. let o : Outline = record { name = f.source.name; role = f.source.role; ports = x } in o) f.arguments
 
-outlines_from : (h : Hierarchy) (es : List Element) (k : ℕ) → AreFlat h k es → outlines_below h (k + length es) ≡ outlines_below h k ++ map outline es
+outlines_from : (h : TreeData) (es : List Element) (k : ℕ) → AreFlat h k es → outlines_below h (k + length es) ≡ outlines_below h k ++ map outline es
 outlines_from h [] k f = (let at : k + 0 ≡ k = omega arith in ap (outlines_below h) at) ∙ sym (append-nil (outlines_below h k))
 outlines_from h (e ∷ es) k f =
     let at : k + suc (length es) ≡ k + 1 + length es = omega arith in
@@ -35,7 +35,7 @@ outlines_from h (e ∷ es) k f =
     ∙ ap (λ os. (outlines_below h k ++ os) ++ map outline es) one
     ∙ append_assoc (outlines_below h k) (outline e ∷ []) (map outline es)
 
-module _ (h : Hierarchy) (b : Blueprint) (parts : b.parts ≡ parts_among h.instances) (flat : AreFlat h 0 b.elements) (long : length b.elements ≡ element_count h) where
+module _ (h : TreeData) (b : DesignData) (parts : b.parts ≡ parts_among h.instances) (flat : AreFlat h 0 b.elements) (long : length b.elements ≡ element_count h) where
   kinds_is : kinds_of b ≡ kinds h
   kinds_is = ap (λ (ps : List NamedPart). map (λ p. p.kind) ps) parts
 

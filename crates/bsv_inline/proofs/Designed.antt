@@ -14,15 +14,15 @@ use Rattle.bsv_design.specs.declared.tree.Assert.{Assert}
 use Rattle.bsv_design.specs.declared.tree.Instance.{Instance}
 use Rattle.bsv_design.specs.declared.tree.Pair.{Pair}
 use Rattle.bsv_design.specs.declared.whole.Tree.{Tree}
-use Rattle.bsv_design.specs.Designs.{Blueprint, IsElement, IsDesign}
-use Rattle.bsv_design.specs.Schemes.{design_scheme, tree_scheme, AreAlike}
-use Rattle.bsv_design.specs.Seen.{blueprint, hierarchy}
-use Rattle.bsv_design.specs.Sources.{source_at, element_at, element_count, parts_among}
-use Rattle.bsv_design.specs.Traces.{body_trace}
-use Rattle.bsv_design.specs.Trees.{Hierarchy, IsTree}
+use Rattle.bsv_design.specs.design.Designs.{DesignData, IsElement, IsDesign}
+use Rattle.bsv_design.specs.scheme.Schemes.{design_scheme, tree_scheme, AreAlike}
+use Rattle.bsv_design.specs.tree.Seen.{design_data, tree_data}
+use Rattle.bsv_design.specs.tree.Sources.{source_at, element_at, element_count, parts_among}
+use Rattle.bsv_design.specs.scheme.Traces.{body_trace}
+use Rattle.bsv_design.specs.tree.Trees.{TreeData, IsTree}
 use Rattle.bsv_body.specs.declared.body.Body.{Body}
 use Rattle.bsv_body.specs.Bodies.{IsBody}
-use Rattle.bsv_inline.specs.Flattening.{kinds, IsFlat, AreFlat, IsLaidOut, AreLaidOut, KeepsWidths, top_name}
+use Rattle.bsv_inline.specs.Flattening.{kinds, IsFlat, AreFlat, IsFlatElement, AreFlatElements, KeepsWidths, top_name}
 use Rattle.bsv_inline.specs.Placed.{element, call_fits}
 use Rattle.bsv_inline.proofs.Alike.{alike}
 use Rattle.bsv_inline.proofs.Flattened.{flat_at, exclusive, decided}
@@ -33,19 +33,19 @@ use Rattle.bsv_inline.proofs.SameTrace.{IsElementOf, same_trace, acts_where_fits
 
 -- ---- one element
 
-below : (h : Hierarchy) (n : ℕ) (s : Source) → n < element_count h → source_at h n ≡ Some s → element_at h n ≡ Some s
+below : (h : TreeData) (n : ℕ) (s : Source) → n < element_count h → source_at h n ≡ Some s → element_at h n ≡ Some s
 below h n s l is = ap (λ b. if b then source_at h n else None) (lt-ltb n (element_count h) l) ∙ is
 
-above : (h : Hierarchy) (n : ℕ) (s : Source) → element_at h n ≡ Some s → source_at h n ≡ Some s
+above : (h : TreeData) (n : ℕ) (s : Source) → element_at h n ≡ Some s → source_at h n ≡ Some s
 above h n s is = by (nat_lt n (element_count h)) is where
   by : (b : Bool) → (if b then source_at h n else None) ≡ Some s → source_at h n ≡ Some s
   by true e = e
   by false e = absurd cc
 
-kinds_are : (h : Hierarchy) (parts : List NamedPart) → parts ≡ parts_among h.instances → map (λ p. p.kind) parts ≡ kinds h
+kinds_are : (h : TreeData) (parts : List NamedPart) → parts ≡ parts_among h.instances → map (λ p. p.kind) parts ≡ kinds h
 kinds_are h parts among = ap (λ (ps : List NamedPart). map (λ p. p.kind) ps) among
 
-stands : (h : Hierarchy) (s : Source) (b : Body) (e : Element) → e ≡ element h.typed.modules h.instances s.name s.role s.ports b → IsElementOf h.typed.modules h.instances b e
+stands : (h : TreeData) (s : Source) (b : Body) (e : Element) → e ≡ element h.typed.modules h.instances s.name s.role s.ports b → IsElementOf h.typed.modules h.instances b e
 stands h s b e made = record {
   nodes = ap (λ (x : Element). x.nodes) made;
   calls = ap (λ (x : Element). x.calls) made;
@@ -54,7 +54,7 @@ stands h s b e made = record {
 }
 
 -- the element of a source, of a body that does what its steps do
-flat_of : (h : Hierarchy) (n count : ℕ) (s : Source) (b : Body) (parts : List NamedPart) (e : Element)
+flat_of : (h : TreeData) (n count : ℕ) (s : Source) (b : Body) (parts : List NamedPart) (e : Element)
     → n < element_count h → source_at h n ≡ Some s → count ≡ length s.ports → parts ≡ parts_among h.instances
     → IsBody count s.steps s.gives b → list_all (call_fits (map (λ p. p.kind) parts) h.instances) b.calls ≡ true
     → e ≡ element h.typed.modules h.instances s.name s.role s.ports b → IsFlat h n e
@@ -69,7 +69,7 @@ flat_of h n count s b parts e l at many among body right made = record {
       (acts_where_fits (map (λ p. p.kind) parts) h.instances b.calls right) r ws (long ∙ sym many);
 }
 
-pub laid_flat : (h : Hierarchy) (n count : ℕ) (s : Source) (b : Body) (parts : List NamedPart) (e : Element) (ms : List Module) (is : List Instance)
+pub laid_flat : (h : TreeData) (n count : ℕ) (s : Source) (b : Body) (parts : List NamedPart) (e : Element) (ms : List Module) (is : List Instance)
     → n < element_count h → source_at h n ≡ Some s → count ≡ length s.ports → parts ≡ parts_among h.instances → ms ≡ h.typed.modules → is ≡ h.instances
     → IsBody count s.steps s.gives b → list_all (call_fits (map (λ p. p.kind) parts) is) b.calls ≡ true
     → e ≡ element ms is s.name s.role s.ports b → IsFlat h n e
@@ -81,39 +81,39 @@ laid_flat h n count s b parts e ms is l at many among modules instances body rig
 
 -- ---- one more
 
-more_from : (h : Hierarchy) (es : List Element) (e : Element) (k : ℕ) → AreLaidOut h k es → IsLaidOut h (k + length es) e → AreLaidOut h k (es ++ e ∷ [])
-more_from h [] e k f g = let at : k + 0 ≡ k = omega arith in (subst (λ j. IsLaidOut h j e) at g, tt)
+more_from : (h : TreeData) (es : List Element) (e : Element) (k : ℕ) → AreFlatElements h k es → IsFlatElement h (k + length es) e → AreFlatElements h k (es ++ e ∷ [])
+more_from h [] e k f g = let at : k + 0 ≡ k = omega arith in (subst (λ j. IsFlatElement h j e) at g, tt)
 more_from h (x ∷ es) e k f g =
     let at : k + suc (length es) ≡ k + 1 + length es = omega arith in
-    (f.0, more_from h es e (k + 1) f.1 (subst (λ j. IsLaidOut h j e) at g))
+    (f.0, more_from h es e (k + 1) f.1 (subst (λ j. IsFlatElement h j e) at g))
 
-pub laid_more : (h : Hierarchy) (es all : List Element) (e : Element) (n : ℕ) → AreLaidOut h 0 es → n ≡ length es → IsLaidOut h n e → all ≡ es ++ e ∷ []
-    → AreLaidOut h 0 all × (n + 1 ≡ length all)
+pub laid_more : (h : TreeData) (es all : List Element) (e : Element) (n : ℕ) → AreFlatElements h 0 es → n ≡ length es → IsFlatElement h n e → all ≡ es ++ e ∷ []
+    → AreFlatElements h 0 all × (n + 1 ≡ length all)
 laid_more h es all e n f at g is =
     let from : n ≡ 0 + length es = omega (arith, at) in
     let long : length (es ++ e ∷ []) ≡ length es + 1 = omega (arith, length-append es (e ∷ [])) in (
-      subst (AreLaidOut h 0) (sym is) (more_from h es e 0 f (subst (λ i. IsLaidOut h i e) from g)),
+      subst (AreFlatElements h 0) (sym is) (more_from h es e 0 f (subst (λ i. IsFlatElement h i e) from g)),
       ap (λ k. k + 1) at ∙ sym long ∙ ap (λ (xs : List Element). length xs) (sym is),
     )
 
 -- ---- all elements
 
-flat_all : (h : Hierarchy) (es : List Element) (k : ℕ) → AreLaidOut h k es → AreFlat h k es
+flat_all : (h : TreeData) (es : List Element) (k : ℕ) → AreFlatElements h k es → AreFlat h k es
 flat_all h [] k l = tt
 flat_all h (e ∷ es) k l = (l.0.flat, flat_all h es (k + 1) l.1)
 
-keeps_from : (h : Hierarchy) (es : List Element) (k : ℕ) → AreLaidOut h k es → (n : ℕ) (e : Element) → slice_get es n ≡ Some e → KeepsWidths h e
+keeps_from : (h : TreeData) (es : List Element) (k : ℕ) → AreFlatElements h k es → (n : ℕ) (e : Element) → slice_get es n ≡ Some e → KeepsWidths h e
 keeps_from h [] k l n e is = absurd cc
 keeps_from h (x ∷ es) k l zero e is = let it : x ≡ e = cc in subst (KeepsWidths h) it l.0.keeps
 keeps_from h (x ∷ es) k l (suc n) e is = keeps_from h es (k + 1) l.1 n e is
 
-outlined : (h : Hierarchy) (es : List Element) → AreLaidOut h 0 es → length es ≡ element_count h → AreOutlined h es
+outlined : (h : TreeData) (es : List Element) → AreFlatElements h 0 es → length es ≡ element_count h → AreOutlined h es
 outlined h es l long = record {
   as_many = long;
   each = λ n e is. let f = flat_at h es (flat_all h es 0 l) n e is in (f.source, above h n f.source f.at, f.name, f.role, f.arguments);
 }
 
-is_element : (h : Hierarchy) (es : List Element) → AreLaidOut h 0 es → KeepsNames h es → (n : ℕ) (e : Element) → slice_get es n ≡ Some e → IsElement (kinds h) e
+is_element : (h : TreeData) (es : List Element) → AreFlatElements h 0 es → KeepsNames h es → (n : ℕ) (e : Element) → slice_get es n ≡ Some e → IsElement (kinds h) e
 is_element h es l names n e is =
     let f = flat_at h es (flat_all h es 0 l) n e is in
     let k = keeps_from h es 0 l n e is in
@@ -128,18 +128,18 @@ is_element h es l names n e is =
       decided = decided h n e f;
     }
 
-record IsTop (h : Hierarchy) (name : List ℕ) : Type 0 where
+record IsTop (h : TreeData) (name : List ℕ) : Type 0 where
   «module» : Module
   at : slice_get h.typed.modules h.top ≡ Some «module»
   named : «module».name ≡ name
 
-of_top : (h : Hierarchy) (name : List ℕ) (o : Option Module) → slice_get h.typed.modules h.top ≡ o → option_map (λ m. m.name) o ≡ Some name
+of_top : (h : TreeData) (name : List ℕ) (o : Option Module) → slice_get h.typed.modules h.top ≡ o → option_map (λ m. m.name) o ≡ Some name
     → IsTop h name
 of_top h name (Some m) at is = let it : m.name ≡ name = cc in record { «module» = m; at = at; named = it }
 of_top h name None at is = absurd cc
 
-of_tree : (h : Hierarchy) → IsTree h → (name : List ℕ) (es : List Element) (ps : List NamedPart) (pairs : List Pair) (asserts : List Assert)
-    → AreLaidOut h 0 es → length es ≡ element_count h → countable es ≡ true → countable ps ≡ true
+of_tree : (h : TreeData) → IsTree h → (name : List ℕ) (es : List Element) (ps : List NamedPart) (pairs : List Pair) (asserts : List Assert)
+    → AreFlatElements h 0 es → length es ≡ element_count h → countable es ≡ true → countable ps ≡ true
     → top_name h ≡ Some name → ps ≡ parts_among h.instances → pairs ≡ h.pairs → asserts ≡ h.asserts
     → IsDesign (record { name = name; elements = es; parts = ps; pairs = pairs; asserts = asserts })
 of_tree h t name es ps pairs asserts l long few_elements few_parts top parts p a =
@@ -153,19 +153,19 @@ of_tree h t name es ps pairs asserts l long few_elements few_parts top parts p a
     subst (λ (x : List Assert). IsDesign (record { name = name; elements = es; parts = ps; pairs = pairs; asserts = x })) (sym a) three
 
 pub designed : (t : Tree) (name : List ℕ) (es : List Element) (ps : List NamedPart) (pairs : List Pair) (asserts : List Assert)
-    → AreLaidOut (hierarchy t) 0 es → length es ≡ element_count (hierarchy t) → countable es ≡ true → countable ps ≡ true
-    → top_name (hierarchy t) ≡ Some name → ps ≡ parts_among t.instances → pairs ≡ t.pairs → asserts ≡ t.asserts
+    → AreFlatElements (tree_data t) 0 es → length es ≡ element_count (tree_data t) → countable es ≡ true → countable ps ≡ true
+    → top_name (tree_data t) ≡ Some name → ps ≡ parts_among t.instances → pairs ≡ t.pairs → asserts ≡ t.asserts
     → ∥ IsDesign (record { name = name; elements = es; parts = ps; pairs = pairs; asserts = asserts }) ∥₁
 designed t name es ps pairs asserts l long few_elements few_parts top parts p a =
-    ∥∥₁_elim t.right ∥∥₁_prop (λ right. ∣ of_tree (hierarchy t) right name es ps pairs asserts l long few_elements few_parts top parts p a ∣₁)
+    ∥∥₁_elim t.right ∥∥₁_prop (λ right. ∣ of_tree (tree_data t) right name es ps pairs asserts l long few_elements few_parts top parts p a ∣₁)
 
-alike_of : (t : Tree) (b : Blueprint) → AreLaidOut (hierarchy t) 0 b.elements → length b.elements ≡ element_count (hierarchy t)
-    → b.parts ≡ parts_among t.instances → b.pairs ≡ t.pairs → b.asserts ≡ t.asserts → AreAlike (tree_scheme (hierarchy t)) (design_scheme b)
-alike_of t b l long parts pairs asserts = alike (hierarchy t) b parts (flat_all (hierarchy t) b.elements 0 l) long pairs asserts
+alike_of : (t : Tree) (b : DesignData) → AreFlatElements (tree_data t) 0 b.elements → length b.elements ≡ element_count (tree_data t)
+    → b.parts ≡ parts_among t.instances → b.pairs ≡ t.pairs → b.asserts ≡ t.asserts → AreAlike (tree_scheme (tree_data t)) (design_scheme b)
+alike_of t b l long parts pairs asserts = alike (tree_data t) b parts (flat_all (tree_data t) b.elements 0 l) long pairs asserts
 
 pub is_alike : (t : Tree) (d : Design) (es : List Element) (ps : List NamedPart) (pairs : List Pair) (asserts : List Assert)
-    → AreLaidOut (hierarchy t) 0 es → length es ≡ element_count (hierarchy t) → ps ≡ parts_among t.instances → pairs ≡ t.pairs → asserts ≡ t.asserts
-    → d.elements ≡ es → d.parts ≡ ps → d.pairs ≡ pairs → d.asserts ≡ asserts → AreAlike (tree_scheme (hierarchy t)) (design_scheme (blueprint d))
+    → AreFlatElements (tree_data t) 0 es → length es ≡ element_count (tree_data t) → ps ≡ parts_among t.instances → pairs ≡ t.pairs → asserts ≡ t.asserts
+    → d.elements ≡ es → d.parts ≡ ps → d.pairs ≡ pairs → d.asserts ≡ asserts → AreAlike (tree_scheme (tree_data t)) (design_scheme (design_data d))
 is_alike t d es ps pairs asserts l long parts p a elements_is parts_is pairs_is asserts_is =
-    alike_of t (blueprint d) (subst (AreLaidOut (hierarchy t) 0) (sym elements_is) l) (ap (λ (xs : List Element). length xs) elements_is ∙ long)
+    alike_of t (design_data d) (subst (AreFlatElements (tree_data t) 0) (sym elements_is) l) (ap (λ (xs : List Element). length xs) elements_is ∙ long)
     (parts_is ∙ parts) (pairs_is ∙ p) (asserts_is ∙ a)

@@ -9,18 +9,18 @@ use Rattle.bsv_design.specs.declared.element.Role.TheVariants as role
 use Rattle.bsv_design.specs.declared.source.Source.{Source}
 use Rattle.bsv_design.specs.declared.tree.Assert.{Assert}
 use Rattle.bsv_design.specs.declared.tree.Pair.{Pair}
-use Rattle.bsv_design.specs.Designs.{IsDotted, IsNamed, IsRuleIn}
-use Rattle.bsv_design.specs.Sources.{element_count, source_at, parts_among}
-use Rattle.bsv_design.specs.Trees.{Hierarchy}
+use Rattle.bsv_design.specs.design.Designs.{IsDotted, IsNamed, IsRuleIn}
+use Rattle.bsv_design.specs.tree.Sources.{element_count, source_at, parts_among}
+use Rattle.bsv_design.specs.tree.Trees.{TreeData}
 
 -- the elements have the names, roles and arguments of what was carried out, each in its position
-pub record AreOutlined (h : Hierarchy) (es : List Element) : Type 0 where
+pub record AreOutlined (h : TreeData) (es : List Element) : Type 0 where
   pub as_many : length es ≡ element_count h
   pub each : (n : ℕ) (e : Element) → slice_get es n ≡ Some e
       → (s : Source) × (source_at h n ≡ Some s) × (e.name ≡ s.name) × (e.role ≡ s.role) × (e.arguments ≡ s.ports)
 
 -- the rules of a design that speak of names and positions
-pub record KeepsNames (h : Hierarchy) (es : List Element) : Type 0 where
+pub record KeepsNames (h : TreeData) (es : List Element) : Type 0 where
   pub name : (m : Module) → slice_get h.typed.modules h.top ≡ Some m → IsTrue (is_lower m.name)
   pub named : (n : ℕ) (e : Element) → slice_get es n ≡ Some e → IsNamed e.role e.name
   pub apart : (m n : ℕ) (d e : Element) → slice_get es m ≡ Some d → slice_get es n ≡ Some e → d.name ≡ e.name → m ≡ n

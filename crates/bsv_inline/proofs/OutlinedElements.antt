@@ -15,11 +15,11 @@ use Rattle.bsv_design.specs.declared.tree.Made.{Made}
 use Rattle.bsv_design.specs.declared.tree.Made.TheVariants as made
 use Rattle.bsv_design.specs.declared.values.Fault.{Fault}
 use Rattle.bsv_design.specs.declared.values.Work.{Work}
-use Rattle.bsv_design.specs.Calls.{made_of}
-use Rattle.bsv_design.specs.Sources.{role_of, port_of, method_done, method_source, Standing, rule_among, rule_here, or_else, rule_at, rule_done, rule_text, rule_carried, rule_source, top_methods, top_source, source_at}
-use Rattle.bsv_design.specs.Traces.{with_dot}
-use Rattle.bsv_design.specs.Trees.{Hierarchy, IsTree, shapes}
-use Rattle.bsv_design.specs.Working.{Valued}
+use Rattle.bsv_design.specs.carrying.Calls.{made_of}
+use Rattle.bsv_design.specs.tree.Sources.{role_of, port_of, method_done, method_source, Standing, rule_among, rule_here, or_else, rule_at, rule_done, rule_text, rule_carried, rule_source, top_methods, top_source, source_at}
+use Rattle.bsv_design.specs.scheme.Traces.{with_dot}
+use Rattle.bsv_design.specs.tree.Trees.{TreeData, IsTree, shapes}
+use Rattle.bsv_design.specs.carrying.Working.{Valued}
 use Rattle.bsv_inline.proofs.Outlined.{AreOutlined}
 
 -- an element as it was carried out
@@ -29,7 +29,7 @@ record Shows (e : Element) (s : Source) : Type 0 where
   ports : e.arguments ≡ s.ports
 
 -- a method of the top
-pub record IsMethod (h : Hierarchy) (b : Built) (n : ℕ) (e : Element) : Type 0 where
+pub record IsMethod (h : TreeData) (b : Built) (n : ℕ) (e : Element) : Type 0 where
   pub levels : ℕ
   pub has : slice_get b.methods n ≡ Some levels
   pub text : Method
@@ -56,13 +56,13 @@ pub record IsRuleOf (is : List Instance) (n : ℕ) (e : Element) : Type 0 where
   pub part : e.role ≡ role.Rule
   pub ports : e.arguments ≡ []
 
-pub data IsOf (h : Hierarchy) (b : Built) (n : ℕ) (e : Element) : Type 0 where
+pub data IsOf (h : TreeData) (b : Built) (n : ℕ) (e : Element) : Type 0 where
   a_method : n < length (top_methods h) → IsMethod h b n e → IsOf h b n e
   a_rule : length (top_methods h) ≤ n → IsRuleOf h.instances n e → IsOf h b n e
 
 -- ---- methods
 
-method_is : (h : Hierarchy) (b : Built) (n levels : ℕ) (m : Method) (x : Valued) (e : Element) (s : Source) → Shows e s
+method_is : (h : TreeData) (b : Built) (n levels : ℕ) (m : Method) (x : Valued) (e : Element) (s : Source) → Shows e s
     → slice_get b.methods n ≡ Some levels → slice_get (top_methods h) n ≡ Some m → method_done (shapes h.typed) m x ≡ Some s → IsMethod h b n e
 method_is h b n levels m (Err f) e s shows has at done = absurd cc
 method_is h b n levels m (Ok x) e s shows has at done =
@@ -77,7 +77,7 @@ method_is h b n levels m (Ok x) e s shows has at done =
       ports = shows.ports ∙ ap (λ (z : Source). z.ports) is;
     }
 
-method_there : (h : Hierarchy) (b : Built) (n : ℕ) (levels : Option ℕ) (m : Option Method) (e : Element) (s : Source) → Shows e s
+method_there : (h : TreeData) (b : Built) (n : ℕ) (levels : Option ℕ) (m : Option Method) (e : Element) (s : Source) → Shows e s
     → slice_get b.methods n ≡ levels → slice_get (top_methods h) n ≡ m → method_source h b levels m ≡ Some s → IsMethod h b n e
 method_there h b n None m e s shows has at done = absurd cc
 method_there h b n (Some levels) None e s shows has at done = absurd cc
@@ -164,12 +164,12 @@ rule_is is n r (Ok w) e s shows at done =
       ports = shows.ports ∙ ap (λ (z : Source). z.ports) is;
     }
 
-rule_with : (h : Hierarchy) (n : ℕ) (r : Standing) (text : Option Rule) (e : Element) (s : Source) → Shows e s → StandsAt h.instances n r
+rule_with : (h : TreeData) (n : ℕ) (r : Standing) (text : Option Rule) (e : Element) (s : Source) → Shows e s → StandsAt h.instances n r
     → rule_carried h r text ≡ Some s → IsRuleOf h.instances n e
 rule_with h n r None e s shows at done = absurd cc
 rule_with h n r (Some text) e s shows at done = rule_is h.instances n r _ e s shows at done
 
-rule_there : (h : Hierarchy) (n : ℕ) (o : Option Standing) (e : Element) (s : Source) → Shows e s → rule_at h.instances n ≡ o
+rule_there : (h : TreeData) (n : ℕ) (o : Option Standing) (e : Element) (s : Source) → Shows e s → rule_at h.instances n ≡ o
     → rule_source h o ≡ Some s → IsRuleOf h.instances n e
 rule_there h n None e s shows at done = absurd cc
 rule_there h n (Some r) e s shows at done =
@@ -177,7 +177,7 @@ rule_there h n (Some r) e s shows at done =
 
 -- ---- both
 
-module _ (h : Hierarchy) (t : IsTree h) where
+module _ (h : TreeData) (t : IsTree h) where
   pub top_made : made_of (slice_get h.instances 0) ≡ Some (made.Module t.built)
   top_made = ap made_of t.top.first
 

@@ -1,4 +1,4 @@
--- Elements that stand for a tree have names of their own, methods stand before rules, and attributes name rules.
+-- Elements that stand for a tree have names of their own, methods come before rules, and attributes name rules.
 use Rattle.std.proofs.Common.{◌≡◌, ◌∙◌, ℕ, zero, suc, ◌<◌, ◌≤◌, List, [], ◌∷◌, map, length, Some, refl, sym, ap, subst, arith}
 use Rattle.std.specs.Prelude.{IsTrue, slice_get}
 use Rattle.std.proofs.lemmas.Option.{same_Some}
@@ -24,10 +24,10 @@ use Rattle.bsv_design.specs.declared.tree.Instance.{Instance}
 use Rattle.bsv_design.specs.declared.tree.Made.{Made}
 use Rattle.bsv_design.specs.declared.tree.Made.TheVariants as made
 use Rattle.bsv_design.specs.declared.tree.Pair.{Pair}
-use Rattle.bsv_design.specs.Calls.{made_of}
-use Rattle.bsv_design.specs.Designs.{IsDotted, IsNamed, IsRuleIn}
-use Rattle.bsv_design.specs.Sources.{role_of, port_of, Standing, top_methods, element_count}
-use Rattle.bsv_design.specs.Trees.{Hierarchy, IsTree, IsPath, IsRule, IsModuleAt, Agrees, AreNamed, PairsNameRules, AssertsNameRules, methods_of, shapes, world}
+use Rattle.bsv_design.specs.carrying.Calls.{made_of}
+use Rattle.bsv_design.specs.design.Designs.{IsDotted, IsNamed, IsRuleIn}
+use Rattle.bsv_design.specs.tree.Sources.{role_of, port_of, Standing, top_methods, element_count}
+use Rattle.bsv_design.specs.tree.Trees.{TreeData, IsTree, IsPath, IsRule, IsModuleAt, Agrees, AreNamed, PairsNameRules, AssertsNameRules, methods_of, shapes, world}
 use Rattle.bsv_inline.proofs.Outlined.{AreOutlined, KeepsNames}
 use Rattle.bsv_inline.proofs.OutlinedElements.{IsMethod, StandsAt, IsRuleOf, IsOf, a_method, a_rule, top_made, element_is}
 use Rattle.bsv_inline.proofs.OutlinedParts.{part_paths, parts_alone}
@@ -53,7 +53,7 @@ ports_named : (s : Shapes) (ps : List Param) → port_names (map (port_of s) ps)
 ports_named s [] = refl
 ports_named s (p ∷ ps) = ap (λ (names : List (List ℕ)). p.name ∷ names) (ports_named s ps)
 
-module _ (h : Hierarchy) (t : IsTree h) where
+module _ (h : TreeData) (t : IsTree h) where
   -- ---- the methods of the top
 
   abbrev top_agrees : Agrees h.typed h.instances t.built
@@ -171,8 +171,8 @@ module _ (h : Hierarchy) (t : IsTree h) where
     rule_from n e has behind (a_method below m) = absurd (omega arith)
     rule_from n e has behind (a_rule above r) = record { element = e; at = has; rule = r.part }
 
-    behind_all : (n : ℕ) → IsRule h.instances n → length (top_methods h) ≤ n
-    behind_all n r = subst (λ (k : ℕ). length (top_methods h) ≤ k) r.at (t.placed.behind r.rule r.has)
+    after_all : (n : ℕ) → IsRule h.instances n → length (top_methods h) ≤ n
+    after_all n r = subst (λ (k : ℕ). length (top_methods h) ≤ k) r.at (t.placed.behind r.rule r.has)
 
     within_all : (n : ℕ) → IsRule h.instances n → n < length es
     unfolding element_count
@@ -181,7 +181,7 @@ module _ (h : Hierarchy) (t : IsTree h) where
         subst (λ (k : ℕ). n < k) (sym o.as_many) within
 
     rule_in : (n : ℕ) → IsRule h.instances n → IsRuleIn es n
-    rule_in n r = let e = item_there es n (within_all n r) in rule_from n e.0 e.1 (behind_all n r) (at n e.0 e.1)
+    rule_in n r = let e = item_there es n (within_all n r) in rule_from n e.0 e.1 (after_all n r) (at n e.0 e.1)
 
     pairs_in : (ps : List Pair) → PairsNameRules h.instances ps → (k : ℕ) (p : Pair) → slice_get ps k ≡ Some p
         → IsRuleIn es p.before × IsRuleIn es p.after
@@ -209,5 +209,5 @@ module _ (h : Hierarchy) (t : IsTree h) where
       asserts = asserts_in h.asserts t.asserts;
     }
 
-pub keeps_names : (h : Hierarchy) → IsTree h → (es : List Element) → AreOutlined h es → KeepsNames h es
+pub keeps_names : (h : TreeData) → IsTree h → (es : List Element) → AreOutlined h es → KeepsNames h es
 keeps_names = kept

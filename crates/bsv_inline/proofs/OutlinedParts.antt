@@ -8,10 +8,10 @@ use Rattle.bsv_design.specs.declared.kind.Kind.{Kind}
 use Rattle.bsv_design.specs.declared.tree.Instance.{Instance}
 use Rattle.bsv_design.specs.declared.tree.Made.{Made}
 use Rattle.bsv_design.specs.declared.tree.Made.TheVariants as made
-use Rattle.bsv_design.specs.Designs.{IsDotted}
-use Rattle.bsv_design.specs.Sources.{part_made, parts_among}
-use Rattle.bsv_design.specs.Traces.{one_if, is_part, parts_before}
-use Rattle.bsv_design.specs.Trees.{Hierarchy, IsTree}
+use Rattle.bsv_design.specs.design.Designs.{IsDotted}
+use Rattle.bsv_design.specs.tree.Sources.{part_made, parts_among}
+use Rattle.bsv_design.specs.scheme.Traces.{one_if, is_part, parts_before}
+use Rattle.bsv_design.specs.tree.Trees.{TreeData, IsTree}
 use Rattle.bsv_design.proofs.Dotted.{dotted_path}
 
 -- the instance of a part
@@ -67,7 +67,7 @@ part_is (i ∷ is) n p e = by i.made refl n e (part_is is) where
         one_more : (n : ℕ) → 1 + n ≡ suc n
         one_more n = omega arith
 
-module _ (h : Hierarchy) (t : IsTree h) where
+module _ (h : TreeData) (t : IsTree h) where
   -- the top has the empty path alone
   below_top : (k : ℕ) (i : Instance) (part : PartTy) (kind : Kind) → slice_get h.instances k ≡ Some i → i.made ≡ made.Primitive part kind → i.path ≡ [] → ⊥
   below_top k i part kind at made_is path_is =

@@ -3,7 +3,7 @@ use Rattle.std.proofs.Common.{◌≡◌, ◌∙◌, ℕ, zero, suc, ◌+◌, ◌
 use Rattle.std.specs.Prelude.{slice_get}
 use Rattle.std.proofs.lemmas.Option.{get_or_from_slice_get}
 use Rattle.bsv_design.specs.declared.tree.Instance.{Instance}
-use Rattle.bsv_design.specs.Traces.{parts_before, is_part, one_if}
+use Rattle.bsv_design.specs.scheme.Traces.{parts_before, is_part, one_if}
 use Rattle.bsv_inline.specs.Placed.{ArePartNumbers}
 
 -- the numbers from one on
@@ -35,7 +35,7 @@ pub numbered : (is rest : List Instance) (numbers all : List ℕ) (count : ℕ) 
 numbered is [] numbers all count e done a = subst (ArePartNumbers is) (e ∙ sym a) (are_numbers is)
 numbered is (i ∷ rest) numbers all count e done a = absurd (omega arith)
 
--- behind the last instance there are no more
+-- after the last instance there are no more
 pub past_all : (is : List Instance) (n : ℕ) → length is ≤ n → parts_before is n ≡ parts_before is (length is)
 past_all [] zero h = refl
 past_all [] (suc n) h = refl

@@ -20,11 +20,11 @@ use Rattle.bsv_design.specs.declared.node.Node.TheVariants as node
 use Rattle.bsv_design.specs.declared.steps.Atom.{Atom}
 use Rattle.bsv_design.specs.declared.steps.Step.{Step}
 use Rattle.bsv_design.specs.declared.tree.Instance.{Instance}
-use Rattle.bsv_design.specs.Bodies as bodies
-use Rattle.bsv_design.specs.Bodies.{Answers, Target, at}
-use Rattle.bsv_design.specs.Kinds.{kind_table}
-use Rattle.bsv_design.specs.Running.{Results, SiteCall, Need, or_zero, is_one, word_of, happening}
-use Rattle.bsv_design.specs.Traces.{Site, Demand, Trace, acts, kind_at, site_at, demand_at, body_trace, target_of, place_name, site_of, demand_of, step_trace}
+use Rattle.bsv_design.specs.design.Bodies as bodies
+use Rattle.bsv_design.specs.design.Bodies.{Answers, Target, at}
+use Rattle.bsv_design.specs.tree.Kinds.{kind_table}
+use Rattle.bsv_design.specs.carrying.Running.{Results, SiteCall, Need, or_zero, is_one, word_of, happening}
+use Rattle.bsv_design.specs.scheme.Traces.{Site, Demand, Trace, acts, kind_at, site_at, demand_at, body_trace, target_of, place_name, site_of, demand_of, step_trace}
 use Rattle.bsv_body.specs.declared.body.Body.{Body}
 use Rattle.bsv_body.specs.declared.calls.Call.{Call}
 use Rattle.bsv_body.specs.declared.calls.Condition.{Condition}
@@ -81,7 +81,7 @@ module _ (is : List Instance) (r : Answers) (arguments : List Bits) (calls : Lis
   word_same ws (node.SignExtend a width) = refl
 
   values_same : (ws : List Bits) (xs : List Node) → bodies.values r arguments parts ws xs ≡ nodes.values own arguments calls ws xs
-  unfolding bodies.words_behind
+  unfolding bodies.words_after
   values_same ws [] = refl
   values_same ws (x ∷ xs) =
       ap (λ (w : Bits). bodies.values r arguments parts (ws ++ w ∷ []) xs) (word_same ws x)
@@ -93,7 +93,7 @@ same_words ms is b e of r arguments =
     ap₂ (λ (cs : List PartCall) (ns : List Node). bodies.values r arguments cs [] ns) of.calls of.nodes
     ∙ values_same is r arguments b.calls [] b.nodes
 
--- ---- what stands beside them
+-- ---- what is beside them
 
 one_of : (vs : List Bits) (k : ℕ) (b : Bool) → slice_get vs k ≡ Some (bit b) → is_one (at vs k) ≡ b
 one_of vs k b e = ap (λ (o : Option Bits). is_one (or_zero o)) e ∙ by b where

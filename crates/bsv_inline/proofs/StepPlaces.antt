@@ -8,10 +8,10 @@ use Rattle.bsv_design.specs.declared.node.Branch.{Branch}
 use Rattle.bsv_design.specs.declared.steps.Atom.{Atom}
 use Rattle.bsv_design.specs.declared.steps.Step.{Step}
 use Rattle.bsv_design.specs.declared.tree.Instance.{Instance}
-use Rattle.bsv_design.specs.Bodies.{Answers}
-use Rattle.bsv_design.specs.Running.{Results, Standing, SiteCall, Need, Happening, Run, Alternative, happening, either_run, in_turn, nested_run, arms_run, inside, is_one, word_of}
-use Rattle.bsv_design.specs.Traces.{Site, Demand, Trace, step_trace, site_of, demand_of, target_of, place_name}
-use Rattle.bsv_design.specs.Uses.{Methods}
+use Rattle.bsv_design.specs.design.Bodies.{Answers}
+use Rattle.bsv_design.specs.carrying.Running.{Results, Standing, SiteCall, Need, Happening, Run, Alternative, happening, either_run, in_turn, nested_run, arms_run, inside, is_one, word_of}
+use Rattle.bsv_design.specs.scheme.Traces.{Site, Demand, Trace, step_trace, site_of, demand_of, target_of, place_name}
+use Rattle.bsv_design.specs.carrying.Uses.{Methods}
 use Rattle.bsv_inline.proofs.EachStep.{AllKeep, AllArms, IsKept, all_keep}
 
 -- ---- calls and conditions of two runs

@@ -6,10 +6,10 @@ use Rattle.bsv_types.specs.declared.modules.Module.{Module}
 use Rattle.bsv_design.specs.declared.steps.Atom.{Atom}
 use Rattle.bsv_design.specs.declared.steps.Step.{Step}
 use Rattle.bsv_design.specs.declared.tree.Instance.{Instance}
-use Rattle.bsv_design.specs.Bodies.{Target, Answers}
-use Rattle.bsv_design.specs.Running.{Results, Standing, SiteCall, Run, Alternative, happening, in_turn, nested_run, arms_run, inside, is_one, word_of}
-use Rattle.bsv_design.specs.Traces.{step_trace, site_of, target_of}
-use Rattle.bsv_design.specs.Uses.{Methods, all_methods, uses}
+use Rattle.bsv_design.specs.design.Bodies.{Target, Answers}
+use Rattle.bsv_design.specs.carrying.Running.{Results, Standing, SiteCall, Run, Alternative, happening, in_turn, nested_run, arms_run, inside, is_one, word_of}
+use Rattle.bsv_design.specs.scheme.Traces.{step_trace, site_of, target_of}
+use Rattle.bsv_design.specs.carrying.Uses.{Methods, all_methods, uses}
 use Rattle.bsv_inline.proofs.EachStep.{AllKeep, AllArms, IsKept, all_keep}
 
 abbrev called : List SiteCall → Methods

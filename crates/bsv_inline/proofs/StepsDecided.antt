@@ -8,11 +8,11 @@ use Rattle.bsv_types.specs.declared.modules.Module.{Module}
 use Rattle.bsv_design.specs.declared.steps.Atom.{Atom}
 use Rattle.bsv_design.specs.declared.steps.Step.{Step}
 use Rattle.bsv_design.specs.declared.tree.Instance.{Instance}
-use Rattle.bsv_design.specs.Bodies.{Answers}
-use Rattle.bsv_design.specs.Branches.{AgreeOnTaken, AreSameSites, AreSameDemands, AreSameWhereTaken}
-use Rattle.bsv_design.specs.Running.{Results, Standing, SiteCall, Need, Happening, Run, Alternative, happening, either_run, in_turn, nested_run, arms_run, last_run, inside, is_one, word_of, words_of, picked, computed}
-use Rattle.bsv_design.specs.Traces.{Site, step_trace, site_of, demand_of, target_of, place_name}
-use Rattle.bsv_design.specs.Uses.{Methods}
+use Rattle.bsv_design.specs.design.Bodies.{Answers}
+use Rattle.bsv_design.specs.design.Branches.{AgreeOnTaken, AreSameSites, AreSameDemands, AreSameWhereTaken}
+use Rattle.bsv_design.specs.carrying.Running.{Results, Standing, SiteCall, Need, Happening, Run, Alternative, happening, either_run, in_turn, nested_run, arms_run, last_run, inside, is_one, word_of, words_of, picked, computed}
+use Rattle.bsv_design.specs.scheme.Traces.{Site, step_trace, site_of, demand_of, target_of, place_name}
+use Rattle.bsv_design.specs.carrying.Uses.{Methods}
 use Rattle.bsv_inline.proofs.EachStep.{AllKeep, AllArms, IsKept, all_keep}
 use Rattle.bsv_inline.proofs.StepPlaces.{AreSameCalls, AreSameNeeds, same_calls, same_needs}
 
@@ -32,8 +32,8 @@ agree_right q r k [] ds h = let e : k ≡ k + 0 = omega arith in subst (λ j. Ag
 agree_right q r k (c ∷ cs) ds h = let e : k + 1 + length cs ≡ k + suc (length cs) = omega arith in subst (λ j. Agree q r j ds) e (agree_right q r (k + 1) cs ds h.1)
 
 -- of the calls from number k to number l
-agree_behind : (q r : Results) (k l : ℕ) (cs ds : List SiteCall) → l ≡ k + length cs → Agree q r k (cs ++ ds) → Agree q r l ds
-agree_behind q r k l cs ds e h = subst (λ j. Agree q r j ds) (sym e) (agree_right q r k cs ds h)
+agree_after : (q r : Results) (k l : ℕ) (cs ds : List SiteCall) → l ≡ k + length cs → Agree q r k (cs ++ ds) → Agree q r l ds
+agree_after q r k l cs ds e h = subst (λ j. Agree q r j ds) (sym e) (agree_right q r k cs ds h)
 
 abbrev IsDecidedCall : SiteCall → SiteCall → Type 0
 IsDecidedCall x y = (x.taken ≡ y.taken) × (x.taken ≡ true → x.arguments ≡ y.arguments)
@@ -87,7 +87,7 @@ in_turn_decided (o ∷ os) (u ∷ us) h q r p s ws vs m n k l e f g t =
     let c = in_turn os q p a.words a.choices a.sites in
     let d = in_turn os r s b.words b.choices b.sites in
     let x = h.0 q r p s ws vs m n k l e f g (agree_left q r k a.calls c.calls t) in
-    let y = in_turn_decided os us h.1 q r p s a.words b.words a.choices b.choices a.sites b.sites e x.sites x.words (agree_behind q r k a.sites a.calls c.calls x.counted t) in
+    let y = in_turn_decided os us h.1 q r p s a.words b.words a.choices b.choices a.sites b.sites e x.sites x.words (agree_after q r k a.sites a.calls c.calls x.counted t) in
     record {
       counted = omega (arith, x.counted, y.counted, length-append a.calls c.calls);
       sites = y.sites;
@@ -185,13 +185,13 @@ module _ (last : List Run) (us : List Methods) (gives : List Atom) (all : AllKee
       let d = in_turn x.body r (inside s (gone && w) j arm) b.words b.choices b.sites in
       let o = arms_run last gives xs i (arm + 1) (left && not t) q p a.words c.choices c.sites in
       let first = in_turn_decided x.condition h.0.first h.0.condition q r p s ws zs m n k l e f g (agree_left q r k a.calls (c.calls ++ o.calls) all) in
-      let later : Agree q r a.sites (c.calls ++ o.calls) = agree_behind q r k a.sites a.calls (c.calls ++ o.calls) first.counted all in
+      let later : Agree q r a.sites (c.calls ++ o.calls) = agree_after q r k a.sites a.calls (c.calls ++ o.calls) first.counted all in
       let test : p.taken ≡ true → t ≡ w = λ z. ap (λ (l : List Bits). is_one (word_of l x.test)) (first.words z) in
       let second = in_turn_decided x.body h.0.second h.0.body q r (inside p (left && t) i arm) (inside s (gone && w) j arm) a.words b.words a.choices b.choices a.sites b.sites
       (same_and left gone t w same (λ z. test (up z))) first.sites (λ z. first.words (up (and_parts left t z).0)) (agree_left q r a.sites c.calls o.calls later) in
       let others = arms_decided xs vs h.1 i j (arm + 1) (left && not t) (gone && not w) q r p s a.words b.words c.choices d.choices c.sites d.sites
       e (same_and left gone (not t) (not w) same (λ z. ap not (test (up z)))) (λ z. up (and_parts left (not t) z).0) second.sites first.words
-      (agree_behind q r a.sites c.sites c.calls o.calls second.counted later) in
+      (agree_after q r a.sites c.sites c.calls o.calls second.counted later) in
       either_decided p.taken left k a b t w c d x.gives o _ up test first second others
   arms_decided [] (v ∷ vs) h i j arm left gone q r p s ws zs m n k l e same up f g t = absurd h
   arms_decided (x ∷ xs) [] h i j arm left gone q r p s ws zs m n k l e same up f g t = absurd h
@@ -210,21 +210,21 @@ module _ (last : List Run) (us : List Methods) (gives : List Atom) (all : AllKee
       let d = in_turn x.body r (inside s (s.taken && w) b.choices 0) b.words (b.choices + 1) b.sites in
       let o = nested_run last gives xs q (inside p (p.taken && not t) a.choices 1) a.words c.choices c.sites in
       let first = in_turn_decided x.condition h.0.first h.0.condition q r p s ws zs m n k l e f g (agree_left q r k a.calls (c.calls ++ o.calls) all) in
-      let later : Agree q r a.sites (c.calls ++ o.calls) = agree_behind q r k a.sites a.calls (c.calls ++ o.calls) first.counted all in
+      let later : Agree q r a.sites (c.calls ++ o.calls) = agree_after q r k a.sites a.calls (c.calls ++ o.calls) first.counted all in
       let test : p.taken ≡ true → t ≡ w = λ z. ap (λ (l : List Bits). is_one (word_of l x.test)) (first.words z) in
       let second = in_turn_decided x.body h.0.second h.0.body q r (inside p (p.taken && t) a.choices 0) (inside s (s.taken && w) b.choices 0) a.words b.words (a.choices + 1) (b.choices + 1) a.sites b.sites
       (same_and p.taken s.taken t w e test) first.sites (λ z. first.words (and_parts p.taken t z).0) (agree_left q r a.sites c.calls o.calls later) in
       let others = nested_decided xs vs h.1 q r (inside p (p.taken && not t) a.choices 1) (inside s (s.taken && not w) b.choices 1) a.words b.words c.choices d.choices c.sites d.sites
       (same_and p.taken s.taken (not t) (not w) e (λ z. ap not (test z))) second.sites (λ z. first.words (and_parts p.taken (not t) z).0)
-      (agree_behind q r a.sites c.sites c.calls o.calls second.counted later) in
+      (agree_after q r a.sites c.sites c.calls o.calls second.counted later) in
       either_decided p.taken p.taken k a b t w c d x.gives o _ (λ z. z) test first second others
   nested_decided [] (v ∷ vs) h q r p s ws zs m n k l e f g t = absurd h
   nested_decided (x ∷ xs) [] h q r p s ws zs m n k l e f g t = absurd h
 
--- a choice, whose words stand behind those before it
-behind_words : (taken : Bool) (k : ℕ) (ws vs : List Bits) (a b : Happening) → (taken ≡ true → ws ≡ vs) → AreDecidedArms taken k a b
+-- a choice, whose words come after those before it
+after_words : (taken : Bool) (k : ℕ) (ws vs : List Bits) (a b : Happening) → (taken ≡ true → ws ≡ vs) → AreDecidedArms taken k a b
     → AreDecided taken k (record a { words = ws ++ a.words }) (record b { words = vs ++ b.words })
-behind_words taken k ws vs a b g x = record {
+after_words taken k ws vs a b g x = record {
   counted = x.both.counted;
   sites = x.both.sites;
   calls = x.both.calls;
@@ -267,9 +267,9 @@ all_decided = record {
         words = x.words;
       };
   nested = λ arms us last ts gives h i q r p s ws vs m n k l e f g t.
-      behind_words p.taken k ws vs _ _ g (nested_decided last ts gives i arms us h q r p s ws vs m n k l e f g t);
+      after_words p.taken k ws vs _ _ g (nested_decided last ts gives i arms us h q r p s ws vs m n k l e f g t);
   chain = λ arms us last ts gives h i q r p s ws vs m n k l e f g t.
-      behind_words p.taken k ws vs _ _ g (arms_decided last ts gives i arms us h m n 0 p.taken s.taken q r p s ws vs (m + 1) (n + 1) k l e e (λ z. z) f g t);
+      after_words p.taken k ws vs _ _ g (arms_decided last ts gives i arms us h m n 0 p.taken s.taken q r p s ws vs (m + 1) (n + 1) k l e e (λ z. z) f g t);
 }
 
 -- ---- two traces

@@ -9,11 +9,11 @@ use Rattle.bsv_design.specs.declared.node.Branch.{Branch}
 use Rattle.bsv_design.specs.declared.steps.Atom.{Atom}
 use Rattle.bsv_design.specs.declared.steps.Step.{Step}
 use Rattle.bsv_design.specs.declared.tree.Instance.{Instance}
-use Rattle.bsv_design.specs.Bodies.{Answers}
-use Rattle.bsv_design.specs.Branches.{other_arm, other_arm_of, apart, AreExclusive}
-use Rattle.bsv_design.specs.Running.{Results, Standing, SiteCall, Happening, Run, Alternative, happening, either_run, in_turn, nested_run, arms_run, inside, is_one, word_of}
-use Rattle.bsv_design.specs.Traces.{Site, step_trace, site_of, target_of}
-use Rattle.bsv_design.specs.Uses.{Methods}
+use Rattle.bsv_design.specs.design.Bodies.{Answers}
+use Rattle.bsv_design.specs.design.Branches.{other_arm, other_arm_of, apart, AreExclusive}
+use Rattle.bsv_design.specs.carrying.Running.{Results, Standing, SiteCall, Happening, Run, Alternative, happening, either_run, in_turn, nested_run, arms_run, inside, is_one, word_of}
+use Rattle.bsv_design.specs.scheme.Traces.{Site, step_trace, site_of, target_of}
+use Rattle.bsv_design.specs.carrying.Uses.{Methods}
 use Rattle.bsv_inline.proofs.EachStep.{AllKeep, AllArms, IsKept, all_keep}
 
 -- ---- a way: which arm is taken at each choice

@@ -7,18 +7,18 @@ use Rattle.bsv_design.specs.declared.element.Element.{Element}
 use Rattle.bsv_design.specs.declared.element.Role.TheVariants as role
 use Rattle.bsv_design.specs.declared.kind.Kind.{Kind}
 use Rattle.bsv_design.specs.declared.source.Source.{Source}
-use Rattle.bsv_design.specs.Bodies.{Answers}
-use Rattle.bsv_design.specs.Designs.{HasWidths}
-use Rattle.bsv_design.specs.Sources.{element_at, parts_among}
-use Rattle.bsv_design.specs.Traces.{body_trace, step_trace}
-use Rattle.bsv_design.specs.Trees.{Hierarchy}
-use Rattle.bsv_design.specs.Widths.{acts_not}
+use Rattle.bsv_design.specs.design.Bodies.{Answers}
+use Rattle.bsv_design.specs.design.Designs.{HasWidths}
+use Rattle.bsv_design.specs.tree.Sources.{element_at, parts_among}
+use Rattle.bsv_design.specs.scheme.Traces.{body_trace, step_trace}
+use Rattle.bsv_design.specs.tree.Trees.{TreeData}
+use Rattle.bsv_design.specs.design.Widths.{acts_not}
 
-abbrev pub kinds : Hierarchy → List Kind
+abbrev pub kinds : TreeData → List Kind
 kinds h = map (λ p. p.kind) (parts_among h.instances)
 
 -- the flat body of the element of a position
-pub record IsFlat (h : Hierarchy) (n : ℕ) (e : Element) : Type 0 where
+pub record IsFlat (h : TreeData) (n : ℕ) (e : Element) : Type 0 where
   pub source : Source
   pub at : element_at h n ≡ Some source
   pub name : e.name ≡ source.name
@@ -29,27 +29,27 @@ pub record IsFlat (h : Hierarchy) (n : ℕ) (e : Element) : Type 0 where
       → body_trace (kinds h) e r ws ≡ step_trace h.typed.modules h.instances source.steps source.gives r ws
 
 -- of the elements from this position on
-abbrev pub AreFlat : Hierarchy → ℕ → List Element → Type 0
+abbrev pub AreFlat : TreeData → ℕ → List Element → Type 0
 AreFlat h n [] = Unit {0}
 AreFlat h n (e ∷ es) = IsFlat h n e × AreFlat h (n + 1) es
 
 -- the name of the top's module
-abbrev pub top_name : Hierarchy → Option (List ℕ)
+abbrev pub top_name : TreeData → Option (List ℕ)
 top_name h = option_map (λ m. m.name) (slice_get h.typed.modules h.top)
 
 -- each node has the words that it needs, and there are not too many; and what gives a value alone does not act
-pub record KeepsWidths (h : Hierarchy) (e : Element) : Type 0 where
+pub record KeepsWidths (h : TreeData) (e : Element) : Type 0 where
   pub fits : HasWidths (kinds h) e
   pub nodes : IsTrue (countable e.nodes)
   pub calls : IsTrue (countable e.calls)
   pub value : e.role ≡ role.Value → IsTrue (list_all (acts_not (kinds h)) e.calls)
 
 -- the flat body of an element of a tree, which keeps them
-pub record IsLaidOut (h : Hierarchy) (n : ℕ) (e : Element) : Type 0 where
+pub record IsFlatElement (h : TreeData) (n : ℕ) (e : Element) : Type 0 where
   pub flat : IsFlat h n e
   pub keeps : KeepsWidths h e
 
 -- of the elements from this position on
-abbrev pub AreLaidOut : Hierarchy → ℕ → List Element → Type 0
-AreLaidOut h n [] = Unit {0}
-AreLaidOut h n (e ∷ es) = IsLaidOut h n e × AreLaidOut h (n + 1) es
+abbrev pub AreFlatElements : TreeData → ℕ → List Element → Type 0
+AreFlatElements h n [] = Unit {0}
+AreFlatElements h n (e ∷ es) = IsFlatElement h n e × AreFlatElements h (n + 1) es

@@ -12,13 +12,13 @@ use Rattle.bsv_design.specs.declared.element.Port.{Port}
 use Rattle.bsv_design.specs.declared.element.Role.{Role}
 use Rattle.bsv_design.specs.declared.kind.Kind.{Kind}
 use Rattle.bsv_design.specs.declared.tree.Instance.{Instance}
-use Rattle.bsv_design.specs.Kinds.{kind_table}
-use Rattle.bsv_design.specs.Traces.{acts, kind_at, parts_before, target_of, place_name}
+use Rattle.bsv_design.specs.tree.Kinds.{kind_table}
+use Rattle.bsv_design.specs.scheme.Traces.{acts, kind_at, parts_before, target_of, place_name}
 use Rattle.bsv_body.specs.declared.body.Body.{Body}
 use Rattle.bsv_body.specs.declared.calls.Call.{Call}
 use Rattle.bsv_body.specs.declared.calls.Condition.{Condition}
 
--- of each instance, how many primitives stand before it, and at the end how many there are
+-- of each instance, how many primitives come before it, and at the end how many there are
 pub record ArePartNumbers (is : List Instance) (numbers : List ℕ) : Type 0 where
   pub as_many : length numbers ≡ length is + 1
   pub at : (n : ℕ) → n ≤ length is → slice_get numbers n ≡ Some (parts_before is n)

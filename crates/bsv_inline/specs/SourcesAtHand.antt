@@ -6,8 +6,8 @@ use Rattle.bsv_types.specs.declared.modules.Rule.{Rule}
 use Rattle.bsv_types.specs.Shapes.{Shapes}
 use Rattle.bsv_design.specs.declared.element.Role.{Role}
 use Rattle.bsv_design.specs.declared.steps.Atom.{Atom}
-use Rattle.bsv_design.specs.Roles.{gives_value}
-use Rattle.bsv_design.specs.Values.{atom_of}
+use Rattle.bsv_design.specs.tree.Roles.{gives_value}
+use Rattle.bsv_design.specs.carrying.Values.{atom_of}
 use Rattle.bsv_design.specs.declared.source.Source.{Source}
 use Rattle.bsv_design.specs.declared.statics.Binding.{Binding}
 use Rattle.bsv_design.specs.declared.tree.Built.{Built}
@@ -16,22 +16,22 @@ use Rattle.bsv_design.specs.declared.tree.Made.TheVariants as made
 use Rattle.bsv_design.specs.declared.values.Fault.{Fault}
 use Rattle.bsv_design.specs.declared.values.Value.{Value}
 use Rattle.bsv_design.specs.declared.values.Work.{Work}
-use Rattle.bsv_design.specs.Calls.{made_of}
-use Rattle.bsv_design.specs.Calls as calls
-use Rattle.bsv_design.specs.Seen.{hierarchy}
-use Rattle.bsv_design.specs.Sources as sources
-use Rattle.bsv_design.specs.Trees as trees
-use Rattle.bsv_design.specs.Trees.{Hierarchy}
+use Rattle.bsv_design.specs.carrying.Calls.{made_of}
+use Rattle.bsv_design.specs.carrying.Calls as calls
+use Rattle.bsv_design.specs.tree.Seen.{tree_data}
+use Rattle.bsv_design.specs.tree.Sources as sources
+use Rattle.bsv_design.specs.tree.Trees as trees
+use Rattle.bsv_design.specs.tree.Trees.{TreeData}
 use Rattle.bsv_inline.specs.declared.rules.Placed.{Placed}
 use Rattle.bsv_inline.specs.declared.sources.Sources.{Sources}
 
-abbrev pub tree : Sources → Hierarchy
-tree s = hierarchy s.tree.now
+abbrev pub tree : Sources → TreeData
+tree s = tree_data s.tree.now
 
 abbrev pub shapes : Sources → Shapes
 shapes s = trees.shapes (tree s).typed
 
-abbrev pub site : Sources → ℕ → List Binding → calls.Site
+abbrev pub site : Sources → ℕ → List Binding → calls.Context
 site s place bindings = trees.site_of (tree s).typed (tree s).instances place bindings
 
 abbrev pub standing : Placed → sources.Standing

@@ -1,9 +1,9 @@
 ghost use Rattle.std.specs.Prelude.{◌≡◌, ◌+◌, ◌<◌, true, Some, length, map, IfOk, OnOk};
 ghost use Rattle.bsv_types.specs.Names.{countable};
-ghost use Rattle.bsv_design.specs.Schemes.{design_scheme, tree_scheme, AreAlike};
-ghost use Rattle.bsv_design.specs.Seen.{blueprint, hierarchy};
-ghost use Rattle.bsv_design.specs.Sources as sources;
-ghost use Rattle.bsv_design.specs.Trees as trees;
+ghost use Rattle.bsv_design.specs.scheme.Schemes.{design_scheme, tree_scheme, AreAlike};
+ghost use Rattle.bsv_design.specs.tree.Seen.{design_data, tree_data};
+ghost use Rattle.bsv_design.specs.tree.Sources as sources;
+ghost use Rattle.bsv_design.specs.tree.Trees as trees;
 ghost use Rattle.bsv_body.specs.Bodies.{IsBody};
 ghost use Rattle.bsv_inline.specs.Flattening as flattening;
 ghost use Rattle.bsv_inline.specs.Placed as placed;
@@ -31,7 +31,7 @@ fn rules_counted(instance: &Instance, count: usize) -> Laid<usize>
     }
 }
 
-/// How many rules there are behind so many.
+/// How many rules there are after so many.
 fn count_rules(instances: &[Instance], methods: usize) -> Laid<usize>
     ensures { IfOk result (λ n. n ≡ methods + trees.rule_count instances.now) }
 {
@@ -48,7 +48,7 @@ fn count_rules(instances: &[Instance], methods: usize) -> Laid<usize>
 #[derive(Clone, Copy)]
 pub(crate) struct Layout<'a> {
     pub sources: Sources<'a>,
-    /// Of each instance, how many primitives stand before it, and at the end how many there are.
+    /// Of each instance, how many primitives come before it, and at the end how many there are.
     pub numbers: &'a [u32],
     pub parts: &'a [NamedPart],
 }
@@ -145,7 +145,7 @@ impl<'a> Layout<'a> {
             ≡ sources.parts_among (at_hand.tree self.sources).instances }
         requires within { position < sources.element_count (at_hand.tree self.sources) }
         ensures { IfOk result (λ e.
-            flattening.IsLaidOut (at_hand.tree self.entry.sources) position e) }
+            flattening.IsFlatElement (at_hand.tree self.entry.sources) position e) }
     {
         let element = self.laid(position)?;
         self.keeps_widths(&element)?;
@@ -160,7 +160,7 @@ impl<'a> Layout<'a> {
             ≡ sources.parts_among (at_hand.tree self.sources).instances }
         requires count { count ≡ sources.element_count (at_hand.tree self.sources) }
         ensures laid { IfOk result (λ es.
-            flattening.AreLaidOut (at_hand.tree self.entry.sources) 0 es) }
+            flattening.AreFlatElements (at_hand.tree self.entry.sources) 0 es) }
         ensures count { IfOk result (λ es. length es ≡ count) }
     {
         let mut elements = Items::new(self.sources.alloc);
@@ -174,7 +174,7 @@ impl<'a> Layout<'a> {
 
 /// The name of the top's module.
 fn top_name(alloc: Global, tree: &Tree) -> Laid<Name>
-    ensures { IfOk result (λ name. flattening.top_name (hierarchy tree.now) ≡ Some name) }
+    ensures { IfOk result (λ name. flattening.top_name (tree_data tree.now) ≡ Some name) }
 {
     match tree.typed.modules.get(tree.top as usize) {
         Some(module) => Name::new(alloc, module.name.bytes()),
@@ -183,12 +183,12 @@ fn top_name(alloc: Global, tree: &Tree) -> Laid<Name>
 }
 
 /// The elements of a tree as flat bodies, in the order of their positions, over these primitives.
-#[tactic(auto, unfolding(bsv_design::specs::Sources::element_count))]
+#[tactic(auto, unfolding(bsv_design::specs::tree::Sources::element_count))]
 fn all_elements(alloc: Global, tree: &Tree, parts: &[NamedPart]) -> Laid<Items<Element>>
     requires { parts.now ≡ sources.parts_among tree.now.instances }
-    ensures laid { IfOk result (λ es. flattening.AreLaidOut (hierarchy tree.now) 0 es) }
+    ensures laid { IfOk result (λ es. flattening.AreFlatElements (tree_data tree.now) 0 es) }
     ensures count { IfOk result (λ es.
-        length es ≡ sources.element_count (hierarchy tree.now)) }
+        length es ≡ sources.element_count (tree_data tree.now)) }
 {
     let sources = Sources { alloc, tree };
     let instances = tree.instances.as_slice();
@@ -209,14 +209,14 @@ fn design_of(
     elements: Items<Element>,
     parts: Items<NamedPart>,
 ) -> Result<Design, OutOfMemory>
-    requires laid { flattening.AreLaidOut (hierarchy tree.now) 0 elements }
-    requires count { length elements ≡ sources.element_count (hierarchy tree.now) }
+    requires laid { flattening.AreFlatElements (tree_data tree.now) 0 elements }
+    requires count { length elements ≡ sources.element_count (tree_data tree.now) }
     requires elements { countable elements ≡ true }
     requires parts { parts ≡ sources.parts_among tree.now.instances }
     requires few { countable parts ≡ true }
     ensures alike { IfOk result (λ d.
-        AreAlike (tree_scheme (hierarchy tree.now)) (design_scheme (blueprint d))) }
-    ensures name { IfOk result (λ d. flattening.top_name (hierarchy tree.now) ≡ Some d.name) }
+        AreAlike (tree_scheme (tree_data tree.now)) (design_scheme (design_data d))) }
+    ensures name { IfOk result (λ d. flattening.top_name (tree_data tree.now) ≡ Some d.name) }
     ensures parts { IfOk result (λ d. d.parts ≡ sources.parts_among tree.now.instances) }
 {
     let name = top_name(alloc, tree)?;
@@ -228,8 +228,8 @@ fn design_of(
 /// The design of a tree: its elements as flat bodies, in the order of their positions, over its primitives.
 pub fn flatten(alloc: Global, tree: &Tree) -> Result<Design, OutOfMemory>
     ensures alike { IfOk result (λ d.
-        AreAlike (tree_scheme (hierarchy tree.now)) (design_scheme (blueprint d))) }
-    ensures name { IfOk result (λ d. flattening.top_name (hierarchy tree.now) ≡ Some d.name) }
+        AreAlike (tree_scheme (tree_data tree.now)) (design_scheme (design_data d))) }
+    ensures name { IfOk result (λ d. flattening.top_name (tree_data tree.now) ≡ Some d.name) }
     ensures parts { IfOk result (λ d. d.parts ≡ sources.parts_among tree.now.instances) }
 {
     let parts = parts(alloc, tree.instances.as_slice())?;

@@ -1,5 +1,5 @@
 ghost use Rattle.std.specs.Prelude.{◌≡◌, IfOk, slice_get};
-ghost use Rattle.bsv_design.specs.Traces.{method_text, place_name};
+ghost use Rattle.bsv_design.specs.scheme.Traces.{method_text, place_name};
 ghost use Rattle.bsv_inline.specs.Placed.{method_of};
 
 use bsv_bits::Name;

@@ -1,5 +1,5 @@
 ghost use Rattle.std.specs.Prelude.{◌≡◌, ◌+◌, IfOk};
-ghost use Rattle.bsv_design.specs.Traces.{parts_before, is_part, one_if};
+ghost use Rattle.bsv_design.specs.scheme.Traces.{parts_before, is_part, one_if};
 ghost use Rattle.bsv_inline.specs.Placed.{ArePartNumbers};
 
 use bsv_bits::OutOfMemory;
@@ -18,7 +18,7 @@ fn counted(instance: &Instance, count: u32) -> Laid<u32>
     }
 }
 
-/// Of each instance, how many primitives stand before it, and at the end how many there are.
+/// Of each instance, how many primitives come before it, and at the end how many there are.
 pub fn part_numbers(alloc: Global, instances: &[Instance]) -> Result<Items<u32>, OutOfMemory>
     ensures { IfOk result (λ numbers. ArePartNumbers instances.now numbers) }
 {

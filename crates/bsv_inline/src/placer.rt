@@ -19,7 +19,7 @@ pub struct Placer<'a> {
     pub alloc: Global,
     pub modules: &'a [Module],
     pub instances: &'a [Instance],
-    /// Of each instance, how many primitives stand before it, and at the end how many there are.
+    /// Of each instance, how many primitives come before it, and at the end how many there are.
     pub numbers: &'a [u32],
 }
 

@@ -1,5 +1,5 @@
 ghost use Rattle.std.specs.Prelude.{◌≡◌, IfOk};
-ghost use Rattle.bsv_design.specs.Sources as spec;
+ghost use Rattle.bsv_design.specs.tree.Sources as spec;
 
 use bsv_bits::{Name, OutOfMemory};
 use bsv_design::{Instance, Made, NamedPart};

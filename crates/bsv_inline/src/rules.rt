@@ -1,5 +1,5 @@
 ghost use Rattle.std.specs.Prelude.{◌≡◌, option_map};
-ghost use Rattle.bsv_design.specs.Sources as spec;
+ghost use Rattle.bsv_design.specs.tree.Sources as spec;
 ghost use Rattle.bsv_inline.specs.SourcesAtHand.{standing};
 
 use bsv_bits::Name;

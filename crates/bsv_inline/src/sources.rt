@@ -1,15 +1,15 @@
 ghost use Rattle.std.specs.Prelude.{◌≡◌, Some, None, slice_get, map, IfOk};
 ghost use Rattle.std.specs.Option.{option_copied};
 ghost use Rattle.bsv_types.specs.Kinds.{kind};
-ghost use Rattle.bsv_design.specs.Applied as applied;
-ghost use Rattle.bsv_design.specs.Sources as spec;
-ghost use Rattle.bsv_design.specs.Trees as trees;
+ghost use Rattle.bsv_design.specs.carrying.Applied as applied;
+ghost use Rattle.bsv_design.specs.tree.Sources as spec;
+ghost use Rattle.bsv_design.specs.tree.Trees as trees;
 ghost use Rattle.bsv_carry.specs.AtHand as carrier;
 ghost use Rattle.bsv_inline.specs.SourcesAtHand as at_hand;
 
 use crate::rules::{Placed, rule_at};
 use bsv_bits::{Name, OutOfMemory};
-use bsv_carry::Site;
+use bsv_carry::Context;
 use bsv_design::{Atom, Binding, Built, Count, Made, Port, Role, Source, Tree, Value, path_of};
 use bsv_steps::{Valued, atom_of, no_steps, seen};
 use bsv_types::{Method, MethodResult, Module, Param, Rule, Ty, counted_width};
@@ -47,7 +47,7 @@ fn given_by(role: Role, value: Value) -> Option<Atom>
 
 impl<'a> Sources<'a> {
     /// The bits of a type.
-    #[tactic(auto, unfolding(bsv_design::specs::Applied::width))]
+    #[tactic(auto, unfolding(bsv_design::specs::carrying::Applied::width))]
     fn width(self, ty: &Ty) -> u32
         ensures { result ≡ applied.width (at_hand.shapes self.entry) (kind ty.now) }
     {
@@ -82,11 +82,11 @@ impl<'a> Sources<'a> {
     }
 
     /// What is at hand where the text of a module of the tree is carried out.
-    fn site(self, place: u32, bindings: &'a [Binding]) -> Site<'a>
+    fn site(self, place: u32, bindings: &'a [Binding]) -> Context<'a>
         ensures { carrier.text result
             ≡ at_hand.site self.entry place bindings.now }
     {
-        Site {
+        Context {
             alloc: self.alloc,
             typed: &self.tree.typed,
             instances: self.tree.instances.as_slice(),
@@ -211,7 +211,7 @@ impl<'a> Sources<'a> {
     }
 
     /// The element of a position.
-    #[tactic(auto, unfolding(bsv_design::specs::Sources::source_at))]
+    #[tactic(auto, unfolding(bsv_design::specs::tree::Sources::source_at))]
     pub(crate) fn source(self, position: u32) -> Result<Source, OutOfMemory>
         ensures { IfOk result (λ source.
             spec.source_at (at_hand.tree self.entry) position ≡ Some source) }

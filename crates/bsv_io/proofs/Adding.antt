@@ -1,4 +1,4 @@
--- Texts that are added one behind the other, and one for each item of a list.
+-- Texts that are added one after the other, and one for each item of a list.
 use Rattle.std.proofs.Common.{◌≡◌, ◌∙◌, ℕ, ◌≤◌, inl, inr, List, [], ◌++◌, Result, Ok, Err, refl, sym, ap, subst, append_assoc, append-nil, arith}
 use Rattle.std.specs.Prelude.{IsErr, OnOk, OnErr}
 use Rattle.bsv_io.specs.Faults.{MayFault}
@@ -30,7 +30,7 @@ ok_after : {A E : Type 0} (r : Result A E) (text more waited waits last : List �
 ok_after (Ok x) text more waited waits last first second third h k = said_then waited text more first second waits last third h k
 ok_after (Err e) text more waited waits last first second third h k = tt
 
--- ---- a text behind another one
+-- ---- a text after another one
 
 -- the first of two texts fails
 pub adds_more : {A B E : Type 0} {text waited waits : List ℕ} {first second : Writing} {e : E} (more : List ℕ) (r : Result B E) → IsErr r → Adds {A = A} {E = E} text (Err e) waited waits first second

@@ -3,9 +3,9 @@ use Rattle.std.proofs.Common.{◌≡◌, ℕ, ◌+◌, ◌%◌, ◌^◌, List, [
 use Rattle.std.proofs.lemmas.List.{append_cancel_left}
 use Rattle.std.specs.Option.{option_map}
 use Rattle.bsv_io.specs.Prefixes.{IsPrefix}
-use Rattle.bsv_io.specs.Writing.{Writing, appended, count_behind, AppendsPrefix}
+use Rattle.bsv_io.specs.Writing.{Writing, appended, count_after, AppendsPrefix}
 
--- told bytes, and more behind them
+-- told bytes, and more after them
 abbrev grown : List ℕ → Option (List ℕ) → Option (List ℕ)
 grown more told = option_map (λ (before : List ℕ). before ++ more) told
 
@@ -17,21 +17,21 @@ grown-nil : (told : Option (List ℕ)) → grown [] told ≡ told
 grown-nil None = refl
 grown-nil (Some before) = ap (λ (bytes : List ℕ). Some bytes) (append-nil before)
 
-count_behind-append : (a b : List ℕ) (number : ℕ) → count_behind (a ++ b) number ≡ count_behind b (count_behind a number)
-unfolding count_behind
-count_behind-append [] b number = refl
-count_behind-append (x ∷ a) b number = count_behind-append a b ((number + 1) % 2 ^ 64)
+count_after-append : (a b : List ℕ) (number : ℕ) → count_after (a ++ b) number ≡ count_after b (count_after a number)
+unfolding count_after
+count_after-append [] b number = refl
+count_after-append (x ∷ a) b number = count_after-append a b ((number + 1) % 2 ^ 64)
 
--- a told number, and more bytes behind it
+-- a told number, and more bytes after it
 abbrev raised : List ℕ → Option ℕ → Option ℕ
-raised more told = option_map (count_behind more) told
+raised more told = option_map (count_after more) told
 
 raised-append : (a b : List ℕ) (told : Option ℕ) → raised (a ++ b) told ≡ raised b (raised a told)
 raised-append a b None = refl
-raised-append a b (Some number) = ap (λ (n : ℕ). Some n) (count_behind-append a b number)
+raised-append a b (Some number) = ap (λ (n : ℕ). Some n) (count_after-append a b number)
 
 raised-nil : (told : Option ℕ) → raised [] told ≡ told
-unfolding count_behind
+unfolding count_after
 raised-nil None = refl
 raised-nil (Some number) = refl
 
@@ -90,6 +90,6 @@ whole_put text first second h =
     record { front = text; prefix = record { rest = []; joined = sym (append-nil text) }; put = ap (λ (w : Writing). w.bytes) h }
 
 -- a text is put, and then a prefix of a second
-pub prefix_behind : (text more : List ℕ) (first second third : Writing) → second ≡ appended text first → AppendsPrefix more second third → AppendsPrefix (text ++ more) first third
-prefix_behind text more first second third h this =
+pub prefix_after : (text more : List ℕ) (first second third : Writing) → second ≡ appended text first → AppendsPrefix more second third → AppendsPrefix (text ++ more) first third
+prefix_after text more first second third h this =
     AppendsPrefix-then text [] more first second third (whole_put text first second h) (appended-nil second ∙ h) this

@@ -15,7 +15,7 @@ rest_of_advanced (Some contents) (Some at) n left h =
 pub rest_advanced : (r : Reading) (n : ℕ) (left : List ℕ) → rest r ≡ Some left → rest (advanced n r) ≡ Some (drop n left)
 rest_advanced r n left h = rest_of_advanced r.contents r.current n left h
 
--- a piece that was read stands in front of what is left
+-- a piece that was read comes before what is left
 pub piece_read : (n : ℕ) (buffer left : List ℕ) → Gives n buffer left → left ≡ take n buffer ++ drop n left
 piece_read n buffer left h = sym (take-append-drop n left) ∙ ap (λ (t : List ℕ). t ++ drop n left) h.next
 

@@ -40,7 +40,7 @@ pub said_alone : (waiting after text : List ℕ) (first second : Writing) → wa
 said_alone waiting after text first second none still put =
     said_flushed text after first second still put ∙ ap (λ (t : List ℕ). appended (t ++ text) first) (sym none)
 
--- a text is added behind what was made room for
-pub said_behind : (waiting kept after text : List ℕ) (first second third : Writing) → appended kept second ≡ appended waiting first → appended after third ≡ appended (kept ++ text) second → appended after third ≡ appended (waiting ++ text) first
-said_behind waiting kept after text first second third said this =
+-- a text is added after what was made room for
+pub said_after : (waiting kept after text : List ℕ) (first second third : Writing) → appended kept second ≡ appended waiting first → appended after third ≡ appended (kept ++ text) second → appended after third ≡ appended (waiting ++ text) first
+said_after waiting kept after text first second third said this =
     this ∙ appended-append kept text second ∙ ap (appended text) said ∙ sym (appended-append waiting text first)

@@ -1,4 +1,4 @@
--- What it is to add a text behind what waits to be put.
+-- What it is to add a text after what waits to be put.
 use Rattle.std.specs.Prelude.{◌≡◌, ◌≤◌, ℕ, List, ◌++◌, Result, OnOk, OnErr}
 use Rattle.bsv_io.specs.Faults.{MayFault}
 use Rattle.bsv_io.specs.Writing.{Writing, appended, AppendsPrefix}

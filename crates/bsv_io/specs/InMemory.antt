@@ -18,7 +18,7 @@ file_of (file ∷ files) name = if bytes_eq file.0 name then Some file.1 else fi
 abbrev pub contents_of : List (List ℕ × List ℕ) → List ℕ → List ℕ
 contents_of files name = unwrap_or (file_of files name) []
 
--- what is left of a file behind a place
+-- what is left of a file after a place
 abbrev pub left_of : List (List ℕ × List ℕ) → Current → List ℕ
 left_of files at = drop at.place (contents_of files at.name)
 

@@ -43,7 +43,7 @@ rest_of (Some contents) (Some at) = Some (drop at.place (contents at.name))
 abbrev pub rest : Reading → Option (List ℕ)
 rest r = rest_of r.contents r.current
 
--- the next n bytes of what is left stand in front of the buffer, and there are none only at the end
+-- the next n bytes of what is left come before the buffer, and there are none only at the end
 pub record Gives (n : ℕ) (buffer left : List ℕ) : Type 0 where
   pub next : take n left ≡ take n buffer
   pub end : n ≡ 0 → left ≡ []

@@ -1,4 +1,4 @@
--- Where a source stands between two calls: all that it tells of itself but the contents of its files.
+-- Where a source is between two calls: all that it tells of itself but the contents of its files.
 use Rattle.std.specs.Prelude.{ℕ, ◌+◌, List, Option, None, Some, min}
 use Rattle.std.specs.Option.{option_map}
 use Rattle.bsv_io.specs.Faults.{last_count}

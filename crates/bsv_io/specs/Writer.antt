@@ -13,7 +13,7 @@ pub record Passing : Type 0 where
 abbrev pub passing_writing : Passing → Writing
 passing_writing p = record { bytes = None; taken = None; faults = p.faults }
 
--- a writer that held the one now holds the other: a front of the bytes stands behind, where it tells
+-- a writer that held the one now holds the other: a front of the bytes comes after, where it tells
 pub record HoldsFront (bytes : List ℕ) (old new : Option (List ℕ)) : Type 0 where
   pub front : List ℕ
   pub prefix : IsPrefix front bytes

@@ -11,16 +11,16 @@ pub record Writing : Type 0 where
   pub taken : Option ℕ
   pub faults : ℕ
 
--- the number behind these bytes: each byte raises it by one, and behind 2^64 - 1 comes 0
-unfoldable pub count_behind : List ℕ → ℕ → ℕ
-count_behind [] number = number
-count_behind (byte ∷ bytes) number = count_behind bytes ((number + 1) % 2 ^ 64)
+-- the number after these bytes: each byte raises it by one, and after 2^64 - 1 comes 0
+unfoldable pub count_after : List ℕ → ℕ → ℕ
+count_after [] number = number
+count_after (byte ∷ bytes) number = count_after bytes ((number + 1) % 2 ^ 64)
 
--- the bytes stand behind those that were put before, and are counted
+-- the bytes come after those that were put before, and are counted
 abbrev pub appended : List ℕ → Writing → Writing
-appended bytes w = record w { bytes = option_map (λ (before : List ℕ). before ++ bytes) w.bytes; taken = option_map (count_behind bytes) w.taken }
+appended bytes w = record w { bytes = option_map (λ (before : List ℕ). before ++ bytes) w.bytes; taken = option_map (count_after bytes) w.taken }
 
--- a prefix of the bytes stands behind those that were put before; of their number nothing is said
+-- a prefix of the bytes comes after those that were put before; of their number nothing is said
 pub record AppendsPrefix (bytes : List ℕ) (old new : Writing) : Type 0 where
   pub front : List ℕ
   pub prefix : IsPrefix front bytes

@@ -2,7 +2,7 @@
 //!
 //! Modules in reading order: `failed` (the one error), `files` (sources, chosen by name and read
 //! piece by piece), `sink` (where bytes are put), `put_buffer` (bytes that wait to be put in one
-//! call), `text` (texts, constants and numbers behind those that wait). For tests and for texts
+//! call), `text` (texts, constants and numbers after those that wait). For tests and for texts
 //! that the program makes itself: `calls` (calls that fail by their numbers), `progress` (where a
 //! source stands), `contents` (files in memory, and how a piece of one is given), `mem_files`,
 //! `sure_files`, `mem_sink`, `sure_sink`. The trusted edge, which passes calls on to the runtime:

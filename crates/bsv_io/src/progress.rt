@@ -29,7 +29,7 @@ enum Blamed {
     Former(Name),
 }
 
-/// Where a source stands between two calls.
+/// Where a source is between two calls.
 #[derive(Drop)]
 pub(crate) struct Progress {
     faults: u64,
@@ -71,7 +71,7 @@ impl CurrentFile {
         self.place
     }
 
-    /// Moves the place behind so many bytes more.
+    /// Moves the place after so many bytes more.
     pub(crate) fn advance(&mut self, count: usize)
         requires { self.old.place + count < 2 ^ 64 }
         ensures { self.new ≡ record self.old { place = self.old.place + count } }
@@ -137,7 +137,7 @@ impl Progress {
         self.blamed = Blamed::CurrentFile;
     }
 
-    /// Whether the place in the current file can be told behind so many bytes more.
+    /// Whether the place in the current file can be told after so many bytes more.
     pub(crate) fn fits(&self, count: usize) -> bool
         requires { IsSome self.now.current }
         ensures { IfSome self.now.current (λ at. IsTrue result ↔ (at.place + count < 2 ^ 64)) }
@@ -145,7 +145,7 @@ impl Progress {
         self.current().place <= u64::MAX - count as u64
     }
 
-    /// Moves the place in the current file behind so many bytes more.
+    /// Moves the place in the current file after so many bytes more.
     pub(crate) fn advance(&mut self, count: usize)
         requires fits { ForSome self.old.current (λ at. at.place + count < 2 ^ 64) }
         ensures { self.new ≡ passed count self.old }

@@ -10,7 +10,7 @@ use std::marker::Model;
 /// Bytes that wait to be put to a sink, up to 4,096, so that a text which is made piece by piece
 /// goes to the sink in one call of `put` where it fits. It takes no memory.
 ///
-/// Behind a call that failed nothing waits: no byte is put twice, and those that were not put are
+/// After a call that failed nothing waits: no byte is put twice, and those that were not put are
 /// given up.
 #[derive(Drop)]
 pub struct PutBuffer {
@@ -35,7 +35,7 @@ impl PutBuffer {
         }
     }
 
-    /// Adds bytes behind those that wait. Bytes that do not fit make room by a `put` of what
+    /// Adds bytes after those that wait. Bytes that do not fit make room by a `put` of what
     /// waits; a piece of more than 4,096 bytes is put by itself.
     pub fn add<S: Sink>(&mut self, sink: &mut S, bytes: &[u8]) -> Result<(), Failed>
         ensures ok { OnOk result (appended self.new (S.writing sink.new)

@@ -4,7 +4,7 @@ ghost use Rattle.bsv_io.specs.Writing.{Writing, appended, AppendsPrefix};
 
 use crate::failed::Failed;
 
-/// Where bytes are put, one piece behind the other.
+/// Where bytes are put, one piece after the other.
 ///
 /// A sink counts its faults, and the count never falls. It tells the bytes that were put to it, or
 /// their number, or tells nothing of them.

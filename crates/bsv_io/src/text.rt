@@ -8,7 +8,7 @@ use crate::sink::Sink;
 use bsv_bits::Word;
 use itoa::Buffer;
 
-/// Adds a text behind what waits to be put.
+/// Adds a text after what waits to be put.
 pub fn add<S: Sink>(buffer: &mut PutBuffer, sink: &mut S, text: &[u8]) -> Result<(), Failed>
     ensures { Adds text.now result buffer.old buffer.new (S.writing sink.old) (S.writing sink.new) }
 {

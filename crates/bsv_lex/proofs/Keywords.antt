@@ -1,4 +1,4 @@
--- A text is a keyword of the grammar exactly where it stands in the list of keywords.
+-- A text is a keyword of the grammar exactly where it is in the list of keywords.
 use Rattle.std.proofs.Common.{◌≡◌, ◌∙◌, ℕ, Bool, true, false, ◌||◌, List, [], ◌∷◌, map, Option, Some, None, is_some, refl, ap, if◌then◌else◌}
 use Rattle.std.specs.Str.{bytes_eq}
 use Rattle.bsv_ast.specs.Names.{reserved_words, is_listed, is_keyword}

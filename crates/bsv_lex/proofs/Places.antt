@@ -1,12 +1,12 @@
--- What stands at a place is read there, and at each place of a text something stands.
+-- What is at a place is read there, and at each place of a text something stands.
 use Rattle.std.proofs.Common.{◌≡◌, ℕ, ◌+◌, Bool, true, false, cond, eqb, ◌&&◌, List, [], ◌∷◌, ◌++◌, length, Option, Some, None, is_some, refl, sym, ap, subst, ◌∙◌, append_assoc, arith, length-append}
 use Rattle.std.specs.Char.{is_ascii_digit}
 use Rattle.std.proofs.lemmas.List.{append-nil}
 use Rattle.bsv_ast.specs.declared.text.Base.{Base}
 use Rattle.bsv_lex.specs.declared.token.TokenKind.TheVariants as kind
 use Rattle.bsv_lex.specs.declared.piece.Flaw.TheVariants as flaw
-use Rattle.bsv_lex.specs.declared.piece.Piece.{Piece}
-use Rattle.bsv_lex.specs.declared.piece.Piece.TheVariants as piece
+use Rattle.bsv_lex.specs.declared.piece.Lexed.{Lexed}
+use Rattle.bsv_lex.specs.declared.piece.Lexed.TheVariants as piece
 use Rattle.bsv_lex.specs.Reading.{piece_at}
 use Rattle.bsv_lex.specs.Tokens as t
 use Rattle.std.proofs.lemmas.Bool.{eqb-true, and_parts}
@@ -21,7 +21,7 @@ use Rattle.bsv_lex.proofs.Symbols.{pair_complete, single_complete, bad_complete,
 two_more : (inner : List ℕ) → 2 + length inner ≡ length (47 ∷ 47 ∷ inner)
 two_more inner = omega arith
 
-pub place_read : (what : Piece) (text rest : List ℕ) → Stands what text rest → piece_at (text ++ rest) ≡ Some (what, length text)
+pub place_read : (what : Lexed) (text rest : List ℕ) → Stands what text rest → piece_at (text ++ rest) ≡ Some (what, length text)
 place_read what text rest (t.Stands.blank {b = b} is) = blank_complete b rest is
 place_read what text rest (t.Stands.line {inner = inner} run) = line_complete inner rest run ∙ ap (λ n. Some (piece.Gap, n)) (two_more inner)
 place_read what text rest (t.Stands.comment inner none) =
@@ -57,9 +57,9 @@ cut : (p : ℕ → Bool) (bytes : List ℕ) → Cut p bytes
 cut p [] = record { front = []; back = []; parts = refl; run = record { each = refl; stops = refl } }
 cut p (b ∷ bytes) = cut_at p b bytes (p b) refl (cut p bytes)
 
--- what stands at the front
+-- what is at the front
 pub data Found (bytes : List ℕ) : Type 0 where
-  found : (what : Piece) (text rest : List ℕ) → bytes ≡ text ++ rest → Stands what text rest → Found bytes
+  found : (what : Lexed) (text rest : List ℕ) → bytes ≡ text ++ rest → Stands what text rest → Found bytes
 
 name_found : (b : ℕ) (bytes : List ℕ) → begins_name b ≡ true → Found (b ∷ bytes)
 name_found b bytes is =

@@ -9,8 +9,8 @@ use Rattle.bsv_lex.specs.declared.token.TokenKind.{TokenKind}
 use Rattle.bsv_lex.specs.declared.token.Token.{Token}
 use Rattle.bsv_lex.specs.declared.token.LexFault.{LexFault}
 use Rattle.bsv_lex.specs.declared.token.LexFault.TheVariants as fault
-use Rattle.bsv_lex.specs.declared.piece.Piece.{Piece}
-use Rattle.bsv_lex.specs.declared.piece.Piece.TheVariants as piece
+use Rattle.bsv_lex.specs.declared.piece.Lexed.{Lexed}
+use Rattle.bsv_lex.specs.declared.piece.Lexed.TheVariants as piece
 use Rattle.bsv_lex.specs.Tokens.{Gives, fault_at}
 use Rattle.bsv_lex.specs.Reading.{piece_at, with_piece, and_then, tokens_from, tokens_of}
 use Rattle.bsv_lex.specs.Tokens as t
@@ -22,8 +22,8 @@ number_some : (text rest : List ℕ) → IsNumber text rest → 0 < length text
 number_some text rest (t.IsNumber.decimal is run none) = omega arith
 number_some text rest (t.IsNumber.based size digits letter good is run) = omega (arith, length-append size (39 ∷ letter ∷ digits))
 
--- what stands at a place has a byte
-pub some_bytes : (what : Piece) (text rest : List ℕ) → Stands what text rest → 0 < length text
+-- what is at a place has a byte
+pub some_bytes : (what : Lexed) (text rest : List ℕ) → Stands what text rest → 0 < length text
 some_bytes what text rest (t.Stands.blank is) = omega arith
 some_bytes what text rest (t.Stands.line run) = omega arith
 some_bytes what text rest (t.Stands.comment inner none) = omega arith
@@ -36,10 +36,10 @@ some_bytes what text rest (t.Stands.pair is) = omega arith
 some_bytes what text rest (t.Stands.single is none) = omega arith
 some_bytes what text rest (t.Stands.bad_byte is) = omega arith
 
-fewer : (n : ℕ) (what : Piece) (bytes text rest : List ℕ) → bytes ≡ text ++ rest → Stands what text rest → length bytes ≤ suc n → length rest ≤ n
+fewer : (n : ℕ) (what : Lexed) (bytes text rest : List ℕ) → bytes ≡ text ++ rest → Stands what text rest → length bytes ≤ suc n → length rest ≤ n
 fewer n what bytes text rest parts stands le = omega (arith, some_bytes what text rest stands, ap length parts, length-append text rest)
 
-no_turn : (what : Piece) (bytes text rest : List ℕ) → bytes ≡ text ++ rest → Stands what text rest → length bytes ≤ 0 → ⊥
+no_turn : (what : Lexed) (bytes text rest : List ℕ) → bytes ≡ text ++ rest → Stands what text rest → length bytes ≤ 0 → ⊥
 no_turn what bytes text rest parts stands le = omega (arith, some_bytes what text rest stands, ap length parts, length-append text rest)
 
 -- ---- each text is split
@@ -47,7 +47,7 @@ no_turn what bytes text rest parts stands le = omega (arith, some_bytes what tex
 data Split (at : ℕ) (bytes : List ℕ) : Type 0 where
   split : (ts : List Token) (o : Option LexFault) → Splits at bytes ts o → Split at bytes
 
-split_by : (at : ℕ) (bytes text rest : List ℕ) (what : Piece) → bytes ≡ text ++ rest → Stands what text rest → Split (at + length text) rest → Split at bytes
+split_by : (at : ℕ) (bytes text rest : List ℕ) (what : Lexed) → bytes ≡ text ++ rest → Stands what text rest → Split (at + length text) rest → Split at bytes
 split_by at bytes text rest piece.Gap parts stands (split ts o more) = split ts o (t.Splits.gap text rest parts stands more)
 split_by at bytes text rest (piece.Token k) parts stands (split ts o more) = split (token_at k at text ∷ ts) o (t.Splits.token text rest parts stands more)
 split_by at bytes text rest (piece.Fault f) parts stands more = split [] (Some (fault_at f at)) (t.Splits.broken text rest parts stands)
@@ -68,7 +68,7 @@ abbrev pub answer : List Token → Option LexFault → Result (List Token) LexFa
 answer ts None = Ok ts
 answer ts (Some f) = Err f
 
-step : (n : ℕ) (out : List Token) (at : ℕ) (bytes text rest : List ℕ) (what : Piece) → bytes ≡ text ++ rest → Stands what text rest
+step : (n : ℕ) (out : List Token) (at : ℕ) (bytes text rest : List ℕ) (what : Lexed) → bytes ≡ text ++ rest → Stands what text rest
     → tokens_from (suc n) out at bytes ≡ and_then (with_piece what at (length text) out) (λ more. tokens_from n more (at + length text) rest)
 unfolding tokens_from
 step n out at bytes text rest what parts stands =
@@ -161,14 +161,14 @@ slice_is before text rest =
     ∙ ap (take (length text)) (drop_at before (text ++ rest) (length before) refl)
     ∙ take_at text rest (length text) refl
 
-behind_is : (before text rest : List ℕ) → drop (length before + length text) (before ++ text ++ rest) ≡ rest
-behind_is before text rest = drop_at (before ++ text) rest (length before + length text) (length-append before text)
+after_is : (before text rest : List ℕ) → drop (length before + length text) (before ++ text ++ rest) ≡ rest
+after_is before text rest = drop_at (before ++ text) rest (length before + length text) (length-append before text)
 
 token_of : (k : TokenKind) (before text rest : List ℕ) → Stands (piece.Token k) text rest → IsTokenOf (before ++ text ++ rest) (token_at k (length before) text)
 token_of k before text rest stands = record {
   some = omega (arith, some_bytes (piece.Token k) text rest stands);
   within = omega (arith, length-append (before ++ text) rest, length-append before text);
-  stands = subst (λ (bs : List ℕ). Stands (piece.Token k) (slice_range (before ++ text ++ rest) (length before) (length before + length text)) bs) (sym (behind_is before text rest)) (subst (λ (bs : List ℕ). Stands (piece.Token k) bs rest) (sym (slice_is before text rest)) stands);
+  stands = subst (λ (bs : List ℕ). Stands (piece.Token k) (slice_range (before ++ text ++ rest) (length before) (length before + length text)) bs) (sym (after_is before text rest)) (subst (λ (bs : List ℕ). Stands (piece.Token k) bs rest) (sym (slice_is before text rest)) stands);
   kind = subst (IsOfKind k) (sym (slice_is before text rest)) (kind_right (piece.Token k) k text rest stands refl);
 }
 

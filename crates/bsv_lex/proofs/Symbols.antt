@@ -7,7 +7,7 @@ use Rattle.std.proofs.lemmas.Slice.Eq.{bytes_eq-Decides}
 use Rattle.std.proofs.lemmas.Bool.{eqb-true, and_parts, or_parts, not-true}
 use Rattle.bsv_lex.specs.declared.token.TokenKind.TheVariants as kind
 use Rattle.bsv_lex.specs.declared.piece.Flaw.TheVariants as flaw
-use Rattle.bsv_lex.specs.declared.piece.Piece.TheVariants as piece
+use Rattle.bsv_lex.specs.declared.piece.Lexed.TheVariants as piece
 use Rattle.bsv_ast.specs.Names.{begins_name}
 use Rattle.bsv_lex.specs.Bytes.{is_blank, first_is}
 use Rattle.bsv_lex.specs.Words.{Entry, lookup, symbol, symbols}

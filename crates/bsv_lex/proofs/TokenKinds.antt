@@ -6,8 +6,8 @@ use Rattle.bsv_lex.specs.declared.token.TokenKind.{TokenKind}
 use Rattle.bsv_lex.specs.declared.token.TokenKind.TheVariants as kind
 use Rattle.bsv_lex.specs.declared.piece.Flaw.{Flaw}
 use Rattle.bsv_lex.specs.declared.piece.Flaw.TheVariants as flaw
-use Rattle.bsv_lex.specs.declared.piece.Piece.{Piece}
-use Rattle.bsv_lex.specs.declared.piece.Piece.TheVariants as piece
+use Rattle.bsv_lex.specs.declared.piece.Lexed.{Lexed}
+use Rattle.bsv_lex.specs.declared.piece.Lexed.TheVariants as piece
 use Rattle.bsv_lex.specs.Bytes.{first_is}
 use Rattle.bsv_lex.specs.Numbers.{literal}
 use Rattle.bsv_lex.specs.Words.{keyword}
@@ -40,7 +40,7 @@ number_right : (o : Option Literal) (k : TokenKind) (text rest : List ℕ) → l
 number_right None k text rest is e = absurd (no_fault flaw.BadLiteral k e)
 number_right (Some number) k text rest is e = number_good number k (is_some number.base && first_is is_ascii_alphanumeric rest) text is e
 
-pub kind_right : (what : Piece) (k : TokenKind) (text rest : List ℕ) → Stands what text rest → what ≡ piece.Token k → IsOfKind k text
+pub kind_right : (what : Lexed) (k : TokenKind) (text rest : List ℕ) → Stands what text rest → what ≡ piece.Token k → IsOfKind k text
 kind_right what k text rest (t.Stands.blank is) e = absurd (no_gap k e)
 kind_right what k text rest (t.Stands.line run) e = absurd (no_gap k e)
 kind_right what k text rest (t.Stands.comment inner none) e = absurd (no_gap k e)

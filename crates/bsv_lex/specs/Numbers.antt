@@ -55,7 +55,7 @@ sized base size value =
 abbrev pub decimal : List ℕ → Option Literal
 decimal digits = if first_is is_ascii_digit digits then unsized None (value_of (radix_of None) digits) else None
 
--- digits of a base, behind a size or behind nothing
+-- digits of a base, after a size or after nothing
 abbrev pub with_size : List ℕ → Base → List ℕ → Option Literal
 with_size [] base digits = unsized (Some base) (value_of (radix_of (Some base)) digits)
 with_size (b ∷ size) base digits =

@@ -11,11 +11,11 @@ use Rattle.bsv_lex.specs.declared.token.Token.{Token}
 use Rattle.bsv_lex.specs.declared.token.TokenKind.TheVariants as kind
 use Rattle.bsv_lex.specs.declared.token.LexFault.{LexFault}
 use Rattle.bsv_lex.specs.declared.piece.Flaw.TheVariants as flaw
-use Rattle.bsv_lex.specs.declared.piece.Piece.{Piece}
-use Rattle.bsv_lex.specs.declared.piece.Piece.TheVariants as piece
+use Rattle.bsv_lex.specs.declared.piece.Lexed.{Lexed}
+use Rattle.bsv_lex.specs.declared.piece.Lexed.TheVariants as piece
 
 -- a name or a keyword at the front
-unfoldable pub name_at : List ℕ → Piece × ℕ
+unfoldable pub name_at : List ℕ → Lexed × ℕ
 name_at bytes = (short (name_kind (take (prefix_len is_word bytes) bytes)) (prefix_len is_word bytes), prefix_len is_word bytes)
 
 -- how many bytes a `'`, the letter of the base and its digits go on for
@@ -28,44 +28,44 @@ abbrev pub number_len : List ℕ → ℕ
 number_len bytes = let front = prefix_len is_decimal bytes in front + base_len (base_at (drop front bytes)) (drop front bytes)
 
 -- a number at the front
-unfoldable pub number_at : List ℕ → Piece × ℕ
+unfoldable pub number_at : List ℕ → Lexed × ℕ
 number_at bytes = (number_piece (take (number_len bytes) bytes) (drop (number_len bytes) bytes), number_len bytes)
 
--- a text, from the byte behind the quote that opens it on
-unfoldable pub text_at : List ℕ → Piece × ℕ
+-- a text, from the byte after the quote that opens it on
+unfoldable pub text_at : List ℕ → Lexed × ℕ
 text_at bytes =
     let len = prefix_len in_text bytes in
     if first_is is_quote (drop len bytes) then (piece.Token kind.Text, len + 2) else (piece.Fault flaw.BadLiteral, len + 1)
 
--- the place behind the first `*/`, where the bytes begin at this place
+-- the place after the first `*/`, where the bytes begin at this place
 abbrev pub close_from : ℕ → List ℕ → Option ℕ
 close_from at [] = None
 close_from at (a ∷ bytes) = if a == 42 && first_is is_slash bytes then Some (at + 2) else close_from (at + 1) bytes
 
--- a comment, from the byte behind `/*` on, by the place behind its `*/`
-abbrev pub comment_by : Option ℕ → List ℕ → Piece × ℕ
+-- a comment, from the byte after `/*` on, by the place after its `*/`
+abbrev pub comment_by : Option ℕ → List ℕ → Lexed × ℕ
 comment_by None bytes = (piece.Fault flaw.OpenComment, 2 + length bytes)
 comment_by (Some len) bytes = (piece.Gap, 2 + len)
 
--- what begins with `/`, from the byte behind it on: a comment, or a byte that begins nothing
-unfoldable pub slash_at : List ℕ → Piece × ℕ
+-- what begins with `/`, from the byte after it on: a comment, or a byte that begins nothing
+unfoldable pub slash_at : List ℕ → Lexed × ℕ
 slash_at [] = (piece.Fault flaw.BadByte, 1)
 slash_at (b ∷ bytes) =
     if b == 47 then (piece.Gap, 2 + prefix_len in_line bytes)
     else (if b == 42 then comment_by (close_from 0 bytes) bytes else (piece.Fault flaw.BadByte, 1))
 
 -- a symbol of one byte, else a byte that begins nothing
-abbrev pub one_byte : ℕ → Piece × ℕ
+abbrev pub one_byte : ℕ → Lexed × ℕ
 one_byte a = if is_symbol (a ∷ []) then (piece.Token kind.Symbol, 1) else (piece.Fault flaw.BadByte, 1)
 
 -- a symbol of two bytes, else what one byte is
-abbrev pub symbol_at : List ℕ → Piece × ℕ
+abbrev pub symbol_at : List ℕ → Lexed × ℕ
 symbol_at [] = (piece.Fault flaw.BadByte, 1)
 symbol_at (a ∷ []) = one_byte a
 symbol_at (a ∷ b ∷ bytes) = if is_symbol (a ∷ b ∷ []) then (piece.Token kind.Symbol, 2) else one_byte a
 
--- what stands at the front, by its first byte; None at the end
-unfoldable pub piece_at : List ℕ → Option (Piece × ℕ)
+-- what is at the front, by its first byte; None at the end
+unfoldable pub piece_at : List ℕ → Option (Lexed × ℕ)
 piece_at [] = None
 piece_at (b ∷ bytes) =
     if is_blank b then Some (piece.Gap, 1)
@@ -76,7 +76,7 @@ piece_at (b ∷ bytes) =
     else Some (symbol_at (b ∷ bytes))))))
 
 -- the tokens so far, and the piece at this place
-abbrev pub with_piece : Piece → ℕ → ℕ → List Token → Result (List Token) LexFault
+abbrev pub with_piece : Lexed → ℕ → ℕ → List Token → Result (List Token) LexFault
 with_piece piece.Gap at len out = Ok out
 with_piece (piece.Token k) at len out = Ok (out ++ record { kind = k; start = at; end = at + len } ∷ [])
 with_piece (piece.Fault f) at len out = Err (fault_at f at)
@@ -87,7 +87,7 @@ and_then (Ok x) next = next x
 and_then (Err e) next = Err e
 
 -- the one answer where there is no piece, and the other where there is one
-abbrev pub on_piece : {A : Type 0} → Option (Piece × ℕ) → A → (Piece × ℕ → A) → A
+abbrev pub on_piece : {A : Type 0} → Option (Lexed × ℕ) → A → (Lexed × ℕ → A) → A
 on_piece None other found = other
 on_piece (Some x) other found = found x
 

@@ -1,6 +1,6 @@
--- The tokens of a source, by cases: what may stand at a place, and how the whole source is split (Bluespec
+-- The tokens of a source, by cases: what may be at a place, and how the whole source is split (Bluespec
 -- reference guide, "Lexical elements"). Each piece is the longest at its place. A text is what stands
--- between two quotes; `text` in a definition is the bytes of a piece, and `rest` what stands behind them.
+-- between two quotes; `text` in a definition is the bytes of a piece, and `rest` what comes after them.
 use Rattle.std.specs.Prelude.{◌≡◌, ℕ, ◌+◌, ◌<◌, ◌≤◌, Bool, true, false, ◌&&◌, ◌||◌, ◌==◌, nat_le, if◌then◌else◌, List, [], ◌∷◌, ◌++◌, length, drop, slice_range, Option, Some, None, is_some, Result, Ok, Err}
 use Rattle.std.specs.List.{list_all}
 use Rattle.std.specs.Char.{is_ascii_alphanumeric, is_ascii_digit, is_ascii_uppercase}
@@ -17,8 +17,8 @@ use Rattle.bsv_lex.specs.declared.token.LexFault.{LexFault}
 use Rattle.bsv_lex.specs.declared.token.LexFault.TheVariants as fault
 use Rattle.bsv_lex.specs.declared.piece.Flaw.{Flaw}
 use Rattle.bsv_lex.specs.declared.piece.Flaw.TheVariants as flaw
-use Rattle.bsv_lex.specs.declared.piece.Piece.{Piece}
-use Rattle.bsv_lex.specs.declared.piece.Piece.TheVariants as piece
+use Rattle.bsv_lex.specs.declared.piece.Lexed.{Lexed}
+use Rattle.bsv_lex.specs.declared.piece.Lexed.TheVariants as piece
 
 -- the fault of a flaw at this place
 abbrev pub fault_at : Flaw → ℕ → LexFault
@@ -28,7 +28,7 @@ fault_at flaw.BadLiteral at = fault.BadLiteral at
 fault_at flaw.TooLong at = fault.TooLong at
 
 -- a name or a number has at most 255 bytes
-abbrev pub short : TokenKind → ℕ → Piece
+abbrev pub short : TokenKind → ℕ → Lexed
 short k len = if nat_le len 255 then piece.Token k else piece.Fault flaw.TooLong
 
 -- a name that is no keyword is Upper or Lower by its first letter
@@ -41,15 +41,15 @@ base_at [] = None
 base_at (quote ∷ []) = None
 base_at (quote ∷ letter ∷ bytes) = if quote == 39 then base_of letter else None
 
--- malformed where the text is no number, or a letter or a digit stands directly behind a base and its digits
-abbrev pub number_by : Option Literal → List ℕ → List ℕ → Piece
+-- malformed where the text is no number, or a letter or a digit stands directly after a base and its digits
+abbrev pub number_by : Option Literal → List ℕ → List ℕ → Lexed
 number_by None text rest = piece.Fault flaw.BadLiteral
 number_by (Some number) text rest =
     if is_some number.base && first_is is_ascii_alphanumeric rest then piece.Fault flaw.BadLiteral
     else short kind.Number (length text)
 
--- a number of this text with these bytes behind it
-abbrev pub number_piece : List ℕ → List ℕ → Piece
+-- a number of this text with these bytes after it
+abbrev pub number_piece : List ℕ → List ℕ → Lexed
 number_piece text rest = number_by (literal text) text rest
 
 -- `"`
@@ -78,7 +78,7 @@ abbrev pub is_size : List ℕ → Bool
 is_size [] = true
 is_size (b ∷ bytes) = is_ascii_digit b
 
--- what stands in front of a `'`: nothing, or a digit and then digits and `_`
+-- what comes before a `'`: nothing, or a digit and then digits and `_`
 pub record IsSize (size : List ℕ) : Type 0 where
   pub each : list_all is_decimal size ≡ true
   pub first : is_size size ≡ true
@@ -112,8 +112,8 @@ begins_comment (a ∷ bytes) = a == 47 && first_is (λ b. b == 47 || b == 42) by
 abbrev pub begins : List ℕ → Bool
 begins bytes = first_is is_blank bytes || first_is begins_name bytes || first_is is_quote bytes || begins_comment bytes || begins_number bytes || begins_symbol bytes
 
--- what the first bytes are, with the others behind them: a blank or a comment, a token, or a fault
-pub data Stands : Piece → List ℕ → List ℕ → Type 0 where
+-- what the first bytes are, with the others after them: a blank or a comment, a token, or a fault
+pub data Stands : Lexed → List ℕ → List ℕ → Type 0 where
   blank : {b : ℕ} {rest : List ℕ} → is_blank b ≡ true → Stands piece.Gap (b ∷ []) rest
   line : {inner rest : List ℕ} → Run in_line inner rest → Stands piece.Gap (47 ∷ 47 ∷ inner) rest
   comment : (inner : List ℕ) {rest : List ℕ} → has_close (inner ++ 42 ∷ []) ≡ false → Stands piece.Gap (47 ∷ 42 ∷ inner ++ 42 ∷ 47 ∷ []) rest
@@ -150,7 +150,7 @@ IsOfKind kind.Number text = is_some (literal text) ≡ true
 IsOfKind kind.Text text = first_is is_quote text ≡ true
 IsOfKind kind.Symbol text = is_some (symbol text) ≡ true
 
--- the token is its slice of the source, with what stands behind it
+-- the token is its slice of the source, with what comes after it
 pub record IsTokenOf (source : List ℕ) (x : Token) : Type 0 where
   pub some : x.start < x.end
   pub within : x.end ≤ length source

@@ -11,7 +11,7 @@ use Rattle.bsv_lex.specs.declared.terminal.Terminal.TheVariants as word
 abbrev pub Entry : Type 0
 Entry = List ℕ × Terminal
 
--- the keywords that stand in a production
+-- the keywords that are in a production
 unfoldable pub keywords : List Entry
 keywords =
     (codes "package", word.Package) ∷ (codes "endpackage", word.EndPackage) ∷ (codes "import", word.Import) ∷

@@ -3,7 +3,7 @@
 //!
 //! Modules in reading order: `token` (tokens and faults), `terminal` (keywords and symbols, and the
 //! words of the grammar), `number` (the value, the base and the size of a number), `piece` (what
-//! stands at a place: a blank, a comment, a token or a flaw), `split` (a whole source).
+//! is at a place: a blank, a comment, a token or a flaw), `split` (a whole source).
 #![tactic(auto)]
 
 mod number;

@@ -12,7 +12,7 @@ use crate::terminal::{keyword, symbol};
 use crate::token::{LexFault, TokenKind};
 use bsv_ast::{Base, begins_name, is_word};
 
-/// Why no token stands at a place.
+/// Why no token is at a place.
 #[derive(Clone, Copy, Debug, PartialEq, Eq)]
 pub enum Flaw {
     BadByte,
@@ -21,9 +21,9 @@ pub enum Flaw {
     TooLong,
 }
 
-/// What stands at a place.
+/// What is at a place.
 #[derive(Clone, Copy, Debug, PartialEq, Eq)]
-pub enum Piece {
+pub enum Lexed {
     /// A blank or a comment.
     Gap,
     Token(TokenKind),
@@ -72,7 +72,7 @@ fn line_len(bytes: &[u8]) -> usize
     bytes.iter().take_while(|b| **b != b'\n').count()
 }
 
-/// How many bytes at the front may stand in a text.
+/// How many bytes at the front may be in a text.
 fn text_len(bytes: &[u8]) -> usize
     ensures value { result ≡ prefix_len bytes_spec.in_text bytes.now }
     ensures within { result ≤ length bytes.now }
@@ -89,13 +89,13 @@ fn digits_len(base: Base, bytes: &[u8]) -> usize
 }
 
 /// A name or a number of this length.
-fn short(kind: TokenKind, len: usize) -> Piece
+fn short(kind: TokenKind, len: usize) -> Lexed
     ensures { result ≡ tokens_spec.short kind len }
 {
     if len <= 255 {
-        Piece::Token(kind)
+        Lexed::Token(kind)
     } else {
-        Piece::Fault(Flaw::TooLong)
+        Lexed::Fault(Flaw::TooLong)
     }
 }
 
@@ -121,7 +121,7 @@ fn name_kind(text: &[u8]) -> TokenKind
 }
 
 #[tactic(auto, unfolding(crate::specs::Reading::name_at))]
-fn name_at(bytes: &[u8]) -> (Piece, usize)
+fn name_at(bytes: &[u8]) -> (Lexed, usize)
     ensures value { result ≡ spec.name_at bytes.now }
     ensures within { result.1 ≤ length bytes.now }
 {
@@ -171,15 +171,15 @@ fn goes_on(bytes: &[u8]) -> bool
     }
 }
 
-/// A number of this text with these bytes behind it.
-fn number_piece(text: &[u8], rest: &[u8]) -> Piece
+/// A number of this text with these bytes after it.
+fn number_piece(text: &[u8], rest: &[u8]) -> Lexed
     ensures { result ≡ tokens_spec.number_piece text.now rest.now }
 {
     match literal(text) {
-        None => Piece::Fault(Flaw::BadLiteral),
+        None => Lexed::Fault(Flaw::BadLiteral),
         Some(number) => {
             if number.base.is_some() && goes_on(rest) {
-                Piece::Fault(Flaw::BadLiteral)
+                Lexed::Fault(Flaw::BadLiteral)
             } else {
                 short(TokenKind::Number, text.len())
             }
@@ -188,7 +188,7 @@ fn number_piece(text: &[u8], rest: &[u8]) -> Piece
 }
 
 #[tactic(auto, unfolding(crate::specs::Reading::number_at))]
-fn number_at(bytes: &[u8]) -> (Piece, usize)
+fn number_at(bytes: &[u8]) -> (Lexed, usize)
     requires { length bytes.now < 2 ^ 32 }
     ensures value { result ≡ spec.number_at bytes.now }
     ensures within { result.1 ≤ length bytes.now }
@@ -206,18 +206,18 @@ fn is_closed(bytes: &[u8]) -> bool
     }
 }
 
-/// A text, from the byte behind the quote that opens it.
+/// A text, from the byte after the quote that opens it.
 #[tactic(auto, unfolding(crate::specs::Reading::text_at))]
-fn text_at(bytes: &[u8]) -> (Piece, usize)
+fn text_at(bytes: &[u8]) -> (Lexed, usize)
     requires { length bytes.now < 2 ^ 32 }
     ensures value { result ≡ spec.text_at bytes.now }
     ensures within { result.1 ≤ length bytes.now + 1 }
 {
     let len = text_len(bytes);
     if is_closed(&bytes[len..]) {
-        (Piece::Token(TokenKind::Text), len + 2)
+        (Lexed::Token(TokenKind::Text), len + 2)
     } else {
-        (Piece::Fault(Flaw::BadLiteral), len + 1)
+        (Lexed::Fault(Flaw::BadLiteral), len + 1)
     }
 }
 
@@ -230,7 +230,7 @@ fn is_slash(bytes: &[u8]) -> bool
     }
 }
 
-/// The place behind the first `*/`, counted from the front.
+/// The place after the first `*/`, counted from the front.
 fn close_of(bytes: &[u8]) -> Option<usize>
     requires { length bytes.now < 2 ^ 32 }
     ensures value { result ≡ spec.close_from 0 bytes.now }
@@ -248,50 +248,50 @@ fn close_of(bytes: &[u8]) -> Option<usize>
     None
 }
 
-/// A comment that is to be closed, from the byte behind `/*` on.
-fn comment_at(bytes: &[u8]) -> (Piece, usize)
+/// A comment that is to be closed, from the byte after `/*` on.
+fn comment_at(bytes: &[u8]) -> (Lexed, usize)
     requires { length bytes.now < 2 ^ 32 }
     ensures value { result ≡ spec.comment_by (spec.close_from 0 bytes.now) bytes.now }
     ensures within { result.1 ≤ length bytes.now + 2 }
 {
     match close_of(bytes) {
-        None => (Piece::Fault(Flaw::OpenComment), 2 + bytes.len()),
-        Some(end) => (Piece::Gap, 2 + end),
+        None => (Lexed::Fault(Flaw::OpenComment), 2 + bytes.len()),
+        Some(end) => (Lexed::Gap, 2 + end),
     }
 }
 
-/// What begins with `/`, from the byte behind it on.
+/// What begins with `/`, from the byte after it on.
 #[tactic(auto, unfolding(crate::specs::Reading::slash_at))]
-fn slash_at(bytes: &[u8]) -> (Piece, usize)
+fn slash_at(bytes: &[u8]) -> (Lexed, usize)
     requires { length bytes.now < 2 ^ 32 }
     ensures value { result ≡ spec.slash_at bytes.now }
     ensures within { result.1 ≤ length bytes.now + 1 }
 {
     match bytes {
-        [b'/', line @ ..] => (Piece::Gap, 2 + line_len(line)),
+        [b'/', line @ ..] => (Lexed::Gap, 2 + line_len(line)),
         [b'*', inner @ ..] => comment_at(inner),
-        _ => (Piece::Fault(Flaw::BadByte), 1),
+        _ => (Lexed::Fault(Flaw::BadByte), 1),
     }
 }
 
-fn one_byte(bytes: &[u8]) -> (Piece, usize)
+fn one_byte(bytes: &[u8]) -> (Lexed, usize)
     requires { 0 < length bytes.now }
     ensures { result ≡ spec.one_byte (slice_index bytes.now 0) }
 {
     if symbol(&bytes[..1]).is_some() {
-        (Piece::Token(TokenKind::Symbol), 1)
+        (Lexed::Token(TokenKind::Symbol), 1)
     } else {
-        (Piece::Fault(Flaw::BadByte), 1)
+        (Lexed::Fault(Flaw::BadByte), 1)
     }
 }
 
-fn symbol_at(bytes: &[u8]) -> (Piece, usize)
+fn symbol_at(bytes: &[u8]) -> (Lexed, usize)
     requires { 0 < length bytes.now }
     ensures value { result ≡ spec.symbol_at bytes.now }
     ensures within { result.1 ≤ length bytes.now }
 {
     if bytes.len() >= 2 && symbol(&bytes[..2]).is_some() {
-        (Piece::Token(TokenKind::Symbol), 2)
+        (Lexed::Token(TokenKind::Symbol), 2)
     } else {
         one_byte(bytes)
     }
@@ -306,9 +306,9 @@ fn begins_number(bytes: &[u8]) -> bool
     }
 }
 
-/// What stands at the front, and how many bytes it takes; None at the end.
+/// What is at the front, and how many bytes it takes; None at the end.
 #[tactic(auto, unfolding(crate::specs::Reading::piece_at))]
-pub(crate) fn piece_at(bytes: &[u8]) -> Option<(Piece, usize)>
+pub(crate) fn piece_at(bytes: &[u8]) -> Option<(Lexed, usize)>
     requires { length bytes.now < 2 ^ 32 }
     ensures value { result ≡ spec.piece_at bytes.now }
     ensures within { IfSome result (λ x. x.1 ≤ length bytes.now) }
@@ -316,7 +316,7 @@ pub(crate) fn piece_at(bytes: &[u8]) -> Option<(Piece, usize)>
     match bytes {
         [] => None,
         [b, rest @ ..] => Some(if is_blank(*b) {
-            (Piece::Gap, 1)
+            (Lexed::Gap, 1)
         } else if begins_name(*b) {
             name_at(bytes)
         } else if *b == b'"' {

@@ -5,23 +5,23 @@ ghost use Rattle.bsv_lex.specs.declared.token.LexFault.{LexFault as Fault};
 ghost use Rattle.bsv_lex.specs.declared.token.LexFault.TheVariants.{OutOfMemory};
 ghost use Rattle.bsv_lex.specs.declared.token.Token.{Token as Item};
 
-use crate::piece::{Piece, piece_at};
+use crate::piece::{Lexed, piece_at};
 use crate::token::{LexFault, Token};
 use std::alloc::Global;
 
-/// Adds the piece that stands at a place, if it is a token, to the list; a flaw is the answer.
-fn put(out: &mut Vec<Token>, piece: Piece, at: usize, len: usize) -> Result<(), LexFault>
+/// Adds the piece that is at a place, if it is a token, to the list; a flaw is the answer.
+fn put(out: &mut Vec<Token>, piece: Lexed, at: usize, len: usize) -> Result<(), LexFault>
     requires { at + len < 2 ^ 32 }
     ensures { Gives (λ done. out.new.items) result (spec.with_piece piece at len out.old.items) }
 {
     match piece {
-        Piece::Gap => {}
-        Piece::Token(kind) => out.push(Token {
+        Lexed::Gap => {}
+        Lexed::Token(kind) => out.push(Token {
             kind,
             start: at as u32,
             end: (at + len) as u32,
         })?,
-        Piece::Fault(flaw) => return Err(flaw.at(at as u32)),
+        Lexed::Fault(flaw) => return Err(flaw.at(at as u32)),
     }
     Ok(())
 }

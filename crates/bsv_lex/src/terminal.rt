@@ -13,7 +13,7 @@ pub enum Terminal {
     Upper,
     Number,
     Text,
-    /// A keyword that stands in no production.
+    /// A keyword that is in no production.
     Reserved,
     /// `package`
     Package,
@@ -184,7 +184,7 @@ const KEYWORDS: [(&[u8], Terminal); 31] = [
     (b"int", Terminal::Int),
 ];
 
-/// The keywords that stand in no production: of Bluespec, and the remaining ones of IEEE 1364-2005.
+/// The keywords that are in no production: of Bluespec, and the remaining ones of IEEE 1364-2005.
 const RESERVED: [&[u8]; 130] = [
     b"action",
     b"endaction",

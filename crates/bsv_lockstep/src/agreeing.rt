@@ -33,13 +33,13 @@ fn fate_of(fired: &Fired, number: usize) -> Fate {
     Fate::Quiet
 }
 
-/// The word of the node that stands at a place of a list.
+/// The word of the node that is at a place of a list.
 fn word_of(values: &[Word], nodes: &[u32], place: usize) -> Option<Word> {
     let node = at(nodes, place)?;
     at(values, *node as usize).copied()
 }
 
-/// Whether the node is 1 that stands at a place of a list.
+/// Whether the node is 1 that is at a place of a list.
 fn is_one(values: &[Word], nodes: &[u32], place: usize) -> bool {
     match word_of(values, nodes, place) {
         Some(word) => word.value() == 1,
@@ -79,7 +79,7 @@ fn results_agree(net: &Net, values: &[Word], fired: &Fired) -> bool {
     true
 }
 
-/// Whether the registers take over the words that show the state behind the clock.
+/// Whether the registers take over the words that show the state after the clock.
 fn nexts_agree(net: &Net, values: &[Word], shown: &[Option<Word>]) -> bool {
     for (place, word) in shown.iter().enumerate() {
         if word.is_some() && word_of(values, net.nexts.as_slice(), place) != *word {

@@ -12,7 +12,7 @@ pub(crate) struct Case {
     pub(crate) files: Vec<(String, String)>,
 }
 
-/// The name and the text of a file, which stand behind each other in these lines.
+/// The name and the text of a file, which come after each other in these lines.
 fn file_of(alloc: Global, lines: &str) -> Result<(String, String)> {
     let Some((name, text)) = lines.split_once('\n') else {
         bail!("a file has no text");
@@ -22,7 +22,7 @@ fn file_of(alloc: Global, lines: &str) -> Result<(String, String)> {
     Ok((name, text))
 }
 
-/// The case of a text. Its pieces stand between lines `--`: the top, the trace, and the files.
+/// The case of a text. Its pieces are between lines `--`: the top, the trace, and the files.
 pub(crate) fn case_of(alloc: Global, text: &str) -> Result<Case> {
     let mut pieces = text.split("\n--\n");
     let top = String::from_str(alloc, pieces.next().unwrap_or(""))?;

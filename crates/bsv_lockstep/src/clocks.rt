@@ -1,5 +1,5 @@
 ghost use Rattle.std.specs.Prelude.{IfOk};
-ghost use Rattle.bsv_flow.specs.Running.{CanRun};
+ghost use Rattle.bsv_flow.specs.Running.{BelongTogether};
 ghost use Rattle.bsv_lockstep.specs.Running.{FitsRun};
 
 use crate::agreeing::agrees;
@@ -45,7 +45,7 @@ impl Run {
 
     /// Runs the clock of a line of the trace, and tells whether the net agrees.
     fn run_line(&mut self, alloc: Global, compiled: &Compiled, text: &[u8]) -> Result<bool>
-        requires compiled { CanRun compiled.now }
+        requires compiled { BelongTogether compiled.now }
         requires fits { FitsRun compiled.now.design self.old }
         ensures fits { FitsRun compiled.now.design self.new }
     {
@@ -74,7 +74,7 @@ impl Run {
 
 /// Runs the clock of each line of a trace by both engines, until they differ.
 pub(crate) fn outcome_of(alloc: Global, compiled: &Compiled, trace: &str) -> Result<Outcome>
-    requires { CanRun compiled.now }
+    requires { BelongTogether compiled.now }
 {
     let mut run = Run::new(alloc, &compiled.design)?;
     let mut clocks = 0u64;

@@ -1,5 +1,5 @@
 ghost use Rattle.std.specs.Prelude.{IfOk};
-ghost use Rattle.bsv_flow.specs.Running.{CanRun};
+ghost use Rattle.bsv_flow.specs.Running.{BelongTogether};
 
 use crate::case::Case;
 use anyhow::{Result, bail};
@@ -21,7 +21,7 @@ fn files_of(alloc: Global, case: &Case) -> Result<MemFiles> {
 
 /// The design of a case, with its guards, its schedule and its net.
 pub(crate) fn compiled_of<R: AllocGlobal + Threads + Sync>(rt: &R, case: &Case) -> Result<Compiled>
-    ensures { IfOk result CanRun }
+    ensures { IfOk result BelongTogether }
 {
     let Some((first, _)) = case.files.first() else {
         bail!("a case has no file");

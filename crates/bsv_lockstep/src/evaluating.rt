@@ -1,6 +1,6 @@
 ghost use Rattle.std.specs.Prelude.{◌≡◌, ◌++◌, IsTrue, OnOk};
 ghost use Rattle.bsv_guard.specs.Fitting.{HaveWidths};
-ghost use Rattle.bsv_net.specs.Circuits.{register_widths};
+ghost use Rattle.bsv_net.specs.Nets.{register_widths};
 
 use anyhow::{Result, bail};
 use bsv_bits::{OutOfMemory, Word};

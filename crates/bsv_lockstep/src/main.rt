@@ -5,7 +5,7 @@
 //! Modules in reading order: `case` (a case file), `compiling` (its design, which can be run), `shown` (the words of
 //! registers that show a state), `asked` (the words of inputs that a line of a trace asks for), `evaluating` (the
 //! words of a net), `agreeing` (whether a net tells what the serial engine did), `clocks` (a design that is run by
-//! both). What a run keeps from clock to clock stands in `specs/Running.antt`.
+//! both). What a run keeps from clock to clock is in `specs/Running.antt`.
 #![tactic(auto)]
 
 mod agreeing;

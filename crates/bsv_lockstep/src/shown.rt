@@ -3,7 +3,7 @@ use bsv_design::{Design, Kind, State};
 use bsv_prim::{Part, Primitive, Queue, RegisterInfo};
 use std::alloc::Global;
 
-/// The word of a register of a queue: how many items there are, and behind that the items. A place without an item
+/// The word of a register of a queue: how many items there are, and after that the items. A place without an item
 /// has no word.
 fn queue_word(queue: &Queue, number: u32, width: u32) -> Option<Word> {
     let count = queue.len();

@@ -1,4 +1,4 @@
--- A place for each method of an interface, and which of them stand in the body of a module.
+-- A place for each method of an interface, and which of them are in the body of a module.
 use Rattle.std.proofs.Common.{ℕ, ◌≡◌, Bool, List, [], ◌∷◌, ◌++◌, length, None, replicate, refl, ap}
 use Rattle.std.proofs.lemmas.List.{replicate_more, set_past}
 use Rattle.bsv_types.specs.Methods.{Signature}

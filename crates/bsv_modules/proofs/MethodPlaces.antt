@@ -1,4 +1,4 @@
--- Each method stands once, directly in the body.
+-- Each method is once, directly in the body.
 use Rattle.std.proofs.Common.{◌≡◌, ◌∙◌, ℕ, zero, suc, ◌<◌, Bool, true, false, not, ◌&&◌, List, [], ◌∷◌, length, Option, Some, None, Ok, refl, sym, ap, subst, arith}
 use Rattle.std.specs.Prelude.{◌==◌, nat_lt, slice_get, slice_set}
 use Rattle.std.specs.List.{list_all, list_any}

@@ -41,23 +41,23 @@ in_order true b c d = refl
 in_order false true c d = refl
 in_order false false c d = refl
 
-behind_is : (came xs : List (List ℕ)) → behind came xs ≡ (apart came xs && distinct xs)
-behind_is came [] = refl
-behind_is came (x ∷ xs) =
-    ap (λ b. not (is_listed x came) && b) (behind_is (came ++ x ∷ []) xs ∙ ap (λ b. b && distinct xs) (apart_more came x xs))
+after_is : (came xs : List (List ℕ)) → behind came xs ≡ (apart came xs && distinct xs)
+after_is came [] = refl
+after_is came (x ∷ xs) =
+    ap (λ b. not (is_listed x came) && b) (after_is (came ++ x ∷ []) xs ∙ ap (λ b. b && distinct xs) (apart_more came x xs))
     ∙ in_order (is_listed x came) (apart came xs) (list_any (bytes_eq x) xs) (distinct xs)
 
 apart_none : (xs : List (List ℕ)) → apart [] xs ≡ true
 apart_none [] = refl
 apart_none (x ∷ xs) = apart_none xs
 
-pub behind_start : (xs : List (List ℕ)) → behind [] xs ≡ distinct xs
-behind_start xs = behind_is [] xs ∙ ap (λ b. b && distinct xs) (apart_none xs)
+pub after_start : (xs : List (List ℕ)) → behind [] xs ≡ distinct xs
+after_start xs = after_is [] xs ∙ ap (λ b. b && distinct xs) (apart_none xs)
 
-pub behind_old : (came : List (List ℕ)) (x : List ℕ) (xs : List (List ℕ)) → not (is_listed x came) ≡ false → behind came (x ∷ xs) ≡ false
-behind_old came x xs old = ap (λ b. b && behind (came ++ x ∷ []) xs) old
+pub after_old : (came : List (List ℕ)) (x : List ℕ) (xs : List (List ℕ)) → not (is_listed x came) ≡ false → behind came (x ∷ xs) ≡ false
+after_old came x xs old = ap (λ b. b && behind (came ++ x ∷ []) xs) old
 
-pub behind_new : (came : List (List ℕ)) (x : List ℕ) (xs : List (List ℕ)) → not (is_listed x came) ≡ true → behind came (x ∷ xs) ≡ behind (came ++ x ∷ []) xs
-behind_new came x xs new = ap (λ b. b && behind (came ++ x ∷ []) xs) new
+pub after_new : (came : List (List ℕ)) (x : List ℕ) (xs : List (List ℕ)) → not (is_listed x came) ≡ true → behind came (x ∷ xs) ≡ behind (came ++ x ∷ []) xs
+after_new came x xs new = ap (λ b. b && behind (came ++ x ∷ []) xs) new
 
-pub ruleset distinguishing = (behind_start, behind_old, behind_new)
+pub ruleset distinguishing = (after_start, after_old, after_new)

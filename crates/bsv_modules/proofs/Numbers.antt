@@ -1,4 +1,4 @@
--- Rules are numbered in the order of the text, and no method stands in a block, a branch or a loop.
+-- Rules are numbered in the order of the text, and no method is in a block, a branch or a loop.
 use Rattle.std.proofs.Common.{◌≡◌, ◌∙◌, ℕ, ◌+◌, true, List, [], ◌∷◌, ◌++◌, map, length, Option, Some, None, Ok, option_map, refl, sym, ap, ap₂, subst, arith}
 use Rattle.std.specs.Prelude.{◌==◌}
 use Rattle.std.proofs.lemmas.List.{length-append}
@@ -26,7 +26,7 @@ use Rattle.bsv_types.specs.Modules.{or_empty, concatenated, numbers_step, own_ru
 use Rattle.bsv_context.specs.Env.{variable_in}
 use Rattle.bsv_statements.specs.Bodies.{Or, Scopes, with_variable, check, of_kind, declared_kind, assignable, in_head}
 use Rattle.bsv_statements.proofs.RightCalls.{ok_is, went, there_is}
-use Rattle.bsv_modules.specs.Modules.{Site, State, Run, task, scoped, make_at, with_rule, rule_case, rule_at, done, array_named, inside, all_in, Arm, conditions, branch, arms, last_arm, if_case, block_case, interface_at, lower_name, with_slot, instance_case, array_case, count_at, place_case, declare_case, assign_case, for_case}
+use Rattle.bsv_modules.specs.Modules.{ModuleContext, State, Run, task, scoped, make_at, with_rule, rule_case, rule_at, done, array_named, inside, all_in, Arm, conditions, branch, arms, last_arm, if_case, block_case, interface_at, lower_name, with_slot, instance_case, array_case, count_at, place_case, declare_case, assign_case, for_case}
 
 -- ---- numbers that count up
 
@@ -132,7 +132,7 @@ leaf st back ss x r is h g e =
     let same = ap (λ b. (b, x)) is ∙ ok_is (back, x) r e in
     subst (Numbered st) same (nothing st ss (numbers own_rule x) (numbers own_method x) h g)
 
-module _ (site : Site) where
+module _ (site : ModuleContext) where
   slot_more : (s : Span) (name : List ℕ) (slot : Slot) (st next : State) → with_slot s name slot st ≡ Ok next → (ss : Scopes) × (scoped st ss ≡ next)
   slot_more s name slot st next e =
       let ss = there_is s (with_variable name slot st.scopes) _ next e in
@@ -192,7 +192,7 @@ module _ (site : Site) where
       let x = went (rule_at site s r st.scopes) (λ x. done (with_rule st x.0 x.1) (RuleAt (length st.rules))) q e in
       subst (Numbered st) (ok_is (with_rule st x.0.0 x.0.1, RuleAt (length st.rules)) q x.2) (rule_counts st x.0.0 x.0.1)
 
-  -- ---- one behind the other
+  -- ---- one after the other
 
   abbrev pub EachNumbered : List Run → Type 0
   EachNumbered [] = Unit {0}

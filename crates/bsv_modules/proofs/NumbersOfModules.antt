@@ -19,14 +19,14 @@ use Rattle.bsv_types.specs.Modules.{concatenated, numbers_step, own_rule, own_me
 use Rattle.bsv_types.specs.Modules as rules
 use Rattle.bsv_context.specs.Methods.{method_from}
 use Rattle.bsv_statements.proofs.RightCalls.{ok_is, went, there_is}
-use Rattle.bsv_modules.specs.Modules.{Site, State, Run, Arm, is_free, wanted_method, with_method, method_case, method_at, done, all_in, stmt_step, arm_step, nested, direct_step, direct}
+use Rattle.bsv_modules.specs.Modules.{ModuleContext, State, Run, Arm, is_free, wanted_method, with_method, method_case, method_at, done, all_in, stmt_step, arm_step, nested, direct_step, direct}
 use Rattle.bsv_modules.proofs.RightMethods.{sure_is}
 use Rattle.bsv_modules.proofs.MethodPlaces.{placed, one_stands, standing, all_freed, once_more}
 use Rattle.bsv_modules.proofs.Numbers.{Counts, counts_none, counts_both, numbers, branch_numbers, method_numbers, Numbered, NumberedRun, instance_numbered, array_numbered, place_numbered, declare_numbered, assign_numbered, rule_numbered, EachNumbered, block_numbered, EachArm, if_numbered, for_numbered}
 
 -- ---- nested statements
 
-module _ (site : Site) where
+module _ (site : ModuleContext) where
   abbrev arm_in : WrittenBranch → Arm
   arm_in = fold-ModuleBranch Run Arm (stmt_step site) arm_step
 
@@ -104,7 +104,7 @@ pub data Single (st : State) (r : State × ModuleStmt) : Type 0 where
   without : Numbered st r → Single st r
   method : (n : ℕ) (m : Method) → is_free n st.methods ≡ true → r.1 ≡ MethodAt n → r.0.rules ≡ st.rules → r.0.methods ≡ placed st.methods n m → Single st r
 
-module _ (site : Site) where
+module _ (site : ModuleContext) where
   method_single : (s : Span) (m : WrittenMethod) (st : State) (r : State × ModuleStmt) → method_case site s m st ≡ Ok r → Single st r
   method_single s m st r e =
       let q = went (wanted_method site s m.name.name st) _ r e in
@@ -171,7 +171,7 @@ in_front : (st mid next : State) (x : ModuleStmt) (xs : List ModuleStmt) → Sin
 in_front st mid next x xs (without h) g = without_method st mid next x xs h g
 in_front st mid next x xs (method n m free is same_rules same_methods) g = subst (λ y. Directs st (next, y ∷ xs)) (sym is) (with_single st mid next n m xs free same_rules same_methods g)
 
-pub all_direct : (site : Site) (ws : List Written) (st : State) (q : State × List ModuleStmt) → all_in (map (direct site) ws) st ≡ Ok q → Directs st q
+pub all_direct : (site : ModuleContext) (ws : List Written) (st : State) (q : State × List ModuleStmt) → all_in (map (direct site) ws) st ≡ Ok q → Directs st q
 all_direct site [] st q e = subst (Directs st) (ok_is (st, []) q e) (no_statements st)
 all_direct site (x ∷ ws) st q e =
     let r = went (direct site x st) _ q e in

@@ -11,8 +11,8 @@ use Rattle.bsv_ast.specs.Names.{begins_name, is_word, is_name}
 use Rattle.bsv_ast.specs.declared.text.Span.{Span}
 use Rattle.bsv_ast.specs.declared.modules.Attribute.{Attribute as Written}
 use Rattle.bsv_ast.specs.declared.modules.AttributeGroup.{AttributeGroup}
-use Rattle.bsv_types.specs.declared.attribute_text.Piece.{Piece}
-use Rattle.bsv_types.specs.declared.attribute_text.Piece.TheVariants.{Word, Comma, Open, Close}
+use Rattle.bsv_types.specs.declared.attribute_text.AttributeToken.{AttributeToken}
+use Rattle.bsv_types.specs.declared.attribute_text.AttributeToken.TheVariants.{Word, Comma, Open, Close}
 use Rattle.bsv_types.specs.declared.attributes.Attribute.{Attribute}
 use Rattle.bsv_types.specs.declared.attributes.Attribute.TheVariants as asks
 use Rattle.bsv_types.specs.declared.asked.Owner.{Owner}
@@ -38,8 +38,8 @@ mapped (Some x) f y e = (x, refl, some_is (f x) y e)
 all_more : {A : Type 0} (p : A → Bool) (x : A) (xs : List A) → p x ≡ true → list_all p xs ≡ true → list_all p (x ∷ xs) ≡ true
 all_more p x xs h g = and_from (p x) (list_all p xs) h g
 
-all_behind : {A : Type 0} (p : A → Bool) (x : A) (xs : List A) → list_all p (x ∷ xs) ≡ true → list_all p xs ≡ true
-all_behind p x xs h = (and_parts (p x) (list_all p xs) h).1
+all_after : {A : Type 0} (p : A → Bool) (x : A) (xs : List A) → list_all p (x ∷ xs) ≡ true → list_all p xs ≡ true
+all_after p x xs h = (and_parts (p x) (list_all p xs) h).1
 
 all_first : {A : Type 0} (p : A → Bool) (x : A) (xs : List A) → list_all p (x ∷ xs) ≡ true → p x ≡ true
 all_first p x xs h = (and_parts (p x) (list_all p xs) h).0
@@ -51,13 +51,13 @@ abbrev is_whole : List ℕ → Bool
 is_whole [] = false
 is_whole (b ∷ bytes) = list_all is_word (b ∷ bytes)
 
-abbrev of_bytes : Piece → Bool
+abbrev of_bytes : AttributeToken → Bool
 of_bytes (Word word) = is_whole word
 of_bytes Comma = true
 of_bytes Open = true
 of_bytes Close = true
 
-abbrev is_right : Piece → Bool
+abbrev is_right : AttributeToken → Bool
 is_right (Word word) = is_name word
 is_right Comma = true
 is_right Open = true
@@ -70,15 +70,15 @@ whole_bytes (b ∷ bytes) h = h
 alone_whole : (b : ℕ) → is_word b ≡ true → is_whole (b ∷ []) ≡ true
 alone_whole b h = all_more is_word b [] h refl
 
-in_word_right : (b : ℕ) (goes_on : Bool) (ps : List Piece) → is_word b ≡ true → list_all of_bytes ps ≡ true → list_all of_bytes (in_word b goes_on ps) ≡ true
+in_word_right : (b : ℕ) (goes_on : Bool) (ps : List AttributeToken) → is_word b ≡ true → list_all of_bytes ps ≡ true → list_all of_bytes (in_word b goes_on ps) ≡ true
 in_word_right b goes_on [] h all = all_more of_bytes (Word (b ∷ [])) [] (alone_whole b h) refl
-in_word_right b true (Word word ∷ ps) h all = all_more of_bytes (Word (b ∷ word)) ps (all_more is_word b word h (whole_bytes word (all_first of_bytes (Word word) ps all))) (all_behind of_bytes (Word word) ps all)
+in_word_right b true (Word word ∷ ps) h all = all_more of_bytes (Word (b ∷ word)) ps (all_more is_word b word h (whole_bytes word (all_first of_bytes (Word word) ps all))) (all_after of_bytes (Word word) ps all)
 in_word_right b false (Word word ∷ ps) h all = all_more of_bytes (Word (b ∷ [])) (Word word ∷ ps) (alone_whole b h) all
 in_word_right b goes_on (Comma ∷ ps) h all = all_more of_bytes (Word (b ∷ [])) (Comma ∷ ps) (alone_whole b h) all
 in_word_right b goes_on (Open ∷ ps) h all = all_more of_bytes (Word (b ∷ [])) (Open ∷ ps) (alone_whole b h) all
 in_word_right b goes_on (Close ∷ ps) h all = all_more of_bytes (Word (b ∷ [])) (Close ∷ ps) (alone_whole b h) all
 
-mark_right : (b : ℕ) (p : Piece) → mark b ≡ Some p → of_bytes p ≡ true
+mark_right : (b : ℕ) (p : AttributeToken) → mark b ≡ Some p → of_bytes p ≡ true
 mark_right b p e = by (b == 44) (b == 40) (b == 41) e where
   by : (x y z : Bool) → cond x (Some Comma) (cond y (Some Open) (cond z (Some Close) None)) ≡ Some p → of_bytes p ≡ true
   by true y z at = subst (λ q. of_bytes q ≡ true) (some_is Comma p at) refl
@@ -86,7 +86,7 @@ mark_right b p e = by (b == 44) (b == 40) (b == 41) e where
   by false false true at = subst (λ q. of_bytes q ≡ true) (some_is Close p at) refl
   by false false false at = absurd cc
 
-in_front_right : (b : ℕ) (goes_on : Bool) (ps qs : List Piece) → list_all of_bytes ps ≡ true → in_front b goes_on ps ≡ Some qs → list_all of_bytes qs ≡ true
+in_front_right : (b : ℕ) (goes_on : Bool) (ps qs : List AttributeToken) → list_all of_bytes ps ≡ true → in_front b goes_on ps ≡ Some qs → list_all of_bytes qs ≡ true
 in_front_right b goes_on ps qs all e = by (is_word b) (b == 32) refl e where
   by : (x y : Bool) → is_word b ≡ x → cond x (Some (in_word b goes_on ps)) (cond y (Some ps) (option_map (λ piece. piece ∷ ps) (mark b))) ≡ Some qs → list_all of_bytes qs ≡ true
   by true y is at = subst (λ rs. list_all of_bytes rs ≡ true) (some_is (in_word b goes_on ps) qs at) (in_word_right b goes_on ps is all)
@@ -95,7 +95,7 @@ in_front_right b goes_on ps qs all e = by (is_word b) (b == 32) refl e where
       let m = mapped (mark b) (λ piece. piece ∷ ps) qs at in
       subst (λ rs. list_all of_bytes rs ≡ true) m.2 (all_more of_bytes m.0 ps (mark_right b m.0 m.1) all)
 
-words_right : (text : List ℕ) (ps : List Piece) → words_and_marks text ≡ Some ps → list_all of_bytes ps ≡ true
+words_right : (text : List ℕ) (ps : List AttributeToken) → words_and_marks text ≡ Some ps → list_all of_bytes ps ≡ true
 words_right [] ps e = subst (λ rs. list_all of_bytes rs ≡ true) (some_is [] ps e) refl
 words_right (b ∷ bytes) ps e =
     let h = stepped (words_and_marks bytes) (in_front b (first_is is_word bytes)) ps e in
@@ -103,44 +103,44 @@ words_right (b ∷ bytes) ps e =
 
 name_is : (word : List ℕ) → is_whole word ≡ true → first_is begins_name word ≡ true → is_name word ≡ true
 name_is [] h g = absurd cc
-name_is (b ∷ bytes) h g = and_from (begins_name b) (list_all is_word bytes) g (all_behind is_word b bytes h)
+name_is (b ∷ bytes) h g = and_from (begins_name b) (list_all is_word bytes) g (all_after is_word b bytes h)
 
-piece_is : (p : Piece) → of_bytes p ≡ true → is_good p ≡ true → is_right p ≡ true
+piece_is : (p : AttributeToken) → of_bytes p ≡ true → is_good p ≡ true → is_right p ≡ true
 piece_is (Word word) h g = name_is word h g
 piece_is Comma h g = refl
 piece_is Open h g = refl
 piece_is Close h g = refl
 
-all_are : (ps : List Piece) → list_all of_bytes ps ≡ true → list_all is_good ps ≡ true → list_all is_right ps ≡ true
+all_are : (ps : List AttributeToken) → list_all of_bytes ps ≡ true → list_all is_good ps ≡ true → list_all is_right ps ≡ true
 all_are [] h g = refl
-all_are (p ∷ ps) h g = all_more is_right p ps (piece_is p (all_first of_bytes p ps h) (all_first is_good p ps g)) (all_are ps (all_behind of_bytes p ps h) (all_behind is_good p ps g))
+all_are (p ∷ ps) h g = all_more is_right p ps (piece_is p (all_first of_bytes p ps h) (all_first is_good p ps g)) (all_are ps (all_after of_bytes p ps h) (all_after is_good p ps g))
 
-pieces_right : (text : List ℕ) (ps : List Piece) → pieces text ≡ Some ps → list_all is_right ps ≡ true
+pieces_right : (text : List ℕ) (ps : List AttributeToken) → pieces text ≡ Some ps → list_all is_right ps ≡ true
 unfolding pieces
 pieces_right text ps e =
     let h = stepped (words_and_marks text) all_good ps e in
     let g = tested_step (list_all is_good h.0) (Some h.0) ps h.2 in
     subst (λ rs. list_all is_right rs ≡ true) (some_is h.0 ps g.1) (all_are h.0 (words_right text h.0 h.1) g.0)
 
--- ---- names, and the pieces behind them
+-- ---- names, and the pieces after them
 
 record Named (q : Names) : Type 0 where
   pub names : list_all is_name q.0 ≡ true
   pub some : 1 ≤ length q.0
   pub rest : list_all is_right q.1 ≡ true
 
-one_named : (name : List ℕ) (rest : List Piece) → is_name name ≡ true → list_all is_right rest ≡ true → Named (one_name name rest)
+one_named : (name : List ℕ) (rest : List AttributeToken) → is_name name ≡ true → list_all is_right rest ≡ true → Named (one_name name rest)
 one_named name rest h g = record { names = all_more is_name name [] h refl; some = omega arith; rest = g }
 
-names_right : (ps : List Piece) (q : Names) → list_all is_right ps ≡ true → names_at ps ≡ Some q → Named q
+names_right : (ps : List AttributeToken) (q : Names) → list_all is_right ps ≡ true → names_at ps ≡ Some q → Named q
 names_right (Word name ∷ []) q all e = subst Named (some_is (one_name name []) q e) (one_named name [] (all_first is_right (Word name) [] all) refl)
 names_right (Word name ∷ Comma ∷ rest) q all e =
     let m = mapped (names_at rest) (one_more name) q e in
-    let h = names_right rest m.0 (all_behind is_right Comma rest (all_behind is_right (Word name) (Comma ∷ rest) all)) m.1 in
+    let h = names_right rest m.0 (all_after is_right Comma rest (all_after is_right (Word name) (Comma ∷ rest) all)) m.1 in
     subst Named m.2 (record { names = all_more is_name name m.0.0 (all_first is_right (Word name) (Comma ∷ rest) all) h.names; some = omega arith; rest = h.rest })
-names_right (Word name ∷ Word other ∷ rest) q all e = subst Named (some_is (one_name name (Word other ∷ rest)) q e) (one_named name (Word other ∷ rest) (all_first is_right (Word name) (Word other ∷ rest) all) (all_behind is_right (Word name) (Word other ∷ rest) all))
-names_right (Word name ∷ Open ∷ rest) q all e = subst Named (some_is (one_name name (Open ∷ rest)) q e) (one_named name (Open ∷ rest) (all_first is_right (Word name) (Open ∷ rest) all) (all_behind is_right (Word name) (Open ∷ rest) all))
-names_right (Word name ∷ Close ∷ rest) q all e = subst Named (some_is (one_name name (Close ∷ rest)) q e) (one_named name (Close ∷ rest) (all_first is_right (Word name) (Close ∷ rest) all) (all_behind is_right (Word name) (Close ∷ rest) all))
+names_right (Word name ∷ Word other ∷ rest) q all e = subst Named (some_is (one_name name (Word other ∷ rest)) q e) (one_named name (Word other ∷ rest) (all_first is_right (Word name) (Word other ∷ rest) all) (all_after is_right (Word name) (Word other ∷ rest) all))
+names_right (Word name ∷ Open ∷ rest) q all e = subst Named (some_is (one_name name (Open ∷ rest)) q e) (one_named name (Open ∷ rest) (all_first is_right (Word name) (Open ∷ rest) all) (all_after is_right (Word name) (Open ∷ rest) all))
+names_right (Word name ∷ Close ∷ rest) q all e = subst Named (some_is (one_name name (Close ∷ rest)) q e) (one_named name (Close ∷ rest) (all_first is_right (Word name) (Close ∷ rest) all) (all_after is_right (Word name) (Close ∷ rest) all))
 names_right [] q all e = absurd cc
 names_right (Comma ∷ rest) q all e = absurd cc
 names_right (Open ∷ rest) q all e = absurd cc
@@ -148,25 +148,25 @@ names_right (Close ∷ rest) q all e = absurd cc
 
 closed_right : (p : Names) (q : Names) → Named p → closed p.0 p.1 ≡ Some q → Named q
 closed_right p q h e = by p.1 refl e where
-  by : (rest : List Piece) → p.1 ≡ rest → closed p.0 rest ≡ Some q → Named q
+  by : (rest : List AttributeToken) → p.1 ≡ rest → closed p.0 rest ≡ Some q → Named q
   by (Close ∷ rest) is at =
       let all = subst (λ rs. list_all is_right rs ≡ true) is h.rest in
-      subst Named (some_is (p.0, rest) q at) (record { names = h.names; some = h.some; rest = all_behind is_right Close rest all })
+      subst Named (some_is (p.0, rest) q at) (record { names = h.names; some = h.some; rest = all_after is_right Close rest all })
   by [] is at = absurd cc
   by (Word word ∷ rest) is at = absurd cc
   by (Comma ∷ rest) is at = absurd cc
   by (Open ∷ rest) is at = absurd cc
 
-side_right : (ps : List Piece) (q : Names) → list_all is_right ps ≡ true → side_at ps ≡ Some q → Named q
-side_right (Word name ∷ rest) q all e = subst Named (some_is (one_name name rest) q e) (one_named name rest (all_first is_right (Word name) rest all) (all_behind is_right (Word name) rest all))
+side_right : (ps : List AttributeToken) (q : Names) → list_all is_right ps ≡ true → side_at ps ≡ Some q → Named q
+side_right (Word name ∷ rest) q all e = subst Named (some_is (one_name name rest) q e) (one_named name rest (all_first is_right (Word name) rest all) (all_after is_right (Word name) rest all))
 side_right (Open ∷ rest) q all e =
     let h = stepped (names_at rest) (λ names. closed names.0 names.1) q e in
-    closed_right h.0 q (names_right rest h.0 (all_behind is_right Open rest all) h.1) h.2
+    closed_right h.0 q (names_right rest h.0 (all_after is_right Open rest all) h.1) h.2
 side_right [] q all e = absurd cc
 side_right (Comma ∷ rest) q all e = absurd cc
 side_right (Close ∷ rest) q all e = absurd cc
 
-alone_is : (names : List (List ℕ)) (rest : List Piece) (xs : List (List ℕ)) → alone names rest ≡ Some xs → names ≡ xs
+alone_is : (names : List (List ℕ)) (rest : List AttributeToken) (xs : List (List ℕ)) → alone names rest ≡ Some xs → names ≡ xs
 alone_is names [] xs e = some_is names xs e
 alone_is names (p ∷ rest) xs e = absurd cc
 
@@ -194,15 +194,15 @@ listed_right text xs e =
     let right : (q : Names) → option_and_then names_at (pieces text) ≡ Some q → Named q = λ q is. let p = stepped (pieces text) names_at q is in names_right p.0 q (pieces_right text p.0 p.1) p.2 in
     two_right h.0 xs (alone_right (option_and_then names_at (pieces text)) h.0 right h.1) h.2
 
-sides_behind : (left : List (List ℕ)) (rest : List Piece) (q : Sides) → names_from 1 left ≡ true → list_all is_right rest ≡ true → sides_from left rest ≡ Some q → (names_from 1 q.0 && names_from 1 q.1) ≡ true
-sides_behind left (Comma ∷ rest) q h all e =
+sides_after : (left : List (List ℕ)) (rest : List AttributeToken) (q : Sides) → names_from 1 left ≡ true → list_all is_right rest ≡ true → sides_from left rest ≡ Some q → (names_from 1 q.0 && names_from 1 q.1) ≡ true
+sides_after left (Comma ∷ rest) q h all e =
     let m = mapped (option_and_then (λ names. alone names.0 names.1) (side_at rest)) (with_left left) q e in
-    let right = alone_right (side_at rest) m.0 (λ p is. side_right rest p (all_behind is_right Comma rest all) is) m.1 in
+    let right = alone_right (side_at rest) m.0 (λ p is. side_right rest p (all_after is_right Comma rest all) is) m.1 in
     subst (λ (p : Sides). (names_from 1 p.0 && names_from 1 p.1) ≡ true) m.2 (and_from (names_from 1 left) (names_from 1 m.0) h right)
-sides_behind left [] q h all e = absurd cc
-sides_behind left (Word word ∷ rest) q h all e = absurd cc
-sides_behind left (Open ∷ rest) q h all e = absurd cc
-sides_behind left (Close ∷ rest) q h all e = absurd cc
+sides_after left [] q h all e = absurd cc
+sides_after left (Word word ∷ rest) q h all e = absurd cc
+sides_after left (Open ∷ rest) q h all e = absurd cc
+sides_after left (Close ∷ rest) q h all e = absurd cc
 
 sides_right : (text : List ℕ) (q : Sides) → sides text ≡ Some q → (names_from 1 q.0 && names_from 1 q.1) ≡ true
 unfolding sides
@@ -210,7 +210,7 @@ sides_right text q e =
     let h = stepped (option_and_then side_at (pieces text)) (λ names. sides_from names.0 names.1) q e in
     let p = stepped (pieces text) side_at h.0 h.1 in
     let left = side_right p.0 h.0 (pieces_right text p.0 p.1) p.2 in
-    sides_behind h.0.0 h.0.1 q (from_is 1 h.0.0 left.some left.names) left.rest h.2
+    sides_after h.0.0 h.0.1 q (from_is 1 h.0.0 left.some left.names) left.rest h.2
 
 -- ---- what attributes ask for
 

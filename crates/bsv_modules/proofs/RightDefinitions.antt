@@ -42,7 +42,7 @@ pub names_right : (t : Types) → Kept t → Names (type_names t)
 unfolding type_names
 names_right t k = record { strict = k.strict; empty = first_there t.interfaces k.empty; named = k.types }
 
--- the names of the types behind one more
+-- the names of the types after one more
 pub with_type_is : (name : List ℕ) (k : Kind) (t next : Types) → with_type name k t ≡ Some next →
     (is_defined name t.names ≡ false) × (next ≡ record t { names = with_name name k t.names })
 with_type_is name k t next e =

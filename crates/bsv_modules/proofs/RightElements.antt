@@ -33,7 +33,7 @@ use Rattle.bsv_statements.proofs.RightBlocks.{inner_true, EachRun, AllRan, all_r
 use Rattle.bsv_statements.proofs.RightStatements.{typed_run}
 use Rattle.bsv_statements.proofs.RightBodies.{stmt_good}
 use Rattle.bsv_statements.proofs.RightReturns.{returns_same, never_same}
-use Rattle.bsv_modules.specs.Modules.{Site, task, stmts_in, InBody, value_body, action_body, task_of, body_of, guard, asked, rule_made, rule_body}
+use Rattle.bsv_modules.specs.Modules.{ModuleContext, task, stmts_in, InBody, value_body, action_body, task_of, body_of, guard, asked, rule_made, rule_body}
 use Rattle.bsv_modules.proofs.RightAttributes.{asked_right}
 
 -- ---- statements of rules and of methods
@@ -66,7 +66,7 @@ module _ (t : Task) (w : World) (fits : FitsWorld t.env w) where
       subst (λ (i : InBody). (typed.gives_body w t.acts t.base (frame_of ss) k i.1 ≡ true) × (closed i.0 ≡ closed ss)) (ok_is (ss, body.Value m.0) r m.2)
       (has_true w (frame_of ss) m.0 k (kind_right t w fits ss fit s x k m.0 m.1), refl)
 
-module _ (site : Site) (w : World) (fits : FitsWorld site.env w) where
+module _ (site : ModuleContext) (w : World) (fits : FitsWorld site.env w) where
   abbrev acts_task : ℕ → Task
   acts_task base = task_of site.env site.types action base
 

@@ -1,4 +1,4 @@
--- What a function is typed as is in order, where the functions that it may call stand in the world.
+-- What a function is typed as is in order, where the functions that it may call are in the world.
 use Rattle.std.proofs.Common.{◌≡◌, ℕ, Bool, true, false, ◌&&◌, List, [], ◌∷◌, map, take, Ok, refl, sym, subst}
 use Rattle.std.specs.List.{list_all}
 use Rattle.std.proofs.lemmas.Bool.{and_parts, and_from}

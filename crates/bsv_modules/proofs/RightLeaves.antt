@@ -39,7 +39,7 @@ use Rattle.bsv_typing.proofs.RightSuffixes.{many_is}
 use Rattle.bsv_statements.proofs.RightScopes.{scopes_fit, defined_right}
 use Rattle.bsv_statements.proofs.RightCalls.{ok_is, went, there_is, passed, has_true, assigns_true, check_right, kind_right, assignable_right}
 use Rattle.bsv_statements.proofs.RightStatements.{if_right_true, value_slot_right}
-use Rattle.bsv_modules.specs.Modules.{Site, State, task, scoped, make_at, guard, asked, rule_made, rule_body, with_rule, rule_case, rule_at, method_at, done, is_free, method_header, method_made, method_body, wanted_method, with_method, method_case, array_named, interface_at, lower_name, with_slot, instance_case, array_case, count_at, place_case, declare_case, assign_case}
+use Rattle.bsv_modules.specs.Modules.{ModuleContext, State, task, scoped, make_at, guard, asked, rule_made, rule_body, with_rule, rule_case, rule_at, method_at, done, is_free, method_header, method_made, method_body, wanted_method, with_method, method_case, array_named, interface_at, lower_name, with_slot, instance_case, array_case, count_at, place_case, declare_case, assign_case}
 use Rattle.bsv_modules.proofs.RightSites.{FitsSite, written_right}
 use Rattle.bsv_modules.proofs.RightMakers.{typed_site, make_right}
 use Rattle.bsv_modules.proofs.RightElements.{RuleRan, rule_ran}
@@ -55,7 +55,7 @@ instance_one s k e = by (is_value s k) where
 -- ---- the typed statements
 
 module _ (w : World) (headers : List rules.Header) (wanted : List Signature) (rs : List Rule) (ms : List Method) where
-  abbrev in_site : rules.Site
+  abbrev in_site : rules.ModuleContext
   in_site = typed_site w headers wanted rs ms
 
   abbrev ran : ModuleStmt → typed.Run
@@ -114,7 +114,7 @@ module _ (w : World) (headers : List rules.Header) (wanted : List Signature) (rs
 
 -- ---- the forms
 
-module _ (site : Site) (w : World) (headers : List rules.Header) (fits : FitsSite site w headers) where
+module _ (site : ModuleContext) (w : World) (headers : List rules.Header) (fits : FitsSite site w headers) where
   abbrev pub Good : (State → Or (State × ModuleStmt)) → Type 0
   Good = GoodRun w headers site.wanted
 

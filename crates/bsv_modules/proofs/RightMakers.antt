@@ -31,11 +31,11 @@ use Rattle.bsv_typing.proofs.RightExpressions.{expressions_good, fronts_good}
 use Rattle.bsv_statements.proofs.RightScopes.{scopes_fit}
 use Rattle.bsv_statements.proofs.RightCalls.{has_true, at_is}
 use Rattle.bsv_types.specs.Makers.{given_maker}
-use Rattle.bsv_modules.specs.Modules.{Header, Site, if_instance_of, handed, all_handed, made_by, given_params, module_params, make_in, make_at}
+use Rattle.bsv_modules.specs.Modules.{Header, ModuleContext, if_instance_of, handed, all_handed, made_by, given_params, module_params, make_in, make_at}
 use Rattle.bsv_modules.proofs.RightSites.{FitsSite}
 
 -- what a statement of a typed module may name, where these are its rules and its methods
-abbrev pub typed_site : World → List rules.Header → List Signature → List Rule → List Method → rules.Site
+abbrev pub typed_site : World → List rules.Header → List Signature → List Rule → List Method → rules.ModuleContext
 typed_site w headers wanted rs ms = record { world = w; headers = headers; rules = rs; methods = ms; wanted = wanted }
 
 module _ (w : World) (frame : Frame) where
@@ -53,7 +53,7 @@ module _ (w : World) (frame : Frame) where
       subst (λ y. rules.argument_right w frame y k ≡ true) (same_Some (argument.Instance (place_of i)) x h.1)
       (and_from (is_instance w.shapes k) (is_kind (place_typing w (place_of i) frame) k) there stands)
 
-module _ (site : Site) (w : World) (headers : List rules.Header) (fits : FitsSite site w headers) (ss : Scopes) (fit : ScopesFit w.shapes ss) where
+module _ (site : ModuleContext) (w : World) (headers : List rules.Header) (fits : FitsSite site w headers) (ss : Scopes) (fit : ScopesFit w.shapes ss) where
   named_right : (e : Written) (i : Instance) → instance_named (term (with_scopes site.env ss) e) ≡ Some i → GoodInstance w (frame_of ss) i
   named_right e i is =
       let f = taken (term (with_scopes site.env ss) e).front the_instance i is in

@@ -41,7 +41,7 @@ use Rattle.bsv_typing.proofs.Bound.{taken}
 use Rattle.bsv_typing.proofs.Typings.{kind_back}
 use Rattle.bsv_statements.proofs.RightScopes.{frame_opened, opened_fit, defined_right, frame_length}
 use Rattle.bsv_statements.proofs.RightCalls.{ok_is, went, there_is, passed, header_at}
-use Rattle.bsv_modules.specs.Modules.{Site, task, InBody, body_of, guard, param, param_at, params_at, with_params, are_named, method_result, any_kind, method_header, method_made, method_body}
+use Rattle.bsv_modules.specs.Modules.{ModuleContext, task, InBody, body_of, guard, param, param_at, params_at, with_params, are_named, method_result, any_kind, method_header, method_made, method_body}
 use Rattle.bsv_modules.proofs.RightSites.{FitsSite, written_right}
 use Rattle.bsv_modules.proofs.RightElements.{body_right, guard_right}
 
@@ -168,7 +168,7 @@ methods_lower s _ n q right is = absurd cc
 
 -- ---- methods
 
-module _ (site : Site) (w : World) (headers : List rules.Header) (fits : FitsSite site w headers) where
+module _ (site : ModuleContext) (w : World) (headers : List rules.Header) (fits : FitsSite site w headers) where
   record HeaderIs (wanted : Signature) (h : List Param × Effect) : Type 0 where
     pub kinds : same_kinds (param_kinds h.0) wanted.params ≡ true
     pub names : lower_names (param_names h.0) ≡ true

@@ -25,7 +25,7 @@ use Rattle.bsv_statements.proofs.RightCalls.{ok_is, went, has_true, kind_right}
 use Rattle.bsv_statements.proofs.RightStatements.{if_right_true}
 use Rattle.bsv_statements.proofs.RightBlocks.{inner_true}
 use Rattle.bsv_statements.proofs.RightArms.{head_right}
-use Rattle.bsv_modules.specs.Modules.{Site, State, Run, task, scoped, inside, all_in, Arm, conditions, branch, arms, last_arm, if_case, block_case, for_case}
+use Rattle.bsv_modules.specs.Modules.{ModuleContext, State, Run, task, scoped, inside, all_in, Arm, conditions, branch, arms, last_arm, if_case, block_case, for_case}
 use Rattle.bsv_modules.proofs.RightSites.{FitsSite}
 use Rattle.bsv_modules.proofs.RightMakers.{typed_site}
 use Rattle.bsv_modules.proofs.RightStates.{LaterThan, run_in, Ran, GoodRun}
@@ -33,7 +33,7 @@ use Rattle.bsv_modules.proofs.RightStates.{LaterThan, run_in, Ran, GoodRun}
 -- ---- the typed statements
 
 module _ (w : World) (headers : List rules.Header) (wanted : List Signature) (rs : List Rule) (ms : List Method) where
-  abbrev in_site : rules.Site
+  abbrev in_site : rules.ModuleContext
   in_site = typed_site w headers wanted rs ms
 
   abbrev ran : ModuleStmt → typed.Run
@@ -79,7 +79,7 @@ module _ (w : World) (headers : List rules.Header) (wanted : List Signature) (rs
       ap (λ (q : Option Frame). q >>= ran y) (if_right_true (has_type w frame test bool) frame asks) ∙ next.1 in
       inner_true (branch_in (branch test y)) frame next.0 is
 
--- ---- one behind the other, and in a scope of its own
+-- ---- one after the other, and in a scope of its own
 
 module _ (w : World) (headers : List rules.Header) (wanted : List Signature) where
   abbrev pub EachRun : List Run → Type 0
@@ -188,7 +188,7 @@ module _ (w : World) (headers : List rules.Header) (wanted : List Signature) whe
   arms_ran [] xs st q asks good fit e = no_arms st q e
   arms_ran (t ∷ ts) [] st q asks good fit e = no_arms st q e
 
-module _ (site : Site) (w : World) (headers : List rules.Header) (fits : FitsSite site w headers) where
+module _ (site : ModuleContext) (w : World) (headers : List rules.Header) (fits : FitsSite site w headers) where
   tests_right : (ss : Scopes) (s : Span) (xs : List Arm) (tests : List Expr) → ScopesFit w.shapes ss → conditions site ss s xs ≡ Ok tests → EachTest w headers site.wanted ss tests
   tests_right ss s [] tests fit e = subst (EachTest w headers site.wanted ss) (ok_is [] tests e) tt
   tests_right ss s (x ∷ xs) tests fit e =

@@ -42,7 +42,7 @@ use Rattle.bsv_typing.proofs.Typings.{kind_back}
 use Rattle.bsv_statements.proofs.RightCalls.{ok_is, went, there_is, passed}
 use Rattle.bsv_modules.specs.Growing.{Grows}
 use Rattle.bsv_modules.specs.Modules.{param, param_at, params_at, are_named, method_result}
-use Rattle.bsv_modules.specs.Programs.{Types, shapes_of, type_names, with_type, field_at, fields_at, field_names, width_passes, struct_named, is_struct, struct_at, with_struct, struct_case, typedef_case, header_at, headers_at, header_names, interface_named, interface_of, with_interface, interface_case, types_behind}
+use Rattle.bsv_modules.specs.Programs.{Types, shapes_of, type_names, with_type, field_at, fields_at, field_names, width_passes, struct_named, is_struct, struct_at, with_struct, struct_case, typedef_case, header_at, headers_at, header_names, interface_named, interface_of, with_interface, interface_case, types_after}
 use Rattle.bsv_modules.proofs.Growth.{bits_kept, widths_kept}
 use Rattle.bsv_modules.proofs.Entries.{not_listed, distinct_with, defined_now, all_defined_more}
 use Rattle.bsv_modules.proofs.RightWritten.{has_bits_is}
@@ -319,7 +319,7 @@ typedef_right (typedef.Alias s w name) t next kept e = alias_right s w name t ne
 typedef_right (typedef.Enum s xs name classes) t next kept e = enum_right s name xs t next kept e
 typedef_right (typedef.Struct s fs name classes) t next kept e = struct_right s name fs t next kept e
 
-pub item_right : (i : Item) (t next : Types) → Kept t → types_behind i t ≡ Ok next → Steps t next
+pub item_right : (i : Item) (t next : Types) → Kept t → types_after i t ≡ Ok next → Steps t next
 item_right (item.Typedef s d) t next kept e = typedef_right d t next kept e
 item_right (item.Interface s x) t next kept e = interface_right x t next kept e
 item_right (item.Import s x) t next kept e = stays t next kept e

@@ -1,4 +1,4 @@
--- What a module may name stands in the world: the types that are written, and the headers of modules.
+-- What a module may name is in the world: the types that are written, and the headers of modules.
 use Rattle.std.proofs.Common.{◌≡◌, ◌∙◌, ℕ, Bool, true, false, cond, List, [], ◌∷◌, length, Option, Some, None, refl, sym, subst, arith}
 use Rattle.std.specs.Prelude.{nat_lt, slice_get, codes}
 use Rattle.std.specs.Str.{bytes_eq}
@@ -25,10 +25,10 @@ use Rattle.bsv_typing.proofs.Bound.{taken, tested_step}
 use Rattle.bsv_typing.proofs.RightOperands.{strictly}
 use Rattle.bsv_typing.proofs.RightGiven.{bits_value}
 use Rattle.bsv_statements.proofs.RightStatements.{value_slot_right}
-use Rattle.bsv_modules.specs.Modules.{Header, Site}
+use Rattle.bsv_modules.specs.Modules.{Header, ModuleContext}
 
--- what a module may name stands in the world
-pub record FitsSite (site : Site) (w : World) (headers : List rules.Header) : Type 0 where
+-- what a module may name is in the world
+pub record FitsSite (site : ModuleContext) (w : World) (headers : List rules.Header) : Type 0 where
   pub world : FitsWorld site.env w
   pub limits : site.types.limits ≡ strictly w
   pub types : (name : List ℕ) (k : Kind) → site.types.named name ≡ Some k → slot_right w.shapes (one k) ≡ true
@@ -108,6 +108,6 @@ module _ (w : World) (named : List ℕ → Option Kind) (right : shapes_right w.
       step_right y k (sym (fold_out-WrittenType Argument (Option Kind) argument_step (written_step names) t) ∙ e)
 
 -- a type that is written is one of values or of instances
-pub written_right : (site : Site) (w : World) (headers : List rules.Header) → FitsSite site w headers → (t : WrittenType) (k : Kind) → written site.types t ≡ Some k → slot_right w.shapes (one k) ≡ true
+pub written_right : (site : ModuleContext) (w : World) (headers : List rules.Header) → FitsSite site w headers → (t : WrittenType) (k : Kind) → written site.types t ≡ Some k → slot_right w.shapes (one k) ≡ true
 written_right site w headers fits t k e =
     strict_right w site.types.named fits.world.right fits.types t k (subst (λ g. written (record { limits = g; named = site.types.named }) t ≡ Some k) fits.limits e)

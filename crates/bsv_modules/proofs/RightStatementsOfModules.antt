@@ -5,13 +5,13 @@ use Rattle.bsv_ast.specs.declared.modules.ModuleStmt.TheOpen.{ModuleStmt-F}
 use Rattle.bsv_ast.specs.declared.modules.ModuleBranch.{ModuleBranch as WrittenBranch, roll-ModuleBranch, fold-ModuleBranch, fold-roll-ModuleBranch}
 use Rattle.bsv_types.specs.Expressions.{World}
 use Rattle.bsv_types.specs.Modules as rules
-use Rattle.bsv_modules.specs.Modules.{Site, Run, Arm, stmt_step, arm_step, nested, direct_step, direct}
+use Rattle.bsv_modules.specs.Modules.{ModuleContext, Run, Arm, stmt_step, arm_step, nested, direct_step, direct}
 use Rattle.bsv_modules.proofs.RightSites.{FitsSite}
 use Rattle.bsv_modules.proofs.RightStates.{GoodRun}
 use Rattle.bsv_modules.proofs.RightLeaves.{instance_good, array_good, place_good, declare_good, assign_good, rule_good, method_good}
 use Rattle.bsv_modules.proofs.RightNested.{EachRun, EachArm, block_good, if_good, for_good}
 
-module _ (site : Site) (w : World) (headers : List rules.Header) (fits : FitsSite site w headers) where
+module _ (site : ModuleContext) (w : World) (headers : List rules.Header) (fits : FitsSite site w headers) where
   abbrev arm_in : WrittenBranch → Arm
   arm_in = fold-ModuleBranch Run Arm (stmt_step site) arm_step
 

@@ -1,4 +1,4 @@
--- What stood in a module stands in it later, and statements that define a variable or nothing are in order.
+-- What was in a module is in it later, and statements that define a variable or nothing are in order.
 use Rattle.std.proofs.Common.{◌≡◌, ◌∙◌, ℕ, zero, suc, true, List, [], ◌∷◌, ◌++◌, Option, Some, None, Ok, refl, sym, ap, subst}
 use Rattle.std.specs.Prelude.{slice_get, slice_set}
 use Rattle.std.proofs.lemmas.Option.{same_Some}
@@ -32,7 +32,7 @@ set_kept (x ∷ ms) zero (suc k) m old free is = is
 set_kept (x ∷ ms) (suc n) zero m old free is = is
 set_kept (x ∷ ms) (suc n) (suc k) m old free is = set_kept ms n k m old free is
 
--- what stands in the state stands later
+-- what is in the state stands later
 pub record Later (rs : List Rule) (ms : List (Option Method)) (last : List Rule) (ends : List Method) : Type 0 where
   pub rules : (n : ℕ) (r : Rule) → slice_get rs n ≡ Some r → slice_get last n ≡ Some r
   pub methods : (n : ℕ) (m : Method) → slice_get ms n ≡ Some (Some m) → slice_get ends n ≡ Some m
@@ -46,7 +46,7 @@ module _ (w : World) (headers : List rules.Header) (wanted : List Signature) whe
   run_in rs ms = rules.module_stmt_run (typed_site w headers wanted rs ms)
 
   -- what a statement is typed as is in order in the frame of the scopes before it, and gives that of the scopes
-  -- behind it, whatever rules and methods stand later
+  -- after it, whatever rules and methods stand later
   pub record Ran (st : State) (r : State × ModuleStmt) : Type 0 where
     pub right : (rs : List Rule) (ms : List Method) → LaterThan r.0 rs ms → run_in rs ms r.1 (frame_of st.scopes) ≡ Some (frame_of r.0.scopes)
     pub earlier : (rs : List Rule) (ms : List Method) → LaterThan r.0 rs ms → LaterThan st rs ms

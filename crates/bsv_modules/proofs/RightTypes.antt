@@ -162,7 +162,7 @@ name_added name v es next e = by (is_defined name es) refl e where
   by true is e = absurd cc
   by false is e = (is, same_Some (with_name name v es) next e)
 
--- the types behind one more name
+-- the types after one more name
 pub types_with : (s : Shapes) (name : List ℕ) (k : Kind) (es : Entries Kind) → ((n : List ℕ) (j : Kind) → found n es ≡ Some j → slot_right s (one j) ≡ true) → slot_right s (one k) ≡ true → (n : List ℕ) (j : Kind) → found n (with_name name k es) ≡ Some j → slot_right s (one j) ≡ true
 types_with s name k es all right n j e =
     elim (found_more n name k j es e) [

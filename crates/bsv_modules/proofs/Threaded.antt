@@ -1,4 +1,4 @@
--- Lists that are made item by item, with the state behind the last item.
+-- Lists that are made item by item, with the state after the last item.
 use Rattle.std.proofs.Common.{◌≡◌, sym, List, [], ◌∷◌, ◌++◌, Ok, Err, refl, ap, append_assoc, append-nil}
 use Rattle.bsv_statements.specs.Bodies.{Or, ◌>=>◌}
 use Rattle.bsv_modules.specs.Modules.{State}

@@ -13,7 +13,7 @@ use Rattle.bsv_context.specs.declared.context.Context.{Context}
 use Rattle.bsv_context.specs.Seen as typing
 use Rattle.bsv_statements.specs.SeenBodies.{fixed}
 use Rattle.bsv_modules.specs.declared.program.Program as code_program
-use Rattle.bsv_modules.specs.Modules.{Header, Site}
+use Rattle.bsv_modules.specs.Modules.{Header, ModuleContext}
 use Rattle.bsv_modules.specs.Programs as spec
 use Rattle.bsv_modules.specs.Seen.{seen_by, types_of, program_of, module_named, function_seen, module_seen}
 
@@ -64,7 +64,7 @@ module _ {V W : Type 0} (view : V → W) where
 abbrev made_env : Limits → (List ℕ → Option (ℕ × ℕ)) → (List ℕ → Option ℕ) → (List ℕ → Option (ℕ × List Kind × Kind)) → Env
 made_env g l s f = record { limits = g; variable = λ name. None; function = f; label = l; structure = s }
 
-abbrev pub made_site : Env → TypeNames → (List ℕ → Option Header) → List Signature → Site
+abbrev pub made_site : Env → TypeNames → (List ℕ → Option Header) → List Signature → ModuleContext
 made_site env types modules wanted = record { env = env; types = types; modules = modules; wanted = wanted }
 
 -- the types that may be written

@@ -1,4 +1,4 @@
--- More definitions behind those that are there.
+-- More definitions after those that are there.
 use Rattle.std.specs.Prelude.{◌≡◌, List, ◌++◌}
 use Rattle.bsv_types.specs.declared.definitions.Enum.{Enum}
 use Rattle.bsv_types.specs.declared.definitions.Struct.{Struct}

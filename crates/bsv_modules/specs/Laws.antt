@@ -12,7 +12,7 @@ use Rattle.bsv_typing.specs.Laws.{slot_right, FitsWorld}
 use Rattle.bsv_modules.specs.Modules.{Header}
 use Rattle.bsv_modules.specs.Programs.{Program, env_of, module_case}
 
--- what modules may name stands in the world, and the headers of modules at their numbers
+-- what modules may name is in the world, and the headers of modules at their numbers
 pub record FitsProgram (p : Program) (w : World) (headers : List typed.Header) : Type 0 where
   pub world : FitsWorld (env_of p (length p.functions)) w
   -- a name of a type stands for a type of values or of instances

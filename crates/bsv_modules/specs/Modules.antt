@@ -1,5 +1,5 @@
 -- The typing of modules: their statements, instances, rules and methods (Bluespec reference guide, "Module
--- definitions"). A fault stands at the statement, the rule or the method that it is in.
+-- definitions"). A fault is at the statement, the rule or the method that it is in.
 use Rattle.std.specs.Prelude.{ℕ, Bool, true, false, ◌&&◌, List, [], ◌∷◌, ◌++◌, map, length, slice_get, slice_set, replicate, Option, Some, None, Ok, Err, codes, if◌then◌else◌}
 use Rattle.std.specs.List.{list_all}
 use Rattle.std.specs.Option.{option_or}
@@ -67,7 +67,7 @@ pub record Header : Type 0 where
   pub interface : Kind
 
 -- what a module may name
-pub record Site : Type 0 where
+pub record ModuleContext : Type 0 where
   pub env : Env
   pub types : TypeNames
   pub modules : List ℕ → Option Header
@@ -91,7 +91,7 @@ abbrev pub scoped : State → Scopes → State
 scoped st ss = record st { scopes = ss }
 
 -- module bodies are no actions
-abbrev pub task : Site → Task
+abbrev pub task : ModuleContext → Task
 task site = record { env = site.env; types = site.types; acts = false; result = None; base = 0 }
 
 -- ---- makers
@@ -99,13 +99,13 @@ task site = record { env = site.env; types = site.types; acts = false; result = 
 abbrev pub if_instance_of : Kind → Instance → Option Argument
 if_instance_of k i = if same_kind i.kind k then Some (argument.Instance (place_of i)) else None
 
--- an argument of this type: a value, or an instance that stands in no brackets
-abbrev pub handed : Site → Scopes → Written → Kind → Option Argument
+-- an argument of this type: a value, or an instance that is in no brackets
+abbrev pub handed : ModuleContext → Scopes → Written → Kind → Option Argument
 handed site ss e k =
     if is_interface k then (instance_named (term (with_scopes site.env ss) e) >>= if_instance_of k)
     else (typed (with_scopes site.env ss) e (Some k) >>= λ m. Some (argument.Value m.expr))
 
-abbrev pub all_handed : Site → Scopes → List Written → List Kind → Option (List Argument)
+abbrev pub all_handed : ModuleContext → Scopes → List Written → List Kind → Option (List Argument)
 all_handed site ss [] [] = Some []
 all_handed site ss (e ∷ es) (k ∷ ks) = handed site ss e k >>= λ x. all_handed site ss es ks >>= λ xs. Some (x ∷ xs)
 all_handed site ss _ _ = None
@@ -124,26 +124,26 @@ abbrev pub module_params : Header → Kind → Option (List Kind)
 module_params h k = if same_kind h.interface k then Some h.params else None
 
 -- what the given maker makes an instance of this interface from
-abbrev pub given_arguments : Site → Scopes → GivenMaker → List Written → Kind → Option (List Argument)
+abbrev pub given_arguments : ModuleContext → Scopes → GivenMaker → List Written → Kind → Option (List Argument)
 given_arguments site ss g xs k = given_params g k >>= all_handed site ss xs
 
 -- what the module makes an instance of this interface from
-abbrev pub module_arguments : Site → Scopes → Header → List Written → Kind → Option (List Argument)
+abbrev pub module_arguments : ModuleContext → Scopes → Header → List Written → Kind → Option (List Argument)
 module_arguments site ss h xs k = module_params h k >>= all_handed site ss xs
 
 -- what makes an instance of this interface
 abbrev pub make_by : Maker → Option (List Argument) → Option Make
 make_by m xs = xs >>= λ arguments. Some (made_by m arguments)
 
-abbrev pub module_make : Site → Scopes → Option Header → List Written → Kind → Option Make
+abbrev pub module_make : ModuleContext → Scopes → Option Header → List Written → Kind → Option Make
 module_make site ss None xs k = None
 module_make site ss (Some h) xs k = make_by (maker.Module h.number) (module_arguments site ss h xs k)
 
-abbrev pub make_in : Site → Scopes → Option GivenMaker → Option Header → List Written → Kind → Option Make
+abbrev pub make_in : ModuleContext → Scopes → Option GivenMaker → Option Header → List Written → Kind → Option Make
 make_in site ss (Some g) h xs k = make_by (maker.Given g) (given_arguments site ss g xs k)
 make_in site ss None h xs k = module_make site ss h xs k
 
-abbrev pub make_at : Site → Scopes → Span → WrittenMake → Kind → Or Make
+abbrev pub make_at : ModuleContext → Scopes → Span → WrittenMake → Kind → Or Make
 make_at site ss s m k = at s (make_in site ss (given_maker m.maker.name) (site.modules m.maker.name) m.arguments k)
 
 -- ---- bodies of rules, methods and functions
@@ -151,7 +151,7 @@ make_at site ss s m k = at s (make_in site ss (given_maker m.maker.name) (site.m
 abbrev pub stmts_in : Task → Scopes → List InnerStmt → Or (Scopes × List Stmt)
 stmts_in t ss xs = all_runs (map (stmt_run t) xs) ss
 
--- a body, and the scopes behind it
+-- a body, and the scopes after it
 abbrev pub InBody : Type 0
 InBody = Scopes × Body
 
@@ -193,19 +193,19 @@ abbrev pub rule_made : WrittenRule → List Attribute → Option Expr → List S
 rule_made r attributes test xs = record { name = r.name.name; attributes = attributes; condition = test; body = xs }
 
 -- the statements of a rule, in a scope of their own
-abbrev pub rule_body : Site → List InnerStmt → Scopes → Or (Scopes × List Stmt)
+abbrev pub rule_body : ModuleContext → List InnerStmt → Scopes → Or (Scopes × List Stmt)
 rule_body site xs ss = stmts_in (task_of site.env site.types action (in_scope ss)) (opened ss) xs >=> λ r. Ok (closed r.0, r.1)
 
 abbrev pub with_rule : State → Scopes → Rule → State
 with_rule st ss r = record st { scopes = ss; rules = st.rules ++ r ∷ [] }
 
--- a rule whole, and the scopes behind it
-abbrev pub rule_at : Site → Span → WrittenRule → Scopes → Or (Scopes × Rule)
+-- a rule whole, and the scopes after it
+abbrev pub rule_at : ModuleContext → Span → WrittenRule → Scopes → Or (Scopes × Rule)
 rule_at site s r ss =
     asked s owner.Rule r.attributes >=> λ attributes. sure s (is_lower r.name.name) true >=> λ named. guard (task site) s ss r.condition >=> λ test.
     rule_body site r.body ss >=> λ b. Ok (b.0, rule_made r attributes test b.1)
 
-abbrev pub rule_case : Site → Span → WrittenRule → Run
+abbrev pub rule_case : ModuleContext → Span → WrittenRule → Run
 rule_case site s r st = rule_at site s r st.scopes >=> λ x. done (with_rule st x.0 x.1) (RuleAt (length st.rules))
 
 abbrev pub param : List ℕ → Kind → Param
@@ -244,7 +244,7 @@ abbrev pub any_kind : Kind → Bool
 any_kind k = true
 
 -- a method that the interface wants has the same types
-abbrev pub method_header : Site → Span → WrittenMethod → Signature → Or (List Param × Effect)
+abbrev pub method_header : ModuleContext → Span → WrittenMethod → Signature → Or (List Param × Effect)
 method_header site s m wanted =
     params_at site.types any_kind s m.params >=> λ ps. sure s (same_kinds (param_kinds ps) wanted.params && are_named ps) true >=> λ same.
     at s (written_effect site.types m.result) >=> λ e. sure s (same_effect e wanted.effect) (ps, e)
@@ -253,22 +253,22 @@ abbrev pub method_made : WrittenMethod → List Param → Effect → Option Expr
 method_made m ps e test b = record { name = m.name.name; params = ps; result = method_result e; condition = test; body = b }
 
 -- the body of a method, in the scope of its parameters
-abbrev pub method_body : Site → Span → List Param → Effect → WrittenBody → Scopes → Or InBody
+abbrev pub method_body : ModuleContext → Span → List Param → Effect → WrittenBody → Scopes → Or InBody
 method_body site s ps e b ss = at s (with_params ps (opened ss)) >=> λ inner. body_of site.env site.types s (in_scope ss) inner e b >=> λ r. Ok (closed r.0, r.1)
 
 -- the method of this name that the interface wants, and that does not stand yet
-abbrev pub wanted_method : Site → Span → List ℕ → State → Or (ℕ × Signature)
+abbrev pub wanted_method : ModuleContext → Span → List ℕ → State → Or (ℕ × Signature)
 wanted_method site s name st = at s (method_from 0 name site.wanted) >=> λ w. sure s (is_free w.0 st.methods) w
 
 abbrev pub with_method : State → Scopes → ℕ → Method → State
 with_method st ss number m = record st { scopes = ss; methods = slice_set st.methods number (Some m) }
 
--- a method whole, and the scopes behind it; its arguments are not in scope in its condition
-abbrev pub method_at : Site → Span → WrittenMethod → Signature → Scopes → Or (Scopes × Method)
+-- a method whole, and the scopes after it; its arguments are not in scope in its condition
+abbrev pub method_at : ModuleContext → Span → WrittenMethod → Signature → Scopes → Or (Scopes × Method)
 method_at site s m wanted ss =
     method_header site s m wanted >=> λ h. guard (task site) s ss m.condition >=> λ test. method_body site s h.0 h.1 m.body ss >=> λ b. Ok (b.0, method_made m h.0 h.1 test b.1)
 
-abbrev pub method_case : Site → Span → WrittenMethod → Run
+abbrev pub method_case : ModuleContext → Span → WrittenMethod → Run
 method_case site s m st = wanted_method site s m.name.name st >=> λ w. method_at site s m w.1 st.scopes >=> λ x. done (with_method st x.0 w.0 x.1) (MethodAt w.0)
 
 -- ---- statements
@@ -294,8 +294,8 @@ pub record Arm : Type 0 where
   pub condition : Written
   pub run : Run
 
--- the conditions of an `if` stand where it stands, so they come before what is in its arms
-abbrev pub conditions : Site → Scopes → Span → List Arm → Or (List Expr)
+-- the conditions of an `if` are where it stands, so they come before what is in its arms
+abbrev pub conditions : ModuleContext → Scopes → Span → List Arm → Or (List Expr)
 conditions site ss s [] = Ok []
 conditions site ss s (x ∷ xs) = of_kind (task site) ss s x.condition bool >=> λ m. conditions site ss s xs >=> λ ms. Ok (m ∷ ms)
 
@@ -310,14 +310,14 @@ abbrev pub last_arm : Option Run → State → Or (State × Option ModuleStmt)
 last_arm None st = Ok (st, None)
 last_arm (Some x) st = inside x st >=> λ r. Ok (r.0, Some r.1)
 
-abbrev pub if_case : Site → Span → List Arm → Option Run → Run
+abbrev pub if_case : ModuleContext → Span → List Arm → Option Run → Run
 if_case site s xs otherwise st = conditions site st.scopes s xs >=> λ ms. arms ms xs st >=> λ bs. last_arm otherwise bs.0 >=> λ o. done o.0 (If bs.1 o.1)
 
 abbrev pub block_case : List Run → Run
 block_case xs st = all_in xs (scoped st (opened st.scopes)) >=> λ r. done (scoped r.0 (closed r.0.scopes)) (Block r.1)
 
 -- the interface of an instance that is declared
-abbrev pub interface_at : Site → Span → WrittenType → Or Kind
+abbrev pub interface_at : ModuleContext → Span → WrittenType → Or Kind
 interface_at site s t = at s (written site.types t) >=> λ k. sure s (is_interface k) k
 
 abbrev pub lower_name : Span → List ℕ → Or (List ℕ)
@@ -327,38 +327,38 @@ lower_name s name = sure s (is_lower name) name
 abbrev pub with_slot : Span → List ℕ → Slot → State → Or State
 with_slot s name slot st = at s (with_variable name slot st.scopes) >=> λ ss. Ok (scoped st ss)
 
-abbrev pub instance_case : Site → Span → WrittenType → List ℕ → WrittenMake → Run
+abbrev pub instance_case : ModuleContext → Span → WrittenType → List ℕ → WrittenMake → Run
 instance_case site s t name m st =
     interface_at site s t >=> λ k. make_at site st.scopes s m k >=> λ made. lower_name s name >=> λ own.
     with_slot s name (one k) st >=> λ next. done next (InstanceAt (type_of k) own made)
 
 -- how many instances an array has
-unfoldable pub count_at : Site → Span → Scopes → Written → Or Expr
+unfoldable pub count_at : ModuleContext → Span → Scopes → Written → Or Expr
 count_at site s ss e = of_kind (task site) ss s e integer
 
-abbrev pub array_case : Site → Span → WrittenType → List ℕ → Written → Run
+abbrev pub array_case : ModuleContext → Span → WrittenType → List ℕ → Written → Run
 array_case site s t name e st =
     interface_at site s t >=> λ k. count_at site s st.scopes e >=> λ n. lower_name s name >=> λ own.
     with_slot s name (many k) st >=> λ next. done next (Array (type_of k) own n)
 
-abbrev pub place_case : Site → Span → List ℕ → Written → WrittenMake → Run
+abbrev pub place_case : ModuleContext → Span → List ℕ → Written → WrittenMake → Run
 place_case site s name e m st =
     of_kind (task site) st.scopes s e integer >=> λ i. at s (array_named (variable_in st.scopes name)) >=> λ a. make_at site st.scopes s m a.1 >=> λ made.
     done st (Place a.0 i made)
 
-abbrev pub declare_case : Site → Span → InnerDeclaration → Run
+abbrev pub declare_case : ModuleContext → Span → InnerDeclaration → Run
 declare_case site s d st =
     declared_kind (task site) s d.declared >=> λ want. at s (check (task site) st.scopes d.value want) >=> λ m. lower_name s d.name.name >=> λ own.
     with_slot s d.name.name (one m.kind) st >=> λ next. done next (Declare (type_of m.kind) own m.expr)
 
-abbrev pub assign_case : Site → Span → List ℕ → Written → Run
+abbrev pub assign_case : ModuleContext → Span → List ℕ → Written → Run
 assign_case site s name e st = at s (assignable (task site) st.scopes name) >=> λ v. of_kind (task site) st.scopes s e v.1 >=> λ m. done st (Assign v.0 m)
 
-abbrev pub for_case : Site → Span → InnerHead → Run → Run
+abbrev pub for_case : ModuleContext → Span → InnerHead → Run → Run
 for_case site s h x st = in_head (task site) s h st.scopes >=> λ l. x (scoped st l.0) >=> λ r. done (scoped r.0 (closed r.0.scopes)) (For l.1 r.1)
 
 -- a statement in a block, a branch or a loop: there no method stands
-abbrev pub stmt_step : Site → ModuleStmt-F Run Arm → Run
+abbrev pub stmt_step : ModuleContext → ModuleStmt-F Run Arm → Run
 stmt_step site (ModuleStmt-F.Instance s t name m) = instance_case site s t name.name m
 stmt_step site (ModuleStmt-F.Array s t name e) = array_case site s t name.name e
 stmt_step site (ModuleStmt-F.Place s name e m) = place_case site s name.name e m
@@ -373,18 +373,18 @@ stmt_step site (ModuleStmt-F.Method s m) = λ st. Err s
 abbrev pub arm_step : ModuleBranch-F Run Arm → Arm
 arm_step b = record { condition = b.condition; run = b.arm }
 
-abbrev pub nested : Site → WrittenStmt → Run
+abbrev pub nested : ModuleContext → WrittenStmt → Run
 nested site = fold-ModuleStmt Run Arm (stmt_step site) arm_step
 
 -- a statement that stands directly in the body
-abbrev pub direct_step : Site → Run → ModuleStmt-F WrittenStmt WrittenBranch → Run
+abbrev pub direct_step : ModuleContext → Run → ModuleStmt-F WrittenStmt WrittenBranch → Run
 direct_step site x (ModuleStmt-F.Method s m) = method_case site s m
 direct_step site x _ = x
 
-abbrev pub direct : Site → WrittenStmt → Run
+abbrev pub direct : ModuleContext → WrittenStmt → Run
 direct site x = direct_step site (nested site x) (out-ModuleStmt x)
 
--- one list behind the other
+-- one list after the other
 abbrev pub together : List (List (List ℕ)) → List (List ℕ)
 together [] = []
 together (xs ∷ xss) = xs ++ together xss
@@ -407,7 +407,7 @@ stmt_names = fold-ModuleStmt (List (List ℕ)) (List (List ℕ)) names_step (λ 
 abbrev pub branch_names : WrittenBranch → List (List ℕ)
 branch_names = fold-ModuleBranch (List (List ℕ)) (List (List ℕ)) names_step (λ b. b.arm)
 
--- the names of the methods that stand anywhere in the body; one that stands in a block has a fault of its own
+-- the names of the methods that stand anywhere in the body; one that is in a block has a fault of its own
 abbrev pub method_names : List WrittenStmt → List (List ℕ)
 method_names xs = together (map stmt_names xs)
 
@@ -420,6 +420,6 @@ abbrev pub all_marked : List Signature → List (List ℕ) → List Bool → Lis
 all_marked wanted [] bs = bs
 all_marked wanted (name ∷ names) bs = all_marked wanted names (marked (method_from 0 name wanted) bs)
 
--- each method that is wanted stands in the body
+-- each method that is wanted is in the body
 abbrev pub defines_all : List Signature → List WrittenStmt → Bool
 defines_all wanted xs = list_all (λ b. b) (all_marked wanted (method_names xs) (replicate (length wanted) false))

@@ -43,7 +43,7 @@ use Rattle.bsv_types.specs.Kinds.{type_of}
 use Rattle.bsv_context.specs.Env.{Env, Limits, has_bits, is_typed_value, structure_of, in_reach}
 use Rattle.bsv_context.specs.Written.{TypeNames, written, written_effect}
 use Rattle.bsv_statements.specs.Bodies.{Or, ◌>=>◌, at, sure, Scopes}
-use Rattle.bsv_modules.specs.Modules.{Header, Site, State, params_at, with_params, are_named, method_result, body_of, asked, all_in, direct, defines_all}
+use Rattle.bsv_modules.specs.Modules.{Header, ModuleContext, State, params_at, with_params, are_named, method_result, body_of, asked, all_in, direct, defines_all}
 
 -- ---- the types of a program
 
@@ -208,12 +208,12 @@ interface_case i t =
     interface_of i t >=> λ x. at i.span (with_type i.name.name (interface (length t.interfaces)) t) >=> λ next. Ok (with_interface x next)
 
 -- an item defines types, each by the ones before it
-abbrev pub types_behind : Item → Types → Or Types
-types_behind (item.Typedef s d) t = typedef_case d t
-types_behind (item.Interface s i) t = interface_case i t
-types_behind (item.Import s x) t = Ok t
-types_behind (item.Function s x) t = Ok t
-types_behind (item.Module s x) t = Ok t
+abbrev pub types_after : Item → Types → Or Types
+types_after (item.Typedef s d) t = typedef_case d t
+types_after (item.Interface s i) t = interface_case i t
+types_after (item.Import s x) t = Ok t
+types_after (item.Function s x) t = Ok t
+types_after (item.Module s x) t = Ok t
 
 -- ---- functions and modules
 
@@ -302,7 +302,7 @@ abbrev pub with_module : Program → WrittenModule → Or Program
 with_module p m = module_entry p m >=> λ e. at m.span (added m.name.name e p.modules) >=> λ modules. Ok (record p { modules = modules })
 
 -- what a module may name, which calls functions with a number below this one
-unfoldable pub site_at : Program → ℕ → Kind → Site
+unfoldable pub site_at : Program → ℕ → Kind → ModuleContext
 site_at p callable k = record {
   env = env_of p callable;
   types = type_names p.types;
@@ -311,7 +311,7 @@ site_at p callable k = record {
 }
 
 -- a module may call all functions
-abbrev pub site_of : Program → Kind → Site
+abbrev pub site_of : Program → Kind → ModuleContext
 site_of p k = site_at p (length p.functions) k
 
 abbrev pub is_module : Program → List ℕ → ℕ → Bool
@@ -334,15 +334,15 @@ module_made m attributes h parts =
     record { name = m.name.name; attributes = attributes; params = h.0; interface = type_of h.1; rules = parts.0; methods = parts.1; body = parts.2 }
 
 -- nothing of the module is typed yet
-abbrev pub opening_state : Site → Scopes → State
+abbrev pub opening_state : ModuleContext → Scopes → State
 opening_state site ss = record { scopes = ss; rules = []; methods = no_methods site.wanted }
 
 -- the statements of a module; it defines each method that is wanted
-unfoldable pub module_body : Site → WrittenModule → Scopes → Or (State × List ModuleStmt)
+unfoldable pub module_body : ModuleContext → WrittenModule → Scopes → Or (State × List ModuleStmt)
 module_body site m ss = sure m.span (defines_all site.wanted m.body) (opening_state site ss) >=> all_in (map (direct site) m.body)
 
 -- in the scope of its parameters
-unfoldable pub module_parts : Site → WrittenModule → List Param → Or Parts
+unfoldable pub module_parts : ModuleContext → WrittenModule → List Param → Or Parts
 module_parts site m ps = param_scopes m.span ps >=> λ inner. module_body site m inner >=> λ r. all_there m.span r.0.methods >=> λ ms. Ok (r.0.rules, ms, r.1)
 
 -- the module of this number

@@ -22,11 +22,11 @@ use Rattle.bsv_statements.specs.declared.fail.BodyFail.TheVariants as body_fail
 use Rattle.bsv_modules.specs.declared.named.SeenNames as code_names
 use Rattle.bsv_modules.specs.declared.program.Program as code_program
 use Rattle.bsv_modules.specs.declared.site.Header as code_header
-use Rattle.bsv_modules.specs.declared.site.Site as code_site
+use Rattle.bsv_modules.specs.declared.site.ModuleContext as code_site
 use Rattle.bsv_modules.specs.declared.site.State as code_state
 use Rattle.bsv_modules.specs.declared.params.Allowed.{Allowed}
 use Rattle.bsv_modules.specs.declared.params.Allowed.TheVariants as allowed_types
-use Rattle.bsv_modules.specs.Modules.{Header, Site, State, Run, Arm, stmt_step, arm_step, any_kind}
+use Rattle.bsv_modules.specs.Modules.{Header, ModuleContext, State, Run, Arm, stmt_step, arm_step, any_kind}
 use Rattle.bsv_modules.specs.Programs.{Types, Program}
 
 abbrev pub kinds : List Ty → List Kind
@@ -44,7 +44,7 @@ headers s = map named_header (entries s)
 abbrev pub module_named : Scope code_header.Header → List ℕ → Option Header
 module_named s name = found name (headers s)
 
-abbrev pub site_of : code_site.Site → Site
+abbrev pub site_of : code_site.ModuleContext → ModuleContext
 site_of s = record {
   env = fixed s.context.now;
   types = type_names s.context.now;
@@ -63,7 +63,7 @@ allowed allowed_types.Values c = is_typed_value (limits c)
 allowed allowed_types.ValuesAndInterfaces c = λ k. is_typed_value (limits c) k || is_interface k
 
 -- the arms of an `if`
-abbrev pub arm_of : Site → ModuleBranch → Arm
+abbrev pub arm_of : ModuleContext → ModuleBranch → Arm
 arm_of site = fold-ModuleBranch Run Arm (stmt_step site) arm_step
 
 -- an array by its level, with the type of its instances

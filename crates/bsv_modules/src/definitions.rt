@@ -431,7 +431,7 @@ fn define_interface(
 /// The types that an item defines, each by the ones before it.
 pub fn define_types(alloc: Global, context: &mut Context, item: &Item) -> Result<(), BodyFail>
     ensures given { GivesAt (λ done. types_of context.new) result
-        (spec.types_behind item.now (types_of context.old)) }
+        (spec.types_after item.now (types_of context.old)) }
     ensures kept { KeptAt result (types_of context.new ≡ types_of context.old) }
 {
     match item {

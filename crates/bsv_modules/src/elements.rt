@@ -10,7 +10,7 @@ ghost use Rattle.bsv_modules.specs.Seen.{method_header_of, site_of, state_of};
 use crate::attributes::asked;
 use crate::named::params_named;
 use crate::params::{Allowed, declare_params, params};
-use crate::site::{Site, State};
+use crate::site::{ModuleContext, State};
 use bsv_ast::{
     Body as WrittenBody, Expr, Method as WrittenMethod, Rule as WrittenRule, Span, Stmt,
 };
@@ -119,7 +119,7 @@ pub(crate) fn body(
 /// The condition of a rule or a method.
 fn guard(
     alloc: Global,
-    site: &Site<'_>,
+    site: &ModuleContext<'_>,
     scopes: &Scopes<Variable>,
     span: Span,
     condition: &Option<Expr>,
@@ -151,7 +151,7 @@ pub fn level(scopes: &Scopes<Variable>) -> Result<u32, BodyFail>
 #[tactic(auto, using(bsv_context::proofs::Layers::closes))]
 fn rule_body(
     alloc: Global,
-    site: &Site<'_>,
+    site: &ModuleContext<'_>,
     scopes: &mut Scopes<Variable>,
     body: &[Stmt],
 ) -> Result<Items<TypedStmt>, BodyFail>
@@ -173,7 +173,7 @@ fn rule_body(
 /// A rule whole.
 fn rule_whole(
     alloc: Global,
-    site: &Site<'_>,
+    site: &ModuleContext<'_>,
     scopes: &mut Scopes<Variable>,
     span: Span,
     written: &WrittenRule,
@@ -200,7 +200,7 @@ fn rule_whole(
 /// A rule.
 pub(crate) fn rule(
     alloc: Global,
-    site: &Site<'_>,
+    site: &ModuleContext<'_>,
     state: &mut State,
     span: Span,
     written: &WrittenRule,
@@ -217,7 +217,7 @@ pub(crate) fn rule(
 /// The parameters of a method and what it does and gives, which are those that the interface wants.
 pub fn method_header(
     alloc: Global,
-    site: &Site<'_>,
+    site: &ModuleContext<'_>,
     span: Span,
     written: &WrittenMethod,
     wanted: FoundMethod<'_>,
@@ -258,7 +258,7 @@ fn is_free(methods: &[Option<Method>], number: usize) -> bool
 #[tactic(auto, using(bsv_context::proofs::Layers::closes))]
 fn method_body(
     alloc: Global,
-    site: &Site<'_>,
+    site: &ModuleContext<'_>,
     scopes: &mut Scopes<Variable>,
     span: Span,
     params: &[Param],
@@ -280,7 +280,7 @@ fn method_body(
 /// A method that the interface wants and that does not stand yet.
 #[tactic(auto, unfolding(bsv_context::specs::Methods::method_named))]
 pub fn wanted<'a>(
-    site: &Site<'a>,
+    site: &ModuleContext<'a>,
     state: &State,
     span: Span,
     name: &Name,
@@ -303,7 +303,7 @@ pub fn wanted<'a>(
 #[tactic(auto, using(crate::proofs::Names::results))]
 fn method_whole(
     alloc: Global,
-    site: &Site<'_>,
+    site: &ModuleContext<'_>,
     scopes: &mut Scopes<Variable>,
     span: Span,
     written: &WrittenMethod,
@@ -335,14 +335,14 @@ pub fn stand(methods: &mut Vec<Option<Method>>, number: usize, method: Method)
     requires { number < vec_len methods.old }
     ensures { methods.new.items ≡ slice_set methods.old.items number (Some method) }
 {
-    // What stood there is dropped by a call, in one step.
+    // What was there is dropped by a call, in one step.
     drop(replace(&mut methods[number], Some(method)));
 }
 
 /// A method.
 pub(crate) fn method(
     alloc: Global,
-    site: &Site<'_>,
+    site: &ModuleContext<'_>,
     state: &mut State,
     span: Span,
     written: &WrittenMethod,

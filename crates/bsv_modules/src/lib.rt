@@ -10,7 +10,7 @@
 //! of modules). `specs/Laws.antt` says what is in order of what they give, and `specs/Seen.antt` what the definitions
 //! see of the code.
 //!
-//! What is held while something may still fail stands in a `Boxed`: an early end then drops it in one step, which
+//! What is held while something may still fail is in a `Boxed`: an early end then drops it in one step, which
 //! keeps the proof of the function short.
 #![tactic(auto)]
 
@@ -33,4 +33,4 @@ pub use program::{
     Program, announce_function, announce_module, defines_all, function, function_heading, module,
     module_heading, no_methods, param_scopes,
 };
-pub use site::{Header, Site, State};
+pub use site::{Header, ModuleContext, State};

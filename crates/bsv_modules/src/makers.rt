@@ -6,7 +6,7 @@ ghost use Rattle.bsv_statements.specs.SeenBodies.{GivesAt};
 ghost use Rattle.bsv_modules.specs.Modules as spec;
 ghost use Rattle.bsv_modules.specs.Seen.{header, kinds, module_named, site_of};
 
-use crate::site::{Header, Site};
+use crate::site::{Header, ModuleContext};
 use bsv_ast::{Expr, Make as WrittenMake, Span};
 use bsv_context::{Fail, Variable, is_interface};
 use bsv_scopes::Scopes;
@@ -16,10 +16,10 @@ use bsv_typing::{handed_instance, typing};
 use std::alloc::Global;
 use std::slice;
 
-/// An argument of this type: a value, or an instance that stands in no brackets.
+/// An argument of this type: a value, or an instance that is in no brackets.
 fn handed(
     alloc: Global,
-    site: &Site<'_>,
+    site: &ModuleContext<'_>,
     scopes: &Scopes<Variable>,
     expr: &Expr,
     ty: &Ty,
@@ -46,7 +46,7 @@ fn handed(
 #[tactic(auto, using(crate::proofs::Gathered::handing))]
 fn all_handed(
     alloc: Global,
-    site: &Site<'_>,
+    site: &ModuleContext<'_>,
     scopes: &Scopes<Variable>,
     exprs: &[Expr],
     types: &[Ty],
@@ -76,7 +76,7 @@ fn all_handed(
 /// The arguments of a maker of an interface over the type.
 fn given_over(
     alloc: Global,
-    site: &Site<'_>,
+    site: &ModuleContext<'_>,
     scopes: &Scopes<Variable>,
     maker: GivenMaker,
     exprs: &[Expr],
@@ -99,7 +99,7 @@ fn given_over(
 /// What the maker that the language gives makes an instance of this interface from.
 fn given_arguments(
     alloc: Global,
-    site: &Site<'_>,
+    site: &ModuleContext<'_>,
     scopes: &Scopes<Variable>,
     maker: GivenMaker,
     exprs: &[Expr],
@@ -122,7 +122,7 @@ fn given_arguments(
 /// What the module makes an instance of this interface from.
 fn module_arguments(
     alloc: Global,
-    site: &Site<'_>,
+    site: &ModuleContext<'_>,
     scopes: &Scopes<Variable>,
     instantiated: &Header,
     exprs: &[Expr],
@@ -142,7 +142,7 @@ fn module_arguments(
 #[tactic(auto, using(crate::proofs::Names::headers))]
 fn module_make(
     alloc: Global,
-    site: &Site<'_>,
+    site: &ModuleContext<'_>,
     scopes: &Scopes<Variable>,
     make: &WrittenMake,
     ty: &Ty,
@@ -164,7 +164,7 @@ fn module_make(
 /// What makes an instance of this interface.
 pub(crate) fn make(
     alloc: Global,
-    site: &Site<'_>,
+    site: &ModuleContext<'_>,
     scopes: &Scopes<Variable>,
     span: Span,
     written: &WrittenMake,

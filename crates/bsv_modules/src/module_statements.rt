@@ -9,13 +9,13 @@ ghost use Rattle.bsv_modules.specs.Seen.{arm_of, array_of, site_of, state_of};
 
 use crate::elements::{method, rule};
 use crate::makers::make;
-use crate::site::{Site, State};
+use crate::site::{ModuleContext, State};
 use bsv_ast::{
     Boxed, Declaration, Expr, Head, Ident, Make as WrittenMake, ModuleBranch as WrittenBranch,
     ModuleStmt as WrittenStmt, Span, WrittenType,
 };
 use bsv_bits::Name;
-use bsv_context::{Made, Slot, Variable, is_interface, is_lower, written_type};
+use bsv_context::{TypedExpr, Slot, Variable, is_interface, is_lower, written_type};
 use bsv_scopes::Scopes;
 use bsv_statements::{BodyFail, Task, assignable, at, checked, declare, declared_type, head};
 use bsv_types::{Boxed as TypedBox, Expr as Typed, Items, ModuleBranch, ModuleStmt, Ty};
@@ -24,7 +24,7 @@ use std::alloc::Global;
 /// The interface of an instance that is declared.
 fn interface(
     alloc: Global,
-    site: &Site<'_>,
+    site: &ModuleContext<'_>,
     span: Span,
     written: &WrittenType,
 ) -> Result<Ty, BodyFail>
@@ -53,7 +53,7 @@ fn lower_name(alloc: Global, span: Span, name: &Ident) -> Result<Name, BodyFail>
 #[tactic(auto, using(bsv_context::proofs::TypesBack::types_back))]
 fn instance(
     alloc: Global,
-    site: &Site<'_>,
+    site: &ModuleContext<'_>,
     state: &mut State,
     span: Span,
     written: &WrittenType,
@@ -81,7 +81,7 @@ fn instance(
 #[tactic(auto, unfolding(crate::specs::Modules::count_at))]
 fn count(
     alloc: Global,
-    site: &Site<'_>,
+    site: &ModuleContext<'_>,
     scopes: &Scopes<Variable>,
     span: Span,
     written: &Expr,
@@ -96,7 +96,7 @@ fn count(
 #[tactic(auto, using(bsv_context::proofs::TypesBack::types_back))]
 fn array(
     alloc: Global,
-    site: &Site<'_>,
+    site: &ModuleContext<'_>,
     state: &mut State,
     span: Span,
     written: &WrittenType,
@@ -143,7 +143,7 @@ fn array_named(
 /// An instance at a place of an array.
 fn place(
     alloc: Global,
-    site: &Site<'_>,
+    site: &ModuleContext<'_>,
     state: &mut State,
     span: Span,
     name: &Ident,
@@ -166,7 +166,7 @@ fn place(
 #[tactic(auto, using(bsv_context::proofs::TypesBack::types_back))]
 fn variable(
     alloc: Global,
-    site: &Site<'_>,
+    site: &ModuleContext<'_>,
     state: &mut State,
     span: Span,
     declaration: &Declaration,
@@ -187,14 +187,14 @@ fn variable(
     let own = lower_name(alloc, span, &declaration.name)?;
     let slot = Slot::One(typed.get().ty.copy(alloc)?);
     declare(alloc, span, &mut state.scopes, &declaration.name.name, slot)?;
-    let Made { ty, expr } = typed.into_inner();
+    let TypedExpr { ty, expr } = typed.into_inner();
     Ok(ModuleStmt::Declare(ty, own, expr))
 }
 
 /// A value for a variable of the module.
 fn assign(
     alloc: Global,
-    site: &Site<'_>,
+    site: &ModuleContext<'_>,
     state: &mut State,
     span: Span,
     name: &Ident,
@@ -221,7 +221,7 @@ fn assign(
 #[cycle(module_statements)]
 pub fn nested(
     alloc: Global,
-    site: &Site<'_>,
+    site: &ModuleContext<'_>,
     state: &mut State,
     stmt: &WrittenStmt,
 ) -> Result<ModuleStmt, BodyFail>
@@ -257,7 +257,7 @@ pub fn nested(
 #[tactic(auto, using(crate::proofs::Threaded::threads))]
 fn all_nested(
     alloc: Global,
-    site: &Site<'_>,
+    site: &ModuleContext<'_>,
     state: &mut State,
     stmts: &[WrittenStmt],
 ) -> Result<Items<ModuleStmt>, BodyFail>
@@ -279,7 +279,7 @@ fn all_nested(
 #[tactic(auto, using(bsv_context::proofs::Layers::closes))]
 fn inside(
     alloc: Global,
-    site: &Site<'_>,
+    site: &ModuleContext<'_>,
     state: &mut State,
     stmt: &WrittenStmt,
 ) -> Result<ModuleStmt, BodyFail>
@@ -297,7 +297,7 @@ fn inside(
 #[tactic(auto, using(bsv_context::proofs::Layers::closes))]
 fn block(
     alloc: Global,
-    site: &Site<'_>,
+    site: &ModuleContext<'_>,
     state: &mut State,
     stmts: &[WrittenStmt],
 ) -> Result<ModuleStmt, BodyFail>
@@ -313,7 +313,7 @@ fn block(
 /// The condition in front of an arm of an `if`.
 fn condition(
     alloc: Global,
-    site: &Site<'_>,
+    site: &ModuleContext<'_>,
     scopes: &Scopes<Variable>,
     span: Span,
     arm: &WrittenBranch,
@@ -328,7 +328,7 @@ fn condition(
 #[tactic(auto, using(bsv_statements::proofs::Fronts::lists))]
 fn conditions(
     alloc: Global,
-    site: &Site<'_>,
+    site: &ModuleContext<'_>,
     scopes: &Scopes<Variable>,
     span: Span,
     arms: &[WrittenBranch],
@@ -349,9 +349,9 @@ fn conditions(
 
 /// What an arm of an `if` carries out.
 #[cycle(module_statements)]
-fn behind_condition(
+fn after_condition(
     alloc: Global,
-    site: &Site<'_>,
+    site: &ModuleContext<'_>,
     state: &mut State,
     arm: &WrittenBranch,
 ) -> Result<ModuleStmt, BodyFail>
@@ -361,12 +361,12 @@ fn behind_condition(
     inside(alloc, site, state, &arm.arm)
 }
 
-/// The arms of an `if` behind their conditions.
+/// The arms of an `if` after their conditions.
 #[cycle(module_statements)]
 #[tactic(auto, using(crate::proofs::Threaded::threads))]
 fn arms(
     alloc: Global,
-    site: &Site<'_>,
+    site: &ModuleContext<'_>,
     state: &mut State,
     tests: Vec<Typed>,
     written: &[WrittenBranch],
@@ -382,7 +382,7 @@ fn arms(
         let Some((branch, after)) = rest.split_first() else {
             return Ok(found);
         };
-        let arm = behind_condition(alloc, site, state, branch)?;
+        let arm = after_condition(alloc, site, state, branch)?;
         found.push(ModuleBranch {
             condition: condition.into_inner(),
             arm,
@@ -396,7 +396,7 @@ fn arms(
 #[cycle(module_statements)]
 fn last_arm(
     alloc: Global,
-    site: &Site<'_>,
+    site: &ModuleContext<'_>,
     state: &mut State,
     otherwise: &Option<Boxed<WrittenStmt>>,
 ) -> Result<Option<TypedBox<ModuleStmt>>, BodyFail>
@@ -417,7 +417,7 @@ fn last_arm(
 #[cycle(module_statements)]
 fn choice(
     alloc: Global,
-    site: &Site<'_>,
+    site: &ModuleContext<'_>,
     state: &mut State,
     span: Span,
     written: &[WrittenBranch],
@@ -438,7 +438,7 @@ fn choice(
 #[tactic(auto, using(bsv_context::proofs::Layers::closes))]
 fn repeat(
     alloc: Global,
-    site: &Site<'_>,
+    site: &ModuleContext<'_>,
     state: &mut State,
     span: Span,
     heading: &Head,
@@ -464,7 +464,7 @@ fn repeat(
 /// A statement that stands directly in the body of the module.
 pub(crate) fn direct(
     alloc: Global,
-    site: &Site<'_>,
+    site: &ModuleContext<'_>,
     state: &mut State,
     stmt: &WrittenStmt,
 ) -> Result<ModuleStmt, BodyFail>
@@ -481,7 +481,7 @@ pub(crate) fn direct(
 #[tactic(auto, using(crate::proofs::Threaded::threads))]
 pub(crate) fn all_direct(
     alloc: Global,
-    site: &Site<'_>,
+    site: &ModuleContext<'_>,
     state: &mut State,
     stmts: &[WrittenStmt],
 ) -> Result<Items<ModuleStmt>, BodyFail>

@@ -14,7 +14,7 @@ use crate::elements::body;
 use crate::module_statements::all_direct;
 use crate::named::params_named;
 use crate::params::{Allowed, declare_params, params};
-use crate::site::{Header, Site, State};
+use crate::site::{Header, ModuleContext, State};
 use bsv_ast::{
     Body as WrittenBody, Function as WrittenFunction, Module as WrittenModule,
     ModuleBranch as WrittenBranch, ModuleStmt as WrittenStmt, Param as WrittenParam, Span,
@@ -342,7 +342,7 @@ fn no_marks(alloc: Global, count: usize) -> Result<Vec<bool>, AllocError>
     Ok(marks)
 }
 
-/// The method of this number stands in the body.
+/// The method of this number is in the body.
 #[tactic(auto, using(crate::proofs::Marks::setting))]
 fn mark(marks: &mut [bool], found: Option<FoundMethod<'_>>)
     ensures { marks.new ≡ modules.marked (option_map method_of found.entry) marks.old }
@@ -502,7 +502,7 @@ fn all_there(
 #[tactic(auto, unfolding(crate::specs::Programs::module_body))]
 fn module_body(
     alloc: Global,
-    site: &Site<'_>,
+    site: &ModuleContext<'_>,
     written: &WrittenModule,
     scopes: Scopes<Variable>,
 ) -> Result<(State, Items<ModuleStmt>), BodyFail>
@@ -536,7 +536,7 @@ fn module_parts(
         (kind interface.now)) written.now params.now) }
 {
     let scopes = param_scopes(alloc, written.span, params)?;
-    let site = Site {
+    let site = ModuleContext {
         context: &program.context,
         modules: &program.modules,
         interface,

@@ -24,7 +24,7 @@ pub struct Header {
 
 /// What the statements of a module may name beside variables.
 #[derive(Clone, Copy)]
-pub struct Site<'a> {
+pub struct ModuleContext<'a> {
     pub context: &'a Context,
     pub modules: &'a Scope<Header>,
     /// The interface of the module.
@@ -41,7 +41,7 @@ pub struct State {
     pub methods: Vec<Option<Method>>,
 }
 
-impl Site<'_> {
+impl ModuleContext<'_> {
     /// An expression of this type, in a statement of the module's body.
     pub(crate) fn of_type(
         &self,

@@ -1,5 +1,5 @@
 -- The net with the next words of the registers carries the design: it tells what the net before told, and its next words
--- show the parts behind the clock.
+-- show the parts after the clock.
 use Rattle.std.proofs.Common.{◌≡◌, ◌∙◌, ◌<◌, ◌≤◌, ◌+◌, ◌⊎◌, inl, inr, ℕ, Bool, true, false, List, [], ◌∷◌, ◌++◌, Option, Some, None, is_some, refl, sym, ap, ap₂, subst, arith, length, map, drop, append-nil}
 use Rattle.std.specs.Prelude.{slice_get, nat_lt, if◌then◌else◌}
 use Rattle.std.proofs.Math.Logic.{∥∥₁_elim}
@@ -15,19 +15,19 @@ use Rattle.bsv_design.specs.declared.design.Design.{Design}
 use Rattle.bsv_design.specs.declared.kind.Kind.{Kind}
 use Rattle.bsv_design.specs.declared.kind.Kind.TheVariants.{Reg, RegU, Wire, DWire, RWire, Pulse, Plain, Pipeline, Bypass}
 use Rattle.bsv_design.specs.declared.schedule.Schedule.{Schedule}
-use Rattle.bsv_design.specs.Bodies.{Target, at}
-use Rattle.bsv_design.specs.Designs.{Blueprint, IsDesign}
-use Rattle.bsv_design.specs.Kinds.{kind_table}
-use Rattle.bsv_design.specs.Running.{or_zero}
-use Rattle.bsv_design.specs.Seen.{blueprint}
-use Rattle.bsv_design.specs.Schemes.{Scheme, Outline, Asking, Look, calls_of, design_scheme, kinds_of, given, outline, ports_of, seen}
-use Rattle.bsv_design.specs.States.{AreWordsOf, FitsKinds, part_at}
-use Rattle.bsv_design.specs.Traces.{Site, kind_at}
+use Rattle.bsv_design.specs.design.Bodies.{Target, at}
+use Rattle.bsv_design.specs.design.Designs.{DesignData, IsDesign}
+use Rattle.bsv_design.specs.tree.Kinds.{kind_table}
+use Rattle.bsv_design.specs.carrying.Running.{or_zero}
+use Rattle.bsv_design.specs.tree.Seen.{design_data}
+use Rattle.bsv_design.specs.scheme.Schemes.{Scheme, Outline, Asking, Look, calls_of, design_scheme, kinds_of, given, outline, ports_of, seen}
+use Rattle.bsv_design.specs.scheme.States.{AreWordsOf, FitsKinds, part_at}
+use Rattle.bsv_design.specs.scheme.Traces.{Site, kind_at}
 use Rattle.bsv_graph.specs.Edges.{numbers_below}
 use Rattle.bsv_graph.specs.Orders.{In}
 use Rattle.bsv_guard.specs.ElementLaws.{IsUse}
 use Rattle.bsv_guard.specs.Fitting.{HaveWidths}
-use Rattle.bsv_clock.specs.Hardware.{Cell, Given, Shows, TellsElements, TellsClock, Carries, cell, cells_of, cell_widths, inputs_of, input_widths}
+use Rattle.bsv_clock.specs.Shows.{Cell, Given, Shows, TellsElements, TellsClock, Carries, cell, cells_of, cell_widths, inputs_of, input_widths}
 use Rattle.bsv_clock.specs.Clocks.{IsClock, is_in}
 use Rattle.bsv_clock.specs.Grounds.{BelongTogether, Fit, IsLawful, IsScheduleOf, KeepsRules}
 use Rattle.bsv_clock.specs.Looks.{clock_look}
@@ -37,13 +37,13 @@ use Rattle.bsv_clock.proofs.Clocks.{clock_fed}
 use Rattle.bsv_clock.proofs.Members.{in_kept}
 use Rattle.bsv_clock.proofs.Steadily.{steady_scheme}
 use Rattle.bsv_clock.proofs.Stopping.{execution_order}
-use Rattle.bsv_net.specs.declared.circuit.Circuit.{Circuit}
+use Rattle.bsv_net.specs.declared.net_data.NetData.{NetData}
 use Rattle.bsv_net.specs.declared.net.Net.{Net}
 use Rattle.bsv_net.specs.declared.node.NetNode.{NetNode}
 use Rattle.bsv_net.specs.declared.node.NetNode.TheVariants as net
 use Rattle.bsv_net.specs.declared.node.Site.{Site as NetSite}
-use Rattle.bsv_net.specs.AtHand.{circuit}
-use Rattle.bsv_net.specs.Circuits.{IsCircuit, register_widths, words}
+use Rattle.bsv_net.specs.AtHand.{net_data}
+use Rattle.bsv_net.specs.Nets.{IsNet, register_widths, words}
 use Rattle.bsv_net.specs.Placing.{node_at}
 use Rattle.bsv_net.proofs.Grows.{Grows, grows_trans, kept}
 use Rattle.bsv_net.proofs.Solution.{satisfies, same_length, words_have}
@@ -51,16 +51,16 @@ use Rattle.bsv_ports.specs.CallSites.{or_none, all_call_sites}
 use Rattle.bsv_ports.specs.Ports.{arity_of}
 use Rattle.bsv_fire.specs.Firing as firing
 use Rattle.bsv_fire.specs.Firing.{Fires}
-use Rattle.bsv_net.specs.Hardware.{NamesNoResult, NetCarries, gives, given_at}
+use Rattle.bsv_net.specs.ShowsByNet.{NamesNoResult, NetCarries, gives, given_at}
 use Rattle.bsv_ports.specs.Starts.{register_starts}
-use Rattle.bsv_ports.proofs.FirstNodes.{part_shown, register_start, registers_before, word_behind}
+use Rattle.bsv_ports.proofs.FirstNodes.{part_shown, register_start, registers_before, word_after}
 use Rattle.bsv_net.proofs.WidthsFit.{cells_have, inputs_have}
 use Rattle.bsv_fire.proofs.Firings.{node_there}
 use Rattle.bsv_ports.proofs.Scene.{Scene, does, looks, TellsFiring, TellsSite}
 use Rattle.bsv_fire.proofs.GroundTold.{registers_within}
 use Rattle.bsv_net.proofs.Numbers.{number_at}
 use Rattle.bsv_fire.proofs.Whole.{after_is, fired_is, fires_is, look_is}
-use Rattle.bsv_mux.specs.Nexts.{IsNextCircuit, Told, next_words, renamed, told, with_registers}
+use Rattle.bsv_mux.specs.Nexts.{IsNextNet, Told, next_words, renamed, told, with_registers}
 use Rattle.bsv_mux.proofs.NextsTold.{NextsTold, nexts_grow, nexts_told, words_are}
 use Rattle.bsv_mux.proofs.Older.{Named, named, results_renamed, words_grown, words_long}
 use Rattle.bsv_graph.proofs.Below.{count_below}
@@ -68,7 +68,7 @@ use Rattle.bsv_clock.proofs.Propositions.{bits_set}
 
 -- ---- lists
 
--- ---- registers behind the nodes
+-- ---- registers after the nodes
 
 module _ (ns : List NetNode) (count : ℕ) where
   abbrev behind : List NetNode
@@ -90,8 +90,8 @@ module _ (ns : List NetNode) (count : ℕ) where
 
 -- ---- a clock
 
-module _ (b : Blueprint) (right : IsDesign b) (made : Schedule) (lawful : IsLawful (design_scheme b)) (scheduled : IsScheduleOf (design_scheme b) made)
-    (c : Circuit) (before : IsCircuit c) (promise : Fires false (design_scheme b) made c) (e : Circuit) (is : IsNextCircuit b made c e) (ordered : IsCircuit e)
+module _ (b : DesignData) (right : IsDesign b) (made : Schedule) (lawful : IsLawful (design_scheme b)) (scheduled : IsScheduleOf (design_scheme b) made)
+    (c : NetData) (before : IsNet c) (promise : Fires false (design_scheme b) made c) (e : NetData) (is : IsNextNet b made c e) (ordered : IsNet e)
     (q : Asking) (s : List Part) (ws : List Bits) (fit : Fit (design_scheme b) q s) (have : HaveWidths (cell_widths (cells_of (kinds_of b))) ws)
     (shows : Shows (kinds_of b) s ws) where
   abbrev T : Scheme
@@ -263,7 +263,7 @@ module _ (b : Blueprint) (right : IsDesign b) (made : Schedule) (lawful : IsLawf
       λ n l. ap (λ m. at vs (m + n)) (register_start (length c.nodes) (kinds_of b) i (slice_get_within (kinds_of b) i k there))
           ∙ (ap (at vs) (omega arith)
           ∙ (register_word (registers_before (kinds_of b) i + n) (omega (arith, l, long_cells, registers_within (kinds_of b) i k there))
-          ∙ sym (word_behind ws (registers_before (kinds_of b) i) n))),
+          ∙ sym (word_after ws (registers_before (kinds_of b) i) n))),
     )
 
     ends_fit : FitsKinds (kinds_of b) (end_of T made s (does scene))
@@ -335,11 +335,11 @@ elements_prop T q s fired g = hlevel (option_set bits_set, bits_set)
 told_prop : (T : Scheme) (q : Asking) (s : List Part) (fired : List ℕ) (after : List Part) (g : Given) → IsProp (TellsClock false T q s fired after g)
 told_prop T q s fired after g = hlevel (elements_prop T q s fired g, all_prop T.kinds after g.nexts)
 
-module _ (d : Design) (made : Schedule) (rules : KeepsRules (design_scheme (blueprint d))) (scheduled : IsScheduleOf (design_scheme (blueprint d)) made)
-    (c : Circuit) (before : ∥ IsCircuit c ∥₁) (promise : Fires false (design_scheme (blueprint d)) made c)
-    (e : Circuit) (is : IsNextCircuit (blueprint d) made c e) (ordered : ∥ IsCircuit e ∥₁) where
+module _ (d : Design) (made : Schedule) (rules : KeepsRules (design_scheme (design_data d))) (scheduled : IsScheduleOf (design_scheme (design_data d)) made)
+    (c : NetData) (before : ∥ IsNet c ∥₁) (promise : Fires false (design_scheme (design_data d)) made c)
+    (e : NetData) (is : IsNextNet (design_data d) made c e) (ordered : ∥ IsNet e ∥₁) where
   abbrev U : Scheme
-  U = design_scheme (blueprint d)
+  U = design_scheme (design_data d)
 
   clock_of : (q : Asking) (s : List Part) (ws : List Bits) (fired : List ℕ) (after : List Part) → Fit U q s
       → HaveWidths (cell_widths (cells_of U.kinds)) ws → Shows U.kinds s ws → IsClock false U made q s fired after
@@ -347,10 +347,10 @@ module _ (d : Design) (made : Schedule) (rules : KeepsRules (design_scheme (blue
   unfolding design_scheme
   clock_of q s ws fired after fit have shows clock =
       let prop = told_prop U q s fired after (gives e ws (inputs_of U q)) in
-      ∥∥₁_elim d.right prop (λ (right : IsDesign (blueprint d)).
-      ∥∥₁_elim before prop (λ (before_is : IsCircuit c).
-      ∥∥₁_elim ordered prop (λ (ordered_is : IsCircuit e).
-      clock_told (blueprint d) right made (lawful_design d rules) scheduled c before_is promise e is ordered_is q s ws fit have shows fired after clock)))
+      ∥∥₁_elim d.right prop (λ (right : IsDesign (design_data d)).
+      ∥∥₁_elim before prop (λ (before_is : IsNet c).
+      ∥∥₁_elim ordered prop (λ (ordered_is : IsNet e).
+      clock_told (design_data d) right made (lawful_design d rules) scheduled c before_is promise e is ordered_is q s ws fit have shows fired after clock)))
 
   cells_kept : map cell e.registers ≡ cells_of U.kinds
   cells_kept = ap (map cell) is.registers ∙ promise.registers
@@ -366,8 +366,8 @@ module _ (d : Design) (made : Schedule) (rules : KeepsRules (design_scheme (blue
   names_no_result : NamesNoResult U e
   names_no_result n o at_o gives_none =
       ap (λ (ns : List ℕ). slice_get ns n) is.results
-      ∙ (mapped_at (renamed (length c.nodes) (length (next_words (blueprint d) made c).nodes)) c.results n (length c.nodes) (promise.no_result n o at_o gives_none)
-      ∙ (ap (λ (t : Bool). Some (if t then length c.nodes else length (next_words (blueprint d) made c).nodes)) (never (length c.nodes))
+      ∙ (mapped_at (renamed (length c.nodes) (length (next_words (design_data d) made c).nodes)) c.results n (length c.nodes) (promise.no_result n o at_o gives_none)
+      ∙ (ap (λ (t : Bool). Some (if t then length c.nodes else length (next_words (design_data d) made c).nodes)) (never (length c.nodes))
       ∙ ap (λ (ns : List NetNode). Some (length ns)) (sym is.nodes)))
     where
       never : (k : ℕ) → nat_lt k k ≡ false
@@ -377,10 +377,10 @@ module _ (d : Design) (made : Schedule) (rules : KeepsRules (design_scheme (blue
           of true h = absurd (let l = ltb-true k k h in omega arith)
           of false h = refl
 
-pub net_carries : (d : Design) (made : Schedule) → KeepsRules (design_scheme (blueprint d)) → IsScheduleOf (design_scheme (blueprint d)) made
-    → (c : Circuit) → ∥ IsCircuit c ∥₁ → Fires false (design_scheme (blueprint d)) made c
-    → (n : Net) → IsNextCircuit (blueprint d) made c (circuit n) → NetCarries false (design_scheme (blueprint d)) made n
+pub net_carries : (d : Design) (made : Schedule) → KeepsRules (design_scheme (design_data d)) → IsScheduleOf (design_scheme (design_data d)) made
+    → (c : NetData) → ∥ IsNet c ∥₁ → Fires false (design_scheme (design_data d)) made c
+    → (n : Net) → IsNextNet (design_data d) made c (net_data n) → NetCarries false (design_scheme (design_data d)) made n
 net_carries d made rules scheduled c before promise n is = record {
-  words = words_carry d made rules scheduled c before promise (circuit n) is n.right;
-  no_result = names_no_result d made rules scheduled c before promise (circuit n) is n.right;
+  words = words_carry d made rules scheduled c before promise (net_data n) is n.right;
+  no_result = names_no_result d made rules scheduled c before promise (net_data n) is n.right;
 }

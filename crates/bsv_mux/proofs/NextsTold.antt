@@ -1,4 +1,4 @@
--- The next words of all parts, as they are placed, show the parts behind the clock.
+-- The next words of all parts, as they are placed, show the parts after the clock.
 use Rattle.std.proofs.Common.{◌≡◌, ◌∙◌, ◌<◌, ◌≤◌, ◌+◌, ◌⊎◌, inl, inr, ℕ, zero, suc, Bool, true, false, cond, List, [], ◌∷◌, ◌++◌, Option, Some, None, refl, sym, ap, subst, arith, length, map, append-nil, append_assoc, length-append}
 use Rattle.std.specs.Prelude.{slice_get, ◌==◌, if◌then◌else◌}
 use Rattle.std.proofs.lemmas.Bool.{cases_lt, eqb-true}
@@ -9,13 +9,13 @@ use Rattle.bsv_prim.specs.Signals.{Signals, word_of}
 use Rattle.bsv_prim.specs.Table.{Table, word_at}
 use Rattle.bsv_prim.specs.declared.part.Part.{Part}
 use Rattle.bsv_design.specs.declared.kind.Kind.{Kind}
-use Rattle.bsv_design.specs.Kinds.{kind_table, kind_laws}
-use Rattle.bsv_design.specs.Schemes.{design_scheme, kinds_of}
-use Rattle.bsv_design.specs.States.{FitsKinds, part_at}
+use Rattle.bsv_design.specs.tree.Kinds.{kind_table, kind_laws}
+use Rattle.bsv_design.specs.scheme.Schemes.{design_scheme, kinds_of}
+use Rattle.bsv_design.specs.scheme.States.{FitsKinds, part_at}
 use Rattle.bsv_graph.specs.Edges.{numbers_below}
 use Rattle.bsv_graph.specs.Orders.{In}
 use Rattle.bsv_guard.specs.ElementLaws.{IsUse}
-use Rattle.bsv_clock.specs.Hardware.{Shows}
+use Rattle.bsv_clock.specs.Shows.{Shows}
 use Rattle.bsv_clock.specs.Settling.{end_of}
 use Rattle.bsv_net.specs.declared.node.NetNode.{NetNode}
 use Rattle.bsv_net.specs.declared.wires.MethodPort.{MethodPort}

@@ -7,16 +7,16 @@ use Rattle.std.proofs.lemmas.List.{length-map}
 use Rattle.std.proofs.lemmas.Option.{slice_get_past}
 use Rattle.bsv_bits.specs.Words.{Bits}
 use Rattle.bsv_design.specs.declared.node.Node.{Node}
-use Rattle.bsv_design.specs.Bodies.{at, of_parts, values}
-use Rattle.bsv_design.specs.Relations.{no_answers}
-use Rattle.bsv_design.specs.Running.{or_zero}
+use Rattle.bsv_design.specs.design.Bodies.{at, of_parts, values}
+use Rattle.bsv_design.specs.scheme.Relations.{no_answers}
+use Rattle.bsv_design.specs.carrying.Running.{or_zero}
 use Rattle.bsv_design.proofs.Bodies as bodies
 use Rattle.bsv_guard.proofs.Lists.{holds_at_all}
 use Rattle.bsv_guard.proofs.Nodes.{grown, has_one}
-use Rattle.bsv_net.specs.declared.circuit.Circuit.{Circuit}
+use Rattle.bsv_net.specs.declared.net_data.NetData.{NetData}
 use Rattle.bsv_net.specs.declared.node.NetNode.{NetNode}
 use Rattle.bsv_net.specs.declared.node.Site.{Site as NetSite}
-use Rattle.bsv_net.specs.Circuits.{as_node, as_nodes, is_bit, is_in_order, is_node, is_site, nexts_fit, width_fits, names, words}
+use Rattle.bsv_net.specs.Nets.{as_node, as_nodes, is_bit, is_in_order, is_node, is_site, nexts_fit, width_fits, names, words}
 use Rattle.bsv_net.proofs.Grows.{Grows}
 use Rattle.bsv_ports.specs.CallSites.{or_none}
 use Rattle.bsv_mux.specs.Nexts.{renamed}
@@ -33,7 +33,7 @@ nodes_both : (n : ℕ) (xs ys : List NetNode) → as_nodes n (xs ++ ys) ≡ as_n
 nodes_both n [] ys = refl
 nodes_both n (x ∷ xs) ys = ap (λ (ns : List Node). as_node n x ∷ ns) (nodes_both n xs ys)
 
--- the words of the first nodes stand first
+-- the words of the first nodes are first
 pub words_grown : (old new : List NetNode) → Grows old new → (inputs registers : List Bits)
     → (more : List Bits) × (words new inputs registers ≡ words old inputs registers ++ more)
 unfolding words
@@ -52,7 +52,7 @@ past_is vs n l = ap or_zero (slice_get_past vs n l)
 -- ---- names
 
 -- firing, readiness and calls name nodes that have the same words
-pub record Named (vs old : List Bits) (c : Circuit) : Type 0 where
+pub record Named (vs old : List Bits) (c : NetData) : Type 0 where
   pub fires : map (at vs) c.fires ≡ map (at old) c.fires
   pub readies : map (at vs) c.readies ≡ map (at old) c.readies
   pub sites : (n k : ℕ) (s : NetSite) → slice_get (or_none (slice_get c.sites n)) k ≡ Some s
@@ -82,7 +82,7 @@ module _ (vs old : List Bits) (us : List ℕ) (same : (n : ℕ) → n < length u
   sites_named sites h n k s (Some ss) e there =
       site_named s (holds_at_all (is_site us) ss (holds_at_all (list_all (is_site us)) sites h n ss e) k s there)
 
-  pub named : (c : Circuit) → is_in_order us c ≡ true → Named vs old c
+  pub named : (c : NetData) → is_in_order us c ≡ true → Named vs old c
   named c h =
       let inputs : Bool = list_all width_fits c.inputs in
       let nexts : Bool = nexts_fit us c.nexts c.registers in

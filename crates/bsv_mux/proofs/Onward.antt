@@ -18,18 +18,18 @@ one_port x t ss p m = record {
   ports = p.ports ++ Some (port t x.none x.fires x.sites m p.nodes ss).port ∷ [];
 }
 
-ports_behind : (x : Told) (t : Table) (ss : List CallSite) (ns : List NetNode) (so_far : List (Option MethodPort)) (ms : List ℕ) (m : ℕ)
+ports_after : (x : Told) (t : Table) (ss : List CallSite) (ns : List NetNode) (so_far : List (Option MethodPort)) (ms : List ℕ) (m : ℕ)
     → ports x t ss ns so_far (ms ++ m ∷ []) ≡ one_port x t ss (ports x t ss ns so_far ms) m
 unfolding ports
-ports_behind x t ss ns so_far [] m = refl
-ports_behind x t ss ns so_far (n ∷ ms) m =
+ports_after x t ss ns so_far [] m = refl
+ports_after x t ss ns so_far (n ∷ ms) m =
     let p = one_port x t ss (record { nodes = ns; ports = so_far }) n in
-    ports_behind x t ss p.nodes p.ports ms m
+    ports_after x t ss p.nodes p.ports ms m
 
 pub ports_more : (x : Told) (t : Table) (ss : List CallSite) (ns : List NetNode) (so_far : List (Option MethodPort)) (n : ℕ)
     → ports x t ss ns so_far (numbers_below (n + 1)) ≡ one_port x t ss (ports x t ss ns so_far (numbers_below n)) n
 ports_more x t ss ns so_far n =
-    ap (ports x t ss ns so_far) (numbers_more n) ∙ ports_behind x t ss ns so_far (numbers_below n) n
+    ap (ports x t ss ns so_far) (numbers_more n) ∙ ports_after x t ss ns so_far (numbers_below n) n
 
 -- ---- next words of a part
 
@@ -39,15 +39,15 @@ one_piece t w p r = record {
   places = p.places ++ (piece w p.nodes (t.next_piece r)).place ∷ [];
 }
 
-pieces_behind : (x : Told) (t : Table) (w : Wires) (ns : List NetNode) (so_far : List ℕ) (rs : List ℕ) (r : ℕ)
+pieces_after : (x : Told) (t : Table) (w : Wires) (ns : List NetNode) (so_far : List ℕ) (rs : List ℕ) (r : ℕ)
     → pieces x t w ns so_far (rs ++ r ∷ []) ≡ one_piece t w (pieces x t w ns so_far rs) r
 unfolding pieces
-pieces_behind x t w ns so_far [] r = refl
-pieces_behind x t w ns so_far (n ∷ rs) r =
+pieces_after x t w ns so_far [] r = refl
+pieces_after x t w ns so_far (n ∷ rs) r =
     let p = one_piece t w (record { nodes = ns; places = so_far }) n in
-    pieces_behind x t w p.nodes p.places rs r
+    pieces_after x t w p.nodes p.places rs r
 
 pub pieces_more : (x : Told) (t : Table) (w : Wires) (ns : List NetNode) (so_far : List ℕ) (n : ℕ)
     → pieces x t w ns so_far (numbers_below (n + 1)) ≡ one_piece t w (pieces x t w ns so_far (numbers_below n)) n
 pieces_more x t w ns so_far n =
-    ap (pieces x t w ns so_far) (numbers_more n) ∙ pieces_behind x t w ns so_far (numbers_below n) n
+    ap (pieces x t w ns so_far) (numbers_more n) ∙ pieces_after x t w ns so_far (numbers_below n) n

@@ -1,4 +1,4 @@
--- The next pieces of a part, in a clock: they show the part behind it.
+-- The next pieces of a part, in a clock: they show the part after it.
 use Rattle.std.proofs.Common.{◌≡◌, ◌∙◌, ◌<◌, ℕ, true, false, List, Option, Some, None, MatchOption, is_some, refl, sym, ap, ap₂, subst}
 use Rattle.std.specs.Prelude.{slice_get}
 use Rattle.bsv_lemmas.proofs.Places.{all_from}
@@ -11,11 +11,11 @@ use Rattle.bsv_prim.specs.Table.{Table, Call, word_at}
 use Rattle.bsv_prim.specs.declared.part.Part.{Part}
 use Rattle.bsv_prim.proofs.Parallel.{step_in_turn}
 use Rattle.bsv_design.specs.declared.kind.Kind.{Kind}
-use Rattle.bsv_design.specs.Bodies.{Target}
-use Rattle.bsv_design.specs.Kinds.{kind_table, kind_laws}
-use Rattle.bsv_design.specs.Schemes.{Called, is_open, guard_of}
-use Rattle.bsv_design.specs.States.{FitsKinds, emptied, part_at}
-use Rattle.bsv_design.specs.Traces.{kind_at}
+use Rattle.bsv_design.specs.design.Bodies.{Target}
+use Rattle.bsv_design.specs.tree.Kinds.{kind_table, kind_laws}
+use Rattle.bsv_design.specs.scheme.Schemes.{Called, is_open, guard_of}
+use Rattle.bsv_design.specs.scheme.States.{FitsKinds, emptied, part_at}
+use Rattle.bsv_design.specs.scheme.Traces.{kind_at}
 use Rattle.bsv_guard.specs.ElementLaws.{call_of}
 use Rattle.bsv_guard.specs.Turns.{calls_on}
 use Rattle.bsv_guard.proofs.Turns.{sound_turns, all_on, fits_at}
@@ -91,7 +91,7 @@ module _ (z : Scene) (i : ℕ) (kind : Kind) (there : slice_get (S z).kinds i �
         (λ k c at. each_ready c (fed.open_in_look k c at)));
   }
 
-  -- the part behind the clock
+  -- the part after the clock
   pub end_is : part_at (end_of (S z) z.made z.s (does z)) i ≡ prim.after_calls (kind_table kind) start calls
   unfolding end_of
   end_is = (sound_turns (S z) z.lawful.sound z.lawful.fitting).each_part (emptied (S z).kinds z.s) starts_fit (deeds (does z) z.made.execution) i kind there

@@ -5,11 +5,11 @@ use Rattle.std.specs.Prelude.{false}
 use Rattle.bsv_prim.specs.Table.{Table}
 use Rattle.bsv_design.specs.declared.kind.Kind.{Kind}
 use Rattle.bsv_design.specs.declared.schedule.Schedule.{Schedule}
-use Rattle.bsv_design.specs.Designs.{Blueprint}
-use Rattle.bsv_design.specs.Kinds.{kind_table}
-use Rattle.bsv_design.specs.Schemes.{kinds_of}
+use Rattle.bsv_design.specs.design.Designs.{DesignData}
+use Rattle.bsv_design.specs.tree.Kinds.{kind_table}
+use Rattle.bsv_design.specs.scheme.Schemes.{kinds_of}
 use Rattle.bsv_graph.specs.Edges.{numbers_below}
-use Rattle.bsv_net.specs.declared.circuit.Circuit.{Circuit}
+use Rattle.bsv_net.specs.declared.net_data.NetData.{NetData}
 use Rattle.bsv_net.specs.declared.node.NetNode.{NetNode}
 use Rattle.bsv_net.specs.declared.node.NetNode.TheVariants as net
 use Rattle.bsv_net.specs.declared.node.Site.{Site}
@@ -42,7 +42,7 @@ module _ (x : Told) where
   abbrev pub all_ports : Table → List CallSite → List NetNode → PlacedPorts
   all_ports t ss ns = ports t ss ns [] (numbers_below t.methods)
 
-  -- the next words of these registers, behind those of others
+  -- the next words of these registers, after those of others
   unfoldable pub pieces : Table → Wires → List NetNode → List ℕ → List ℕ → PlacedAll
   pieces t w ns so_far [] = record { nodes = ns; places = so_far }
   pieces t w ns so_far (r ∷ rs) =
@@ -69,7 +69,7 @@ module _ (x : Told) where
 
 -- ---- the whole
 
--- the registers and a bit that is 0, behind the nodes
+-- the registers and a bit that is 0, after the nodes
 abbrev pub with_registers : List NetNode → ℕ → List NetNode
 with_registers ns count = ns ++ (map net.Register (numbers_below count) ++ (net.Constant (bit false) ∷ []))
 
@@ -77,7 +77,7 @@ with_registers ns count = ns ++ (map net.Register (numbers_below count) ++ (net.
 abbrev pub renamed : ℕ → ℕ → ℕ → ℕ
 renamed before behind n = if nat_lt n before then n else behind
 
-module _ (b : Blueprint) (made : Schedule) (c : Circuit) where
+module _ (b : DesignData) (made : Schedule) (c : NetData) where
   abbrev pub told : Told
   told = record { fires = c.fires; sites = c.sites; none = length c.nodes + length c.registers }
 
@@ -87,7 +87,7 @@ module _ (b : Blueprint) (made : Schedule) (c : Circuit) where
       (with_registers c.nodes (length c.registers)) [] (kinds_of b)
 
   -- the circuit with the next word of each register
-  pub record IsNextCircuit (d : Circuit) : Type 0 where
+  pub record IsNextNet (d : NetData) : Type 0 where
     pub inputs : d.inputs ≡ c.inputs
     pub registers : d.registers ≡ c.registers
     pub nodes : d.nodes ≡ next_words.nodes

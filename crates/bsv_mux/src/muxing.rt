@@ -1,23 +1,23 @@
 ghost use Rattle.std.specs.Prelude.{◌≡◌, ◌+◌, [], IfOk, OnOk, false, map, length, slice_get};
 ghost use Rattle.bsv_clock.specs.Grounds.{IsScheduleOf, KeepsRules};
-ghost use Rattle.bsv_design.specs.Schemes.{design_scheme, kinds_of};
-ghost use Rattle.bsv_design.specs.Seen.{blueprint};
+ghost use Rattle.bsv_design.specs.scheme.Schemes.{design_scheme, kinds_of};
+ghost use Rattle.bsv_design.specs.tree.Seen.{design_data};
 ghost use Rattle.bsv_ports.specs.CallSites.{or_none};
 ghost use Rattle.bsv_fire.specs.Firing.{Fires};
-ghost use Rattle.bsv_net.specs.AtHand.{circuit};
+ghost use Rattle.bsv_net.specs.AtHand.{net_data};
 ghost use Rattle.bsv_mux.specs.AtHand as hand;
-ghost use Rattle.bsv_net.specs.Hardware.{NetCarries};
+ghost use Rattle.bsv_net.specs.ShowsByNet.{NetCarries};
 ghost use Rattle.bsv_mux.specs.Nexts as spec;
 
 use crate::parts::Muxing;
 use bsv_bits::{OutOfMemory, Word};
 use bsv_design::{Design, NamedPart, Schedule};
-use bsv_net::{Circuit, Net, NetNode, add, node_at};
+use bsv_net::{NetData, Net, NetNode, add, node_at};
 use bsv_ports::{CallSite, Firing, all_call_sites, register_starts};
 use sqlite_items::{Items, at};
 use std::alloc::Global;
 
-/// So many registers, and a bit that is 0, stand behind the nodes.
+/// So many registers, and a bit that is 0, come after the nodes.
 fn add_registers(nodes: &mut Items<NetNode>, count: u32) -> Result<(), OutOfMemory>
     ensures { OnOk result (nodes.new ≡ spec.with_registers nodes.old count) }
 {
@@ -89,14 +89,14 @@ fn results_of(
     Ok(found)
 }
 
-/// The nodes of a net, and behind them those of the next words; and which these are.
+/// The nodes of a net, and after them those of the next words; and which these are.
 #[derive(Drop)]
 struct Extended {
     nodes: Items<NetNode>,
     nexts: Items<u32>,
 }
 
-/// The nodes of the next words stand behind those of the net.
+/// The nodes of the next words come after those of the net.
 #[tactic(auto, unfolding(crate::specs::Nexts::next_words))]
 fn with_next_words(
     alloc: Global,
@@ -105,9 +105,9 @@ fn with_next_words(
     net: &Net,
 ) -> Result<Extended, OutOfMemory>
     ensures nodes { IfOk result (λ made. made.nodes
-        ≡ (spec.next_words (blueprint design.now) schedule.now (circuit net.now)).nodes) }
+        ≡ (spec.next_words (design_data design.now) schedule.now (net_data net.now)).nodes) }
     ensures nexts { IfOk result (λ made. made.nexts
-        ≡ (spec.next_words (blueprint design.now) schedule.now (circuit net.now)).places) }
+        ≡ (spec.next_words (design_data design.now) schedule.now (net_data net.now)).places) }
 {
     let parts = design.parts.as_slice();
     let Ok(first) = u32::try_from(net.nodes.len()) else {
@@ -143,8 +143,8 @@ fn next_circuit(
     design: &Design,
     schedule: &Schedule,
     net: Net,
-) -> Result<Circuit, OutOfMemory>
-    ensures { IfOk result (spec.IsNextCircuit (blueprint design.now) schedule.now (circuit net)) }
+) -> Result<NetData, OutOfMemory>
+    ensures { IfOk result (spec.IsNextNet (design_data design.now) schedule.now (net_data net)) }
 {
     let made = with_next_words(alloc, design, schedule, &net)?;
     let before = net.nodes.len();
@@ -152,7 +152,7 @@ fn next_circuit(
         return Err(OutOfMemory);
     };
     let results = results_of(alloc, net.results.as_slice(), before, behind)?;
-    Ok(Circuit {
+    Ok(NetData {
         inputs: net.inputs,
         registers: net.registers,
         nodes: made.nodes,
@@ -165,7 +165,7 @@ fn next_circuit(
 }
 
 /// The net of a design: in each clock it tells which elements fire, which are ready and what those give, and the next word
-/// of each register, so that the registers show the state behind the clock. The net that is given tells of the design what
+/// of each register, so that the registers show the state after the clock. The net that is given tells of the design what
 /// `add_fire` promises.
 pub fn add_next(
     alloc: Global,
@@ -173,15 +173,15 @@ pub fn add_next(
     schedule: &Schedule,
     net: Net,
 ) -> Result<Net, OutOfMemory>
-    requires rules { KeepsRules (design_scheme (blueprint design.now)) }
-    requires schedule { IsScheduleOf (design_scheme (blueprint design.now)) schedule.now }
-    requires fires { Fires false (design_scheme (blueprint design.now)) schedule.now (circuit net) }
+    requires rules { KeepsRules (design_scheme (design_data design.now)) }
+    requires schedule { IsScheduleOf (design_scheme (design_data design.now)) schedule.now }
+    requires fires { Fires false (design_scheme (design_data design.now)) schedule.now (net_data net) }
     ensures carries { IfOk result (λ made.
-        NetCarries false (design_scheme (blueprint design.now)) schedule.now made) }
+        NetCarries false (design_scheme (design_data design.now)) schedule.now made) }
     ensures sites { IfOk result (λ made. made.sites ≡ []) }
 {
-    let circuit = next_circuit(alloc, design, schedule, net)?;
-    match Net::new(alloc, circuit)? {
+    let net_data = next_circuit(alloc, design, schedule, net)?;
+    match Net::new(alloc, net_data)? {
         Some(made) => Ok(made),
         None => Err(OutOfMemory),
     }

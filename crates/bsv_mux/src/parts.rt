@@ -1,5 +1,5 @@
 ghost use Rattle.std.specs.Prelude.{◌≡◌, ◌<◌, IfOk, OnOk};
-ghost use Rattle.bsv_design.specs.Kinds.{kind_table};
+ghost use Rattle.bsv_design.specs.tree.Kinds.{kind_table};
 ghost use Rattle.bsv_net.specs.AtHand.{wires};
 ghost use Rattle.bsv_net.specs.Placing as placing;
 ghost use Rattle.bsv_mux.specs.Nexts as spec;
@@ -71,7 +71,7 @@ impl Muxing<'_> {
         found.place(nodes, &piece)
     }
 
-    /// The next words of the registers of a part stand behind the others.
+    /// The next words of the registers of a part come after the others.
     #[tactic(auto, unfolding(crate::specs::Nexts::pieces))]
     fn place_pieces(
         self,
@@ -92,7 +92,7 @@ impl Muxing<'_> {
         Ok(())
     }
 
-    /// The next words of a part, of which the first register has this node, stand behind the others.
+    /// The next words of a part, of which the first register has this node, come after the others.
     #[tactic(auto, unfolding(crate::specs::Nexts::part_nexts))]
     pub fn part_nexts(
         self,

@@ -1,4 +1,4 @@
--- The first malformed attribute of two lists, one behind the other.
+-- The first malformed attribute of two lists, one after the other.
 use Rattle.std.proofs.Common.{◌≡◌, List, [], ◌∷◌, ◌++◌, Option, Some, None, refl, ap, ◌∙◌}
 use Rattle.std.proofs.lemmas.List.{append-nil}
 use Rattle.std.specs.Option.{option_or}

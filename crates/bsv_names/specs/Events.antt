@@ -18,7 +18,7 @@ used space x = Use space x.name x.span ∷ []
 abbrev pub variable_used : Ident → List Event
 variable_used x = UseVariable x.name x.span ∷ []
 
--- a name in an expression without `(` behind it
+-- a name in an expression without `(` after it
 abbrev pub value_used : Ident → List Event
 value_used x = UseValue x.name x.span ∷ []
 

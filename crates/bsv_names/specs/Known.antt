@@ -27,7 +27,7 @@ with_definition Labels name k = record k { labels = with_new_name name k.labels 
 with_definition Functions name k = record k { functions = with_new_name name k.functions }
 with_definition Modules name k = record k { modules = with_new_name name k.modules }
 
--- what is known behind an event
+-- what is known after an event
 abbrev pub after : Known → Event → Known
 after k (Define space name s) = with_definition space name k
 after k (DefineVariable name s) = record k { variables = defined_in name tt k.variables }
@@ -37,7 +37,7 @@ after k (Use space name s) = k
 after k (UseVariable name s) = k
 after k (UseValue name s) = k
 
--- what is known behind events
+-- what is known after events
 abbrev pub after_all : Known → List Event → Known
 after_all k [] = k
 after_all k (e ∷ es) = after_all (after k e) es

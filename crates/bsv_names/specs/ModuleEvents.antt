@@ -1,4 +1,4 @@
--- The names of what stands in a module, in text order.
+-- The names of what is in a module, in text order.
 use Rattle.std.specs.Prelude.{List, [], ◌++◌, map, Option, Some, None}
 use Rattle.bsv_ast.specs.declared.expressions.Expr.{Expr}
 use Rattle.bsv_ast.specs.declared.modules.Param.{Param}

@@ -33,7 +33,7 @@ declared_events (declared.Let s) = []
 abbrev pub declaration_events : Declaration → List Event
 declaration_events d = declared_events d.declared ++ expr_events d.value ++ variable d.name d.span
 
--- the names of the test, which stands outside the arm
+-- the names of the test, which is outside the arm
 abbrev pub condition_events : Condition → List Event
 condition_events (condition.Test s test) = expr_events test
 condition_events (condition.Matches s subject name) = expr_events subject

@@ -18,7 +18,7 @@ used_unknown k (Use space name s) = if is_listed name (names_in space k) then No
 used_unknown k (UseVariable name s) = if is_some (find_in name k.variables) then None else Some s
 used_unknown k (UseValue name s) = if is_some (find_in name k.variables) || is_listed name k.functions then None else Some s
 
--- what is known behind packages
+-- what is known after packages
 abbrev pub after_packages : Known → List Package → Known
 after_packages k [] = k
 after_packages k (p ∷ ps) = after_packages (after_all k (package_events p)) ps

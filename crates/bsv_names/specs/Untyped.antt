@@ -62,7 +62,7 @@ locals_after ls _ = ls
 abbrev pub is_local : List ℕ → Locals → Bool
 is_local name ls = is_some (find_in name ls)
 
--- a name without `(` behind it that is no local one: the variable of that name where there is one, else the function
+-- a name without `(` after it that is no local one: the variable of that name where there is one, else the function
 abbrev pub is_untyped_value : Option Bool → Bool → Bool
 is_untyped_value None function = function
 is_untyped_value (Some typed) function = not typed

@@ -45,7 +45,7 @@ fn declared_events(
     }
 }
 
-/// Adds the names of a declaration, and the variable behind them.
+/// Adds the names of a declaration, and the variable after them.
 pub(crate) fn declaration_events(
     alloc: Global,
     declaration: &Declaration,
@@ -87,7 +87,7 @@ fn bound_events(
     }
 }
 
-/// Adds the names of the head of a loop, and its variable behind the first value.
+/// Adds the names of the head of a loop, and its variable after the first value.
 pub(crate) fn head_events(
     alloc: Global,
     head: &Head,

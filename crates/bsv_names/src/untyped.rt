@@ -42,7 +42,7 @@ pub struct Variables {
     typed: Scopes<bool>,
 }
 
-/// The variables that are defined inside, behind an event.
+/// The variables that are defined inside, after an event.
 fn take_in(alloc: Global, locals: &mut Scopes<()>, event: &Event) -> Result<(), OutOfMemory>
     ensures { OnOk result (scopes locals.new ≡ spec.locals_after (scopes locals.old) event.now) }
 {
@@ -366,7 +366,7 @@ impl Variables {
         self.typed.close();
     }
 
-    /// Whether a name without `(` behind it names something without a typing: the variable of that
+    /// Whether a name without `(` after it names something without a typing: the variable of that
     /// name where there is one, else a function, of which it is said whether it lacks one.
     fn lacks(&self, name: &Name, function: bool) -> bool
         ensures { result ≡ spec.is_untyped_value

@@ -6,20 +6,20 @@ use Rattle.std.proofs.lemmas.List.{map-append}
 use Rattle.std.proofs.Math.Logic.{∥∥₁_elim}
 use Rattle.bsv_lemmas.proofs.Places.{take_one}
 use Rattle.bsv_bits.specs.Words.{Bits}
-use Rattle.bsv_design.specs.Bodies.{at, of_parts, values, words_behind}
-use Rattle.bsv_design.specs.Relations.{no_answers}
+use Rattle.bsv_design.specs.design.Bodies.{at, of_parts, values, words_after}
+use Rattle.bsv_design.specs.scheme.Relations.{no_answers}
 use Rattle.bsv_design.proofs.Bodies.{words_one}
 use Rattle.bsv_guard.specs.Fitting.{HaveWidths}
 use Rattle.bsv_guard.proofs.Lists.{holds_at_all}
 use Rattle.bsv_net.specs.declared.net.Net.{Net}
 use Rattle.bsv_net.specs.declared.node.NetNode.{NetNode}
-use Rattle.bsv_net.specs.AtHand.{circuit}
-use Rattle.bsv_net.specs.Circuits.{as_node, as_nodes, is_within, word, words, IsCircuit}
+use Rattle.bsv_net.specs.AtHand.{net_data}
+use Rattle.bsv_net.specs.Nets.{as_node, as_nodes, is_within, word, words, IsNet}
 use Rattle.bsv_net.specs.Equations.{computed}
 use Rattle.bsv_net.proofs.Solution.{same_length, as_computed}
 
 pub words_none : (inputs registers : List Bits) → words [] inputs registers ≡ []
-unfolding words words_behind
+unfolding words words_after
 words_none inputs registers = refl
 
 -- the words of one node more
@@ -33,13 +33,13 @@ words_more xs inputs registers i x e =
     ∙ ap (values no_answers args [] []) (map-append (as_node n) (take i xs) (x ∷ []))
     ∙ words_one (of_parts no_answers) args [] [] (as_nodes n (take i xs)) (as_node n x)
 
--- what stands at a place of a net is there
+-- what is at a place of a net is there
 pub net_within : (n : Net) (inputs : List Bits) → HaveWidths n.inputs inputs → (k : ℕ) (x : NetNode) → slice_get n.nodes k ≡ Some x → is_within (length inputs) (length n.registers) x ≡ true
 net_within n inputs h k x there =
     subst (λ (m : ℕ). is_within m (length n.registers) x ≡ true) (same_length n.inputs inputs h)
-    (∥∥₁_elim n.right (Bool-set _ _) (λ (right : IsCircuit (circuit n)). holds_at_all (is_within (length n.inputs) (length n.registers)) n.nodes right.within k x there))
+    (∥∥₁_elim n.right (Bool-set _ _) (λ (right : IsNet (net_data n)). holds_at_all (is_within (length n.inputs) (length n.registers)) n.nodes right.within k x there))
 
--- the word that is computed behind the first words is that of the node
+-- the word that is computed after the first words is that of the node
 pub net_word : (n : Net) (inputs registers : List Bits) → HaveWidths n.inputs inputs → (k : ℕ) (x : NetNode) → slice_get n.nodes k ≡ Some x
     → words (take (k + 1) n.nodes) inputs registers ≡ words (take k n.nodes) inputs registers ++ computed inputs registers (at (words (take k n.nodes) inputs registers)) x ∷ []
 net_word n inputs registers h k x there =

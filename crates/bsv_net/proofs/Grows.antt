@@ -1,4 +1,4 @@
--- Nodes stay where they are when more are placed behind them.
+-- Nodes stay where they are when more are placed after them.
 use Rattle.std.proofs.Common.{◌≡◌, ◌∙◌, ℕ, ◌+◌, ◌≤◌, List, [], ◌∷◌, ◌++◌, length, Some, refl, sym, ap, arith, append_assoc, append-nil, length-append}
 use Rattle.std.specs.Prelude.{slice_get}
 use Rattle.std.proofs.lemmas.Option.{slice_get_within}
@@ -8,7 +8,7 @@ use Rattle.bsv_net.specs.declared.node.NetNode.{NetNode}
 use Rattle.bsv_net.specs.declared.node.NetNode.TheVariants as net
 use Rattle.bsv_net.specs.Placing.{Wires, add, piece}
 
--- the new nodes are the old ones with others behind
+-- the new nodes are the old ones with others after
 pub record Grows (old new : List NetNode) : Type 0 where
   pub more : List NetNode
   pub is : new ≡ old ++ more
@@ -33,7 +33,7 @@ length_grows {old} {new} g = let e = ap length g.is in omega (arith, length-appe
 pub kept : {old new : List NetNode} → Grows old new → (k : ℕ) (x : NetNode) → slice_get old k ≡ Some x → slice_get new k ≡ Some x
 kept {old} {new} g k x e = ap (λ (ns : List NetNode). slice_get ns k) g.is ∙ at_left old g.more k (slice_get_within old k x e) ∙ e
 
--- a node that was added stands at the place that it was given
+-- a node that was added is at the place that it was given
 pub added_there : (ns : List NetNode) (x : NetNode) {full : List NetNode} → Grows (ns ++ x ∷ []) full → slice_get full (length ns) ≡ Some x
 added_there ns x g =
     let place : length ns + 0 ≡ length ns = omega arith in

@@ -1,4 +1,4 @@
--- A node that has a width uses earlier nodes alone; so its width and its word stay where more stand behind.
+-- A node that has a width uses earlier nodes alone; so its width and its word stay where more come after.
 use Rattle.std.proofs.Common.{◌≡◌, ◌∙◌, ℕ, ◌<◌, List, [], ◌++◌, length, Option, Some, None, refl, ap, ap₂}
 use Rattle.std.specs.Prelude.{slice_get}
 use Rattle.std.proofs.lemmas.Option.{slice_get_within}
@@ -8,13 +8,13 @@ use Rattle.bsv_bits.specs.declared.operator.Operator.{Operator}
 use Rattle.bsv_design.specs.declared.element.Port.{Port}
 use Rattle.bsv_design.specs.declared.node.Node.{Node}
 use Rattle.bsv_design.specs.declared.node.Node.TheVariants as node
-use Rattle.bsv_design.specs.Bodies.{at, node_word}
-use Rattle.bsv_design.specs.Computing as computing
-use Rattle.bsv_design.specs.Relations.{no_answers}
-use Rattle.bsv_design.specs.Running.{or_zero}
-use Rattle.bsv_design.specs.Widths.{node_width, two_width, pick_width, slice_width, join_width, extend_width}
+use Rattle.bsv_design.specs.design.Bodies.{at, node_word}
+use Rattle.bsv_design.specs.carrying.Computing as computing
+use Rattle.bsv_design.specs.scheme.Relations.{no_answers}
+use Rattle.bsv_design.specs.carrying.Running.{or_zero}
+use Rattle.bsv_design.specs.design.Widths.{node_width, two_width, pick_width, slice_width, join_width, extend_width}
 
--- the nodes that a node uses stand before this place, and it is not what a call gives
+-- the nodes that a node uses come before this place, and it is not what a call gives
 abbrev pub Below : ℕ → Node → Type 0
 Below n (node.Constant w) = Unit {0}
 Below n (node.Argument k) = Unit {0}

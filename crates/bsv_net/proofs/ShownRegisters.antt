@@ -7,9 +7,9 @@ use Rattle.bsv_prim.specs.declared.part.Part.{Part}
 use Rattle.bsv_prim.specs.declared.part.Part.TheVariants.{Number, Held, Queue}
 use Rattle.bsv_design.specs.declared.kind.Kind.{Kind}
 use Rattle.bsv_design.specs.declared.kind.Kind.TheVariants.{Reg, RegU, Wire, DWire, RWire, Pulse, Plain, Pipeline, Bypass}
-use Rattle.bsv_design.specs.Kinds.{kind_table}
+use Rattle.bsv_design.specs.tree.Kinds.{kind_table}
 use Rattle.bsv_fifo.specs.Queues.{ShowsItems, FitsQueue, items_of}
-use Rattle.bsv_clock.specs.Hardware.{Shows}
+use Rattle.bsv_clock.specs.Shows.{Shows}
 
 -- the same words of so many registers
 abbrev pub SameBelow : ℕ → (ℕ → Bits) → (ℕ → Bits) → Type 0

@@ -10,20 +10,20 @@ use Rattle.bsv_bits.specs.Words.{Bits, word_slice, word_concat, word_extend}
 use Rattle.bsv_bits.specs.declared.operator.Operator.{Operator}
 use Rattle.bsv_design.specs.declared.element.Port.{Port}
 use Rattle.bsv_design.specs.declared.node.Node.{Node}
-use Rattle.bsv_design.specs.Bodies.{at, node_word, values, words_behind}
-use Rattle.bsv_design.specs.Computing.{between, sliced, joined, extended, sign_extended}
-use Rattle.bsv_design.specs.Relations.{no_answers}
-use Rattle.bsv_design.specs.Running.{or_zero}
-use Rattle.bsv_design.specs.States.{AreWordsOf}
-use Rattle.bsv_design.specs.Widths.{if_width, gives_bit, two_width, slice_width, join_width, extend_width, node_width, widths_from}
+use Rattle.bsv_design.specs.design.Bodies.{at, node_word, values, words_after}
+use Rattle.bsv_design.specs.carrying.Computing.{between, sliced, joined, extended, sign_extended}
+use Rattle.bsv_design.specs.scheme.Relations.{no_answers}
+use Rattle.bsv_design.specs.carrying.Running.{or_zero}
+use Rattle.bsv_design.specs.scheme.States.{AreWordsOf}
+use Rattle.bsv_design.specs.design.Widths.{if_width, gives_bit, two_width, slice_width, join_width, extend_width, node_width, widths_from}
 use Rattle.bsv_guard.specs.Fitting.{HaveWidths}
 use Rattle.bsv_guard.proofs.BodyFits.{word_there, words_fit}
 use Rattle.bsv_guard.proofs.Lists.{holds_at_all}
 use Rattle.bsv_guard.proofs.Nodes.{grown, chained, where_width}
-use Rattle.bsv_net.specs.declared.circuit.Circuit.{Circuit}
+use Rattle.bsv_net.specs.declared.net_data.NetData.{NetData}
 use Rattle.bsv_net.specs.declared.node.NetNode.{NetNode}
 use Rattle.bsv_net.specs.declared.node.NetNode.TheVariants as net
-use Rattle.bsv_net.specs.Circuits.{as_node, as_nodes, port, ports, register_widths, word, words, is_within, IsCircuit}
+use Rattle.bsv_net.specs.Nets.{as_node, as_nodes, port, ports, register_widths, word, words, is_within, IsNet}
 use Rattle.bsv_net.specs.Equations.{Satisfies, operated, computed}
 use Rattle.bsv_net.proofs.Operands.{Below, is_below, width_kept, word_kept}
 
@@ -58,7 +58,7 @@ widths_grown ps (x ∷ ns) us ends e =
     (c.width ∷ g.0, g.1 ∙ append_assoc us (c.width ∷ []) g.0)
 
 module _ (ps : List Port) (arguments : List Bits) where
-  -- behind nodes of these widths and words, a node has its width, and the word that its operator gives
+  -- after nodes of these widths and words, a node has its width, and the word that its operator gives
   record IsAt (ends : List ℕ) (all : List Bits) (k : ℕ) (x : Node) : Type 0 where
     width : ℕ
     has : node_width ps [] [] ends x ≡ Some width
@@ -80,7 +80,7 @@ module _ (ps : List Port) (arguments : List Bits) where
 
   each_at : (ns : List Node) (vs : List Bits) (us ends : List ℕ) → length vs ≡ length us → widths_from ps [] [] us ns ≡ Some ends → (k : ℕ) (x : Node) → slice_get ns k ≡ Some x
       → IsAt ends (following vs ns) (length vs + k) x
-  unfolding words_behind widths_from
+  unfolding words_after widths_from
   each_at [] vs us ends long e k x there = absurd (let n : ⊥ = cc in n)
   each_at (y ∷ ns) vs us ends long e zero x there =
       let same : y ≡ x = same_Some y x there in
@@ -177,7 +177,7 @@ module _ (us : List ℕ) (vs : List Bits) (have : HaveWidths us vs) where
 
 -- ---- all nodes
 
-module _ (c : Circuit) (right : IsCircuit c) (inputs registers : List Bits) (first : HaveWidths c.inputs inputs) (second : HaveWidths (register_widths c.registers) registers) where
+module _ (c : NetData) (right : IsNet c) (inputs registers : List Bits) (first : HaveWidths c.inputs inputs) (second : HaveWidths (register_widths c.registers) registers) where
   same : length c.inputs ≡ length inputs
   same = same_length c.inputs inputs first
 

@@ -3,15 +3,15 @@ use Rattle.std.proofs.Common.{◌≡◌, ◌+◌, ℕ, suc, Bool, true, false, L
 use Rattle.std.specs.Prelude.{slice_get, cond}
 use Rattle.bsv_bits.specs.Words.{Bits, bit}
 use Rattle.bsv_design.specs.declared.element.Port.{Port}
-use Rattle.bsv_design.specs.Roles.{is_rule}
-use Rattle.bsv_design.specs.Schemes.{Scheme, Outline, Asking, given}
-use Rattle.bsv_design.specs.States.{AreWordsOf}
+use Rattle.bsv_design.specs.tree.Roles.{is_rule}
+use Rattle.bsv_design.specs.scheme.Schemes.{Scheme, Outline, Asking, given}
+use Rattle.bsv_design.specs.scheme.States.{AreWordsOf}
 use Rattle.bsv_guard.specs.Fitting.{HaveWidths}
-use Rattle.bsv_clock.specs.Hardware.{inputs_from, input_widths_of, cell, cell_widths}
+use Rattle.bsv_clock.specs.Shows.{inputs_from, input_widths_of, cell, cell_widths}
 use Rattle.bsv_clock.specs.Clocks.{is_asked}
 use Rattle.bsv_net.proofs.Solution.{have_both}
 use Rattle.bsv_prim.specs.declared.primitive.RegisterInfo.{RegisterInfo}
-use Rattle.bsv_net.specs.Circuits.{register_widths}
+use Rattle.bsv_net.specs.Nets.{register_widths}
 use Rattle.bsv_prim.specs.WireKinds.{bit_is_word}
 
 pub cells_have : (rs : List RegisterInfo) → cell_widths (map cell rs) ≡ register_widths rs

@@ -3,7 +3,7 @@ use Rattle.std.specs.Prelude.{ℕ, ◌==◌, List, [], slice_get, Option, Some, 
 use Rattle.bsv_net.specs.declared.net.Net.{Net}
 use Rattle.bsv_net.specs.declared.wires.MethodPort.{MethodPort}
 use Rattle.bsv_net.specs.declared.wires.Wires.{Wires}
-use Rattle.bsv_net.specs.declared.circuit.Circuit.{Circuit}
+use Rattle.bsv_net.specs.declared.net_data.NetData.{NetData}
 use Rattle.bsv_net.specs.Placing as placing
 use Rattle.bsv_net.specs.Placing.{node_at}
 
@@ -32,8 +32,8 @@ wires_with registers ports own args = record {
 abbrev pub wires : Wires → placing.Wires
 wires w = wires_with w.registers w.ports.now w.own w.own_args.now
 
-abbrev pub circuit : Net → Circuit
-circuit n = record {
+abbrev pub net_data : Net → NetData
+net_data n = record {
   inputs = n.inputs;
   registers = n.registers;
   nodes = n.nodes;

@@ -6,11 +6,11 @@ use Rattle.bsv_bits.specs.Signed.{word_sign_extend}
 use Rattle.bsv_bits.specs.Words.{Bits, word_not, word_slice, word_concat, word_extend}
 use Rattle.bsv_prim.specs.Signals.{is_one}
 use Rattle.bsv_prim.specs.Table.{IsWordOf}
-use Rattle.bsv_design.specs.Bodies.{at, of_parts, word_over}
-use Rattle.bsv_design.specs.Relations.{no_answers}
+use Rattle.bsv_design.specs.design.Bodies.{at, of_parts, word_over}
+use Rattle.bsv_design.specs.scheme.Relations.{no_answers}
 use Rattle.bsv_net.specs.declared.node.NetNode.{NetNode}
 use Rattle.bsv_net.specs.declared.node.NetNode.TheVariants as net
-use Rattle.bsv_net.specs.Circuits.{as_node}
+use Rattle.bsv_net.specs.Nets.{as_node}
 
 -- the word of each node, by its place
 abbrev pub Values : Type 0

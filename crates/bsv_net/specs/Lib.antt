@@ -1,5 +1,5 @@
-pub mod Circuits
+pub mod Nets
 pub mod Equations
 pub mod Placing
 pub mod AtHand
-pub mod Hardware
+pub mod ShowsByNet

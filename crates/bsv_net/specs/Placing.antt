@@ -1,4 +1,4 @@
--- How nodes are placed in a net: each behind those that stand there. What is placed is the nodes behind it, and the place
+-- How nodes are placed in a net: each after those that are there. What is placed is the nodes after it, and the place
 -- of the node that has its word.
 use Rattle.std.specs.Prelude.{ℕ, ◌+◌, List, [], ◌∷◌, ◌++◌, length, slice_get, Option, Some, None}
 use Rattle.bsv_bits.specs.declared.operator.Operator.{Operator}
@@ -36,7 +36,7 @@ node_at ns k = or_first (slice_get ns k)
 
 -- where a piece of a part finds its words
 pub record Wires : Type 0 where
-  -- the node of the first register of the part; the others stand behind it
+  -- the node of the first register of the part; the others come after it
   pub registers : ℕ
   -- of each method the node that is 1 where it is called, and those of its arguments
   pub called : ℕ → ℕ

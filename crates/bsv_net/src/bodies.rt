@@ -1,8 +1,8 @@
 ghost use Rattle.std.specs.Prelude.{◌≡◌, ◌+◌, ◌++◌, ◌<◌, ◌^◌, map, length, IfOk, OnOk, IsTrue};
 ghost use Rattle.std.specs.List.{list_all};
-ghost use Rattle.bsv_net.specs.Circuits as spec;
+ghost use Rattle.bsv_net.specs.Nets as spec;
 
-use crate::circuit::Circuit;
+use crate::net_data::NetData;
 use crate::node::NetNode;
 use bsv_bits::{Name, OutOfMemory};
 use bsv_design::{Node, Port};
@@ -11,7 +11,7 @@ use bsv_widths::widths;
 use sqlite_items::Items;
 use std::alloc::Global;
 
-/// The node as one of a flat body, behind so many arguments that are inputs.
+/// The node as one of a flat body, after so many arguments that are inputs.
 fn as_node(inputs: u32, registers: usize, node: NetNode) -> Node
     requires few { inputs + registers < 2 ^ 32 }
     requires within { IsTrue (spec.is_within inputs registers node) }
@@ -101,23 +101,23 @@ fn ports(
 /// The widths of all nodes, where each has one.
 pub(crate) fn node_widths(
     alloc: Global,
-    circuit: &Circuit,
+    net_data: &NetData,
 ) -> Result<Option<Items<u32>>, OutOfMemory>
-    requires few { length circuit.now.inputs + length circuit.now.registers < 2 ^ 32 }
-    requires within { IsTrue (spec.are_within circuit.now) }
-    ensures { IfOk result (λ found. found ≡ spec.node_widths circuit.now) }
+    requires few { length net_data.now.inputs + length net_data.now.registers < 2 ^ 32 }
+    requires within { IsTrue (spec.are_within net_data.now) }
+    ensures { IfOk result (λ found. found ≡ spec.node_widths net_data.now) }
 {
-    let inputs = circuit.inputs.len() as u32;
+    let inputs = net_data.inputs.len() as u32;
     let ports = ports(
         alloc,
-        circuit.inputs.as_slice(),
-        circuit.registers.as_slice(),
+        net_data.inputs.as_slice(),
+        net_data.registers.as_slice(),
     )?;
     let nodes = as_nodes(
         alloc,
         inputs,
-        circuit.registers.len(),
-        circuit.nodes.as_slice(),
+        net_data.registers.len(),
+        net_data.nodes.as_slice(),
     )?;
     widths(alloc, ports.as_slice(), &[], &[], nodes.as_slice())
 }

@@ -1,10 +1,10 @@
 ghost use Rattle.std.specs.Prelude.{◌≡◌, ◌+◌, ◌^◌, ◌↔◌, nat_lt, slice_get, true, IfOk};
 ghost use Rattle.std.specs.List.{list_all};
-ghost use Rattle.bsv_design.specs.Widths.{has_width};
-ghost use Rattle.bsv_net.specs.Circuits as spec;
+ghost use Rattle.bsv_design.specs.design.Widths.{has_width};
+ghost use Rattle.bsv_net.specs.Nets as spec;
 
 use crate::bodies::node_widths;
-use crate::circuit::Circuit;
+use crate::net_data::NetData;
 use crate::node::{NetNode, Site};
 use bsv_bits::OutOfMemory;
 use bsv_prim::RegisterInfo;
@@ -22,11 +22,11 @@ fn are_few(inputs: usize, registers: usize) -> bool
 }
 
 /// Whether numbers of 32 bits name the nodes, and the inputs and the registers together.
-fn is_few(circuit: &Circuit) -> bool
-    ensures { result ≡ spec.is_few circuit.now }
+fn is_few(net_data: &NetData) -> bool
+    ensures { result ≡ spec.is_few net_data.now }
 {
-    u32::try_from(circuit.nodes.len()).is_ok()
-        && are_few(circuit.inputs.len(), circuit.registers.len())
+    u32::try_from(net_data.nodes.len()).is_ok()
+        && are_few(net_data.inputs.len(), net_data.registers.len())
 }
 
 /// Whether the input or the register is there that a node names.
@@ -174,38 +174,38 @@ fn sites_fit(widths: &[u32], elements: &[Items<Site>]) -> bool
     true
 }
 
-/// Whether what stands beside nodes of these widths has those that it needs.
-fn is_in_order(widths: &[u32], circuit: &Circuit) -> bool
-    ensures { result ≡ spec.is_in_order widths.now circuit.now }
+/// Whether what is beside nodes of these widths has those that it needs.
+fn is_in_order(widths: &[u32], net_data: &NetData) -> bool
+    ensures { result ≡ spec.is_in_order widths.now net_data.now }
 {
-    inputs_fit(circuit.inputs.as_slice())
+    inputs_fit(net_data.inputs.as_slice())
         && nexts_fit(
             widths,
-            circuit.nexts.as_slice(),
-            circuit.registers.as_slice(),
+            net_data.nexts.as_slice(),
+            net_data.registers.as_slice(),
         )
-        && are_bits(widths, circuit.fires.as_slice())
-        && are_bits(widths, circuit.readies.as_slice())
-        && are_names(widths, circuit.results.as_slice())
-        && sites_fit(widths, circuit.sites.as_slice())
+        && are_bits(widths, net_data.fires.as_slice())
+        && are_bits(widths, net_data.readies.as_slice())
+        && are_names(widths, net_data.results.as_slice())
+        && sites_fit(widths, net_data.sites.as_slice())
 }
 
 /// Whether a circuit is in order.
-pub(crate) fn is_circuit(alloc: Global, circuit: &Circuit) -> Result<bool, OutOfMemory>
-    ensures { IfOk result (λ b. (b ≡ true) ↔ spec.IsCircuit circuit.now) }
+pub(crate) fn is_circuit(alloc: Global, net_data: &NetData) -> Result<bool, OutOfMemory>
+    ensures { IfOk result (λ b. (b ≡ true) ↔ spec.IsNet net_data.now) }
 {
-    if !is_few(circuit) {
+    if !is_few(net_data) {
         return Ok(false);
     }
     if !are_within(
-        circuit.inputs.len(),
-        circuit.registers.len(),
-        circuit.nodes.as_slice(),
+        net_data.inputs.len(),
+        net_data.registers.len(),
+        net_data.nodes.as_slice(),
     ) {
         return Ok(false);
     }
-    match node_widths(alloc, circuit)? {
-        Some(found) => Ok(is_in_order(found.as_slice(), circuit)),
+    match node_widths(alloc, net_data)? {
+        Some(found) => Ok(is_in_order(found.as_slice(), net_data)),
         None => Ok(false),
     }
 }

@@ -1,20 +1,20 @@
 //! Nets: words that are computed of registers, of inputs and of each other, once a clock.
 //!
-//! Modules in reading order: `node` (what a node is), `nodes` (how nodes are added), `circuit`, `bodies`,
+//! Modules in reading order: `node` (what a node is), `nodes` (how nodes are added), `net_data`, `bodies`,
 //! `checks` and `net` (what a net is made of, what holds of it, and its evaluation) and `wires` (how a
-//! piece of a part is placed among nodes). What a net means stands in `specs/Circuits.antt`, and what its
+//! piece of a part is placed among nodes). What a net means is in `specs/Nets.antt`, and what its
 //! words are to each other in `specs/Equations.antt`.
 #![tactic(auto)]
 
 mod bodies;
 mod checks;
-mod circuit;
+mod net_data;
 mod net;
 mod node;
 mod nodes;
 mod wires;
 
-pub use circuit::Circuit;
+pub use net_data::NetData;
 pub use net::Net;
 pub use node::{NetNode, Site};
 pub use nodes::{add, both, either, negated};

@@ -1,12 +1,12 @@
 ghost use Rattle.std.specs.Prelude.{◌≡◌, IfOk, IfSome, IsNone, length};
-ghost use Rattle.bsv_design.specs.Bodies.{at};
+ghost use Rattle.bsv_design.specs.design.Bodies.{at};
 ghost use Rattle.bsv_guard.specs.Fitting.{HaveWidths};
-ghost use Rattle.bsv_net.specs.Circuits.{IsCircuit};
-ghost use Rattle.bsv_net.specs.Circuits as spec;
+ghost use Rattle.bsv_net.specs.Nets.{IsNet};
+ghost use Rattle.bsv_net.specs.Nets as spec;
 ghost use Rattle.bsv_net.specs.Equations.{computed};
 
 use crate::checks::is_circuit;
-use crate::circuit::Circuit;
+use crate::net_data::NetData;
 use crate::node::{NetNode, Site};
 use bsv_bits::{OutOfMemory, Word};
 use bsv_design::{between, extended, joined, picked, sign_extended, sliced, word_at};
@@ -26,7 +26,7 @@ pub struct Net {
     pub readies: Items<u32>,
     pub results: Items<u32>,
     pub sites: Items<Items<Site>>,
-    ghost right: { ∥ IsCircuit (record {
+    ghost right: { ∥ IsNet (record {
       inputs = inputs;
       registers = registers;
       nodes = nodes;
@@ -38,7 +38,7 @@ pub struct Net {
     }) ∥₁ },
 }
 
-/// The word of a node behind nodes of these words.
+/// The word of a node after nodes of these words.
 fn node_word(registers: &[Word], inputs: &[Word], words: &[Word], node: NetNode) -> Word
     ensures { result ≡ computed inputs.now registers.now (at words.now) node }
 {
@@ -62,22 +62,22 @@ impl Net {
     ghost use Rattle.bsv_net.specs.AtHand as hand;
 
     /// The net of a circuit, where it is in order.
-    pub fn new(alloc: Global, circuit: Circuit) -> Result<Option<Net>, OutOfMemory>
-        ensures is { IfOk result (λ found. IfSome found (λ net. hand.circuit net ≡ circuit)) }
-        ensures none { IfOk result (λ found. IsNone found → IsCircuit circuit → ⊥) }
+    pub fn new(alloc: Global, net_data: NetData) -> Result<Option<Net>, OutOfMemory>
+        ensures is { IfOk result (λ found. IfSome found (λ net. hand.net_data net ≡ net_data)) }
+        ensures none { IfOk result (λ found. IsNone found → IsNet net_data → ⊥) }
     {
-        if !is_circuit(alloc, &circuit)? {
+        if !is_circuit(alloc, &net_data)? {
             return Ok(None);
         }
         Ok(Some(Net {
-            inputs: circuit.inputs,
-            registers: circuit.registers,
-            nodes: circuit.nodes,
-            nexts: circuit.nexts,
-            fires: circuit.fires,
-            readies: circuit.readies,
-            results: circuit.results,
-            sites: circuit.sites,
+            inputs: net_data.inputs,
+            registers: net_data.registers,
+            nodes: net_data.nodes,
+            nexts: net_data.nexts,
+            fires: net_data.fires,
+            readies: net_data.readies,
+            results: net_data.results,
+            sites: net_data.sites,
         }))
     }
 

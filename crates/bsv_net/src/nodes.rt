@@ -5,7 +5,7 @@ use crate::node::NetNode;
 use bsv_bits::{Operator, OutOfMemory};
 use sqlite_items::Items;
 
-/// Adds a node behind the others, and gives its place. There are fewer nodes than numbers of 32 bits.
+/// Adds a node after the others, and gives its place. There are fewer nodes than numbers of 32 bits.
 pub fn add(nodes: &mut Items<NetNode>, node: NetNode) -> Result<u32, OutOfMemory>
     ensures nodes { OnOk result (nodes.new ≡ (spec.add nodes.old node).nodes) }
     ensures place { IfOk result (λ n. n ≡ (spec.add nodes.old node).place) }

@@ -21,7 +21,7 @@ pub struct MethodPort {
 /// The nodes of which the pieces of a part are made.
 #[derive(Clone, Copy)]
 pub struct Wires<'a> {
-    /// The node of the first register of the part; the others stand behind it.
+    /// The node of the first register of the part; the others come after it.
     pub registers: u32,
     /// Of each method of the part its nodes, where they are placed.
     pub ports: &'a [Option<MethodPort>],

@@ -1,4 +1,4 @@
--- Items behind which no more go on.
+-- Items after which no more go on.
 use Rattle.std.proofs.Common.{◌≡◌, ℕ, zero, suc, Bool, false, List, Ok, refl}
 use Rattle.bsv_lex.specs.declared.terminal.Terminal.{Terminal}
 use Rattle.bsv_expr.specs.declared.lexeme.Lexeme.{Lexeme}

@@ -27,7 +27,7 @@ simple_first = word.Let ∷ word.Lower ∷ type_first
 
 module _ (source : List ℕ) (n : ℕ) where
   simple_named : NamesAt source n grammar.simple
-  unfolding Names grammar.simple grammar.typed grammar.given_behind grammar.made grammar.make grammar.sized grammar.indexed grammar.valued grammar.defined grammar.rewritten grammar.changed_behind grammar.placed
+  unfolding Names grammar.simple grammar.typed grammar.given_after grammar.made grammar.make grammar.sized grammar.indexed grammar.valued grammar.defined grammar.rewritten grammar.changed_after grammar.placed
   simple_named = (
     ((tt, tt), (((tt, (tt, tt)), tt), ((tt, tt), ((tt, tt), tt)))),
     (
@@ -37,12 +37,12 @@ module _ (source : List ℕ) (n : ℕ) where
   )
 
   simple_good : GoodAt source n grammar.simple
-  unfolding test first more nullable grammar.simple grammar.typed grammar.given_behind grammar.made grammar.make grammar.sized grammar.indexed grammar.valued grammar.defined grammar.rewritten grammar.changed_behind grammar.placed type_first type_more expression_first expression_more more_of levels words_of same_terminal
+  unfolding test first more nullable grammar.simple grammar.typed grammar.given_after grammar.made grammar.make grammar.sized grammar.indexed grammar.valued grammar.defined grammar.rewritten grammar.changed_after grammar.placed type_first type_more expression_first expression_more more_of levels words_of same_terminal
   simple_good = part_good source n grammar.simple refl simple_named
 
   -- the laws of a statement of a module that holds no other
   pub simple_laws : PartLaws source n grammar.simple simple_first []
-  unfolding first more nullable grammar.simple grammar.typed grammar.given_behind grammar.made grammar.make grammar.sized grammar.indexed grammar.valued grammar.defined grammar.rewritten grammar.changed_behind grammar.placed type_first simple_first same_terminal
+  unfolding first more nullable grammar.simple grammar.typed grammar.given_after grammar.made grammar.make grammar.sized grammar.indexed grammar.valued grammar.defined grammar.rewritten grammar.changed_after grammar.placed type_first simple_first same_terminal
   simple_laws = part_laws source n grammar.simple simple_first [] simple_good refl refl refl
 
   asked_good : GoodAt source n grammar.asked
@@ -59,10 +59,10 @@ module _ (source : List ℕ) (n : ℕ) where
   unfolding test first more nullable Names same_terminal
   ending_within kind name close = record { firsts = refl; mores = refl; good = part_good source n (grammar.ending kind name close) refl (tt, tt) }
 
-  rule_behind_within : (front : RuleFront) → WithinAt source n (word.Colon ∷ []) (word.Colon ∷ []) (grammar.rule_behind front)
+  rule_after_within : (front : RuleFront) → WithinAt source n (word.Colon ∷ []) (word.Colon ∷ []) (grammar.rule_after front)
   unfolding test first more nullable Names same_terminal
-  rule_behind_within (attributes, (start, (name, (condition, (found, close))))) =
-      record { firsts = refl; mores = refl; good = part_good source n (grammar.rule_behind (attributes, (start, (name, (condition, (found, close)))))) refl (tt, tt) }
+  rule_after_within (attributes, (start, (name, (condition, (found, close))))) =
+      record { firsts = refl; mores = refl; good = part_good source n (grammar.rule_after (attributes, (start, (name, (condition, (found, close)))))) refl (tt, tt) }
 
   stmts_named : NamesAt source n places.stmts
   unfolding Names places.stmts
@@ -74,7 +74,7 @@ module _ (source : List ℕ) (n : ℕ) where
 
   rule_named : NamesAt source n grammar.rule
   unfolding Names grammar.rule grammar.rule_front grammar.rule_condition grammar.asked
-  rule_named = ((groups_named, (tt, (tt, ((tt, tt), ((tt, stmts_named), tt))))), rule_behind_within)
+  rule_named = ((groups_named, (tt, (tt, ((tt, tt), ((tt, stmts_named), tt))))), rule_after_within)
 
   rule_good : GoodAt source n grammar.rule
   unfolding test first more nullable grammar.rule grammar.rule_front grammar.groups grammar.group grammar.attributes grammar.attribute grammar.rule_condition grammar.asked places.stmts type_first simple_more stmt_first stmt_more expression_first expression_more more_of levels words_of same_terminal
@@ -85,10 +85,10 @@ module _ (source : List ℕ) (n : ℕ) where
   unfolding first more nullable grammar.rule grammar.rule_front grammar.groups grammar.group same_terminal
   rule_laws = part_laws source n grammar.rule (word.OpenAttribute ∷ word.Rule ∷ []) (word.Colon ∷ []) rule_good refl refl refl
 
-  statements_within : (name : List ℕ) (front : Span × (List Stmt × Span)) → WithinAt source n (word.Colon ∷ []) (word.Colon ∷ []) (grammar.statements_behind name front)
+  statements_within : (name : List ℕ) (front : Span × (List Stmt × Span)) → WithinAt source n (word.Colon ∷ []) (word.Colon ∷ []) (grammar.statements_after name front)
   unfolding test first more nullable Names same_terminal
   statements_within name (start, (found, close)) =
-      record { firsts = refl; mores = refl; good = part_good source n (grammar.statements_behind name (start, (found, close))) refl (tt, tt) }
+      record { firsts = refl; mores = refl; good = part_good source n (grammar.statements_after name (start, (found, close))) refl (tt, tt) }
 
   body_named : (last : Terminal) (name : List ℕ) → NamesAt source n (grammar.body last name)
   unfolding Names grammar.body grammar.statements_body grammar.statements_front grammar.value_body
@@ -102,14 +102,14 @@ module _ (source : List ℕ) (n : ℕ) where
   unfolding Names grammar.header
   header_named kind = (tt, (tt, tt))
 
-  method_behind_within : (header : Header) → WithinAt source n (word.OpenParen ∷ word.If ∷ word.Semicolon ∷ word.Equal ∷ []) (word.Colon ∷ []) (grammar.method_behind header)
+  method_after_within : (header : Header) → WithinAt source n (word.OpenParen ∷ word.If ∷ word.Semicolon ∷ word.Equal ∷ []) (word.Colon ∷ []) (grammar.method_after header)
   unfolding test first more nullable Names grammar.optional_params grammar.bracketed_params grammar.params grammar.param grammar.next_param grammar.method_condition grammar.asked grammar.body grammar.statements_body grammar.statements_front grammar.value_body places.stmts type_first type_more simple_more stmt_first stmt_more expression_first expression_more more_of levels words_of same_terminal
-  method_behind_within (start, (result, name)) =
-      record { firsts = refl; mores = refl; good = part_good source n (grammar.method_behind (start, (result, name))) refl ((params_named, (tt, tt)), body_named word.EndMethod name.name) }
+  method_after_within (start, (result, name)) =
+      record { firsts = refl; mores = refl; good = part_good source n (grammar.method_after (start, (result, name))) refl ((params_named, (tt, tt)), body_named word.EndMethod name.name) }
 
   method_named : NamesAt source n grammar.method
   unfolding Names grammar.method
-  method_named = (header_named word.Method, method_behind_within)
+  method_named = (header_named word.Method, method_after_within)
 
   method_good : GoodAt source n grammar.method
   unfolding test first more nullable grammar.method grammar.header type_first type_more same_terminal
@@ -120,14 +120,14 @@ module _ (source : List ℕ) (n : ℕ) where
   unfolding first more nullable grammar.method grammar.header same_terminal
   method_laws = part_laws source n grammar.method (word.Method ∷ []) (word.Colon ∷ []) method_good refl refl refl
 
-  function_behind_within : (header : Header) → WithinAt source n (word.OpenParen ∷ []) (word.Colon ∷ []) (grammar.function_behind header)
+  function_after_within : (header : Header) → WithinAt source n (word.OpenParen ∷ []) (word.Colon ∷ []) (grammar.function_after header)
   unfolding test first more nullable Names grammar.bracketed_params grammar.params grammar.param grammar.next_param grammar.body grammar.statements_body grammar.statements_front grammar.value_body places.stmts type_first type_more simple_more stmt_first stmt_more expression_first expression_more more_of levels words_of same_terminal
-  function_behind_within (start, (result, name)) =
-      record { firsts = refl; mores = refl; good = part_good source n (grammar.function_behind (start, (result, name))) refl (params_named, body_named word.EndFunction name.name) }
+  function_after_within (start, (result, name)) =
+      record { firsts = refl; mores = refl; good = part_good source n (grammar.function_after (start, (result, name))) refl (params_named, body_named word.EndFunction name.name) }
 
   function_named : NamesAt source n grammar.function
   unfolding Names grammar.function
-  function_named = (header_named word.Function, function_behind_within)
+  function_named = (header_named word.Function, function_after_within)
 
   function_good : GoodAt source n grammar.function
   unfolding test first more nullable grammar.function grammar.header type_first type_more same_terminal
@@ -181,14 +181,14 @@ module _ (source : List ℕ) (n : ℕ) where
   unfolding first more nullable grammar.typedef grammar.type_form grammar.enumeration grammar.labels grammar.structure grammar.field_block grammar.alias grammar.named grammar.optional_deriving same_terminal
   typedef_laws = part_laws source n grammar.typedef (word.Typedef ∷ []) [] typedef_good refl refl refl
 
-  interface_behind_within : (front : InterfaceFront) → WithinAt source n (word.Colon ∷ []) (word.Colon ∷ []) (grammar.interface_behind front)
+  interface_after_within : (front : InterfaceFront) → WithinAt source n (word.Colon ∷ []) (word.Colon ∷ []) (grammar.interface_after front)
   unfolding test first more nullable Names same_terminal
-  interface_behind_within (start, (name, (methods, close))) =
-      record { firsts = refl; mores = refl; good = part_good source n (grammar.interface_behind (start, (name, (methods, close)))) refl (tt, tt) }
+  interface_after_within (start, (name, (methods, close))) =
+      record { firsts = refl; mores = refl; good = part_good source n (grammar.interface_after (start, (name, (methods, close)))) refl (tt, tt) }
 
   interface_named : NamesAt source n grammar.interface
   unfolding Names grammar.interface grammar.interface_front grammar.method_headers grammar.method_header grammar.optional_params grammar.bracketed_params
-  interface_named = ((tt, (tt, ((tt, (tt, (header_named word.Method, (params_named, tt)))), tt))), interface_behind_within)
+  interface_named = ((tt, (tt, ((tt, (tt, (header_named word.Method, (params_named, tt)))), tt))), interface_after_within)
 
   interface_good : GoodAt source n grammar.interface
   unfolding test first more nullable grammar.interface grammar.interface_front grammar.method_headers grammar.method_header grammar.header grammar.optional_params grammar.bracketed_params grammar.params grammar.param grammar.next_param type_first type_more same_terminal
@@ -226,7 +226,7 @@ indexed_tame = (refl, tt)
 
 -- a statement of a module that holds no other opens and closes them in pairs
 pub simple_tame : Tamed grammar.simple
-unfolding Tame grammar.simple grammar.typed grammar.given_behind grammar.sized grammar.defined grammar.rewritten grammar.changed_behind grammar.placed same_terminal
+unfolding Tame grammar.simple grammar.typed grammar.given_after grammar.sized grammar.defined grammar.rewritten grammar.changed_after grammar.placed same_terminal
 simple_tame = (
   ((tt, refl), (made_tame, ((indexed_tame, refl), valued_tame))),
   (
@@ -235,9 +235,9 @@ simple_tame = (
   ),
 )
 
--- each place in it counts as if it stood in a bracket
+-- each place in it counts as if it was in a bracket
 pub simple_guarded : guarded anywhere grammar.simple ≡ true
-unfolding guarded grammar.simple grammar.typed grammar.given_behind grammar.made grammar.make grammar.sized grammar.indexed grammar.valued grammar.defined grammar.rewritten grammar.changed_behind grammar.placed
+unfolding guarded grammar.simple grammar.typed grammar.given_after grammar.made grammar.make grammar.sized grammar.indexed grammar.valued grammar.defined grammar.rewritten grammar.changed_after grammar.placed
 simple_guarded = refl
 
 -- so does a condition in its `( )`
@@ -245,7 +245,7 @@ pub asked_tame : Tamed grammar.asked
 unfolding Tame grammar.asked same_terminal
 asked_tame = (refl, tt)
 
--- each place in it counts as if it stood in a bracket
+-- each place in it counts as if it was in a bracket
 pub asked_guarded : guarded anywhere grammar.asked ≡ true
 unfolding guarded grammar.asked
 asked_guarded = refl
@@ -258,21 +258,21 @@ groups_tame : Tamed grammar.groups
 unfolding Tame grammar.groups grammar.group grammar.attributes grammar.attribute same_terminal
 groups_tame = (tt, (refl, ((refl, (refl, refl)), (refl, (refl, (refl, refl))))))
 
-rule_behind_tame : (front : RuleFront) → Behind (grammar.rule_behind front)
+rule_after_tame : (front : RuleFront) → Behind (grammar.rule_after front)
 unfolding Tame guarded same_terminal
-rule_behind_tame (attributes, (start, (name, (condition, (found, close))))) = (refl, (refl, refl))
+rule_after_tame (attributes, (start, (name, (condition, (found, close))))) = (refl, (refl, refl))
 
 -- so does a rule
 pub rule_tame : Tamed grammar.rule
 unfolding Tame grammar.rule grammar.rule_front grammar.rule_condition same_terminal
-rule_tame = ((groups_tame, (refl, (refl, ((refl, asked_tame), ((refl, stmts_tame), refl))))), rule_behind_tame)
+rule_tame = ((groups_tame, (refl, (refl, ((refl, asked_tame), ((refl, stmts_tame), refl))))), rule_after_tame)
 
--- each place in it counts as if it stood in a bracket
+-- each place in it counts as if it was in a bracket
 pub rule_guarded : guarded anywhere grammar.rule ≡ true
 unfolding guarded grammar.rule grammar.rule_front grammar.groups grammar.group grammar.rule_condition grammar.asked places.stmts
 rule_guarded = refl
 
-statements_tame : (name : List ℕ) (front : Span × (List Stmt × Span)) → Behind (grammar.statements_behind name front)
+statements_tame : (name : List ℕ) (front : Span × (List Stmt × Span)) → Behind (grammar.statements_after name front)
 unfolding Tame guarded same_terminal
 statements_tame name (start, (found, close)) = (refl, (refl, refl))
 
@@ -292,30 +292,30 @@ optional_params_tame : Tamed grammar.optional_params
 unfolding Tame grammar.optional_params
 optional_params_tame = bracketed_params_tame
 
-method_behind_tame : (header : Header) → Behind (grammar.method_behind header)
+method_after_tame : (header : Header) → Behind (grammar.method_after header)
 unfolding Tame guarded grammar.optional_params grammar.bracketed_params grammar.method_condition grammar.asked grammar.body grammar.statements_body grammar.statements_front grammar.value_body places.stmts same_terminal
-method_behind_tame (start, (result, name)) = (refl, ((optional_params_tame, (refl, asked_tame)), body_tame word.EndMethod name.name refl))
+method_after_tame (start, (result, name)) = (refl, ((optional_params_tame, (refl, asked_tame)), body_tame word.EndMethod name.name refl))
 
 -- so does a method
 pub method_tame : Tamed grammar.method
 unfolding Tame grammar.method grammar.header same_terminal
-method_tame = ((refl, (tt, refl)), method_behind_tame)
+method_tame = ((refl, (tt, refl)), method_after_tame)
 
--- each place in it counts as if it stood in a bracket
+-- each place in it counts as if it was in a bracket
 pub method_guarded : guarded anywhere grammar.method ≡ true
 unfolding guarded grammar.method grammar.header
 method_guarded = refl
 
-function_behind_tame : (header : Header) → Behind (grammar.function_behind header)
+function_after_tame : (header : Header) → Behind (grammar.function_after header)
 unfolding Tame guarded grammar.bracketed_params grammar.body grammar.statements_body grammar.statements_front grammar.value_body places.stmts same_terminal
-function_behind_tame (start, (result, name)) = (refl, (bracketed_params_tame, body_tame word.EndFunction name.name refl))
+function_after_tame (start, (result, name)) = (refl, (bracketed_params_tame, body_tame word.EndFunction name.name refl))
 
 -- so does a function
 pub function_tame : Tamed grammar.function
 unfolding Tame grammar.function grammar.header same_terminal
-function_tame = ((refl, (tt, refl)), function_behind_tame)
+function_tame = ((refl, (tt, refl)), function_after_tame)
 
--- each place in it counts as if it stood in a bracket
+-- each place in it counts as if it was in a bracket
 pub function_guarded : guarded anywhere grammar.function ≡ true
 unfolding guarded grammar.function grammar.header
 function_guarded = refl
@@ -325,7 +325,7 @@ pub module_head_tame : Tamed grammar.module_head
 unfolding Tame grammar.module_head grammar.module_params grammar.given_type same_terminal
 module_head_tame = (groups_tame, (refl, (refl, ((refl, (refl, params_tame)), (refl, tt)))))
 
--- each place in it counts as if it stood in a bracket
+-- each place in it counts as if it was in a bracket
 pub module_head_guarded : guarded anywhere grammar.module_head ≡ true
 unfolding guarded grammar.module_head grammar.groups grammar.group grammar.module_params grammar.given_type
 module_head_guarded = refl
@@ -335,7 +335,7 @@ pub import_tame : Tamed grammar.import
 unfolding Tame grammar.import same_terminal
 import_tame = (refl, (refl, (refl, (refl, refl))))
 
--- each place in it counts as if it stood in a bracket
+-- each place in it counts as if it was in a bracket
 pub import_guarded : guarded anywhere grammar.import ≡ true
 unfolding guarded grammar.import
 import_guarded = refl
@@ -353,21 +353,21 @@ pub typedef_tame : Tamed grammar.typedef
 unfolding Tame grammar.typedef grammar.type_form grammar.enumeration grammar.labels grammar.structure grammar.field_block grammar.fields grammar.field grammar.alias same_terminal
 typedef_tame = (refl, ((refl, ((refl, names_tame), named_tame)), ((refl, ((refl, (tt, (tt, (refl, refl)))), named_tame)), (tt, (refl, refl)))))
 
--- each place in it counts as if it stood in a bracket
+-- each place in it counts as if it was in a bracket
 pub typedef_guarded : guarded anywhere grammar.typedef ≡ true
 unfolding guarded grammar.typedef grammar.type_form grammar.enumeration grammar.labels grammar.structure grammar.field_block grammar.alias grammar.named grammar.optional_deriving
 typedef_guarded = refl
 
-interface_behind_tame : (front : InterfaceFront) → Behind (grammar.interface_behind front)
+interface_after_tame : (front : InterfaceFront) → Behind (grammar.interface_after front)
 unfolding Tame guarded same_terminal
-interface_behind_tame (start, (name, (methods, close))) = (refl, (refl, refl))
+interface_after_tame (start, (name, (methods, close))) = (refl, (refl, refl))
 
 -- so does an interface
 pub interface_tame : Tamed grammar.interface
 unfolding Tame grammar.interface grammar.interface_front grammar.method_headers grammar.method_header grammar.header same_terminal
-interface_tame = ((refl, (refl, ((refl, (tt, ((refl, (tt, refl)), (optional_params_tame, refl)))), refl))), interface_behind_tame)
+interface_tame = ((refl, (refl, ((refl, (tt, ((refl, (tt, refl)), (optional_params_tame, refl)))), refl))), interface_after_tame)
 
--- each place in it counts as if it stood in a bracket
+-- each place in it counts as if it was in a bracket
 pub interface_guarded : guarded anywhere grammar.interface ≡ true
 unfolding guarded grammar.interface grammar.interface_front grammar.method_headers grammar.method_header grammar.header grammar.optional_params grammar.bracketed_params
 interface_guarded = refl

@@ -17,7 +17,7 @@ use Rattle.bsv_parse.specs.declared.answer.ParseFault.{ParseFault}
 use Rattle.bsv_parse.specs.declared.answer.ParseFault.TheVariants as parse
 use Rattle.bsv_parse.proofs.Deepest.{found_deep, deep_found, none_deep, deep_reaches}
 use Rattle.bsv_parse.proofs.PackageLaws.{file_sound}
-use Rattle.bsv_parse.proofs.Whole.{same_file, no_tree, no_tree_behind, not_too_deep}
+use Rattle.bsv_parse.proofs.Whole.{same_file, no_tree, no_tree_after, not_too_deep}
 
 -- what a reading of all the tokens was
 read_all : (r : Read Package) (x : Package) → (r >>= λ a. all_of a) ≡ Ok x → r ≡ Ok (x, [])
@@ -32,7 +32,7 @@ whole_found source ts x e = file_sound source 67 ts x [] (read_all (within sourc
 
 none_by : (source : List ℕ) (ts : List Lexeme) (left : ℕ) (r : Read Package) → within source 67 file ts ≡ r → (r >>= λ a. all_of a) ≡ Err (fault.Syntax left) → (n : ℕ) (x : Package) → IsFile source n x ts [] → ⊥
 none_by source ts left (Ok (y, [])) is e n x d = absurd cc
-none_by source ts left (Ok (y, w ∷ rest)) is e n x d = no_tree_behind source ts y w rest is n x d
+none_by source ts left (Ok (y, w ∷ rest)) is e n x d = no_tree_after source ts y w rest is n x d
 none_by source ts left (Err (fault.Syntax at)) is e n x d = no_tree source ts at is n x d
 none_by source ts left (Err fault.TooDeep) is e n x d = absurd cc
 none_by source ts left (Err fault.OutOfMemory) is e n x d = absurd cc

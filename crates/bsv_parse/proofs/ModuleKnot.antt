@@ -23,16 +23,16 @@ use Rattle.bsv_blocks.specs.Types.{type_first}
 use Rattle.bsv_blocks.specs.Simple as simple_grammar
 use Rattle.bsv_parse.specs.Definitions as definitions
 use Rattle.bsv_parse.specs.Modules as grammar
-use Rattle.bsv_parse.specs.Modules.{Nested, Filled, Of, Inner, inner, IsModuleStmt, mstmt, within, IsModule, mstmt_first, mstmts, mstmt_body, ModuleFront, module_front, module_behind, module_whole}
+use Rattle.bsv_parse.specs.Modules.{Nested, Filled, Of, Inner, inner, IsModuleStmt, mstmt, within, IsModule, mstmt_first, mstmts, mstmt_body, ModuleFront, module_front, module_after, module_whole}
 use Rattle.bsv_blocks.proofs.SimpleLaws.{says_sound, says_balanced, says_deep, says_agrees, head_laws, head_tame, head_guarded}
 use Rattle.bsv_parse.proofs.PlaceLaws.{part_sound, part_balanced, part_deep, part_agrees}
 use Rattle.bsv_parse.proofs.DefinitionLaws.{simple_first, simple_laws, simple_tame, simple_guarded, rule_laws, rule_tame, rule_guarded, method_laws, method_tame, method_guarded, asked_laws, asked_tame, asked_guarded, module_head_laws, module_head_tame, module_head_guarded}
 
--- the words that go on behind a statement of a module
+-- the words that go on after a statement of a module
 unfoldable pub mstmt_more : List Terminal
 mstmt_more = word.Else ∷ word.Colon ∷ []
 
--- the words with which what stands at a place begins
+-- the words with which what is at a place begins
 abbrev pub place_begins : Nested → List Terminal
 place_begins Nested.simple = simple_first
 place_begins Nested.rule = word.OpenAttribute ∷ word.Rule ∷ []
@@ -42,7 +42,7 @@ place_begins Nested.head = word.For ∷ []
 place_begins Nested.heading = word.OpenAttribute ∷ word.Module ∷ []
 place_begins Nested.statement = mstmt_first
 
--- the words that go on behind it
+-- the words that go on after it
 abbrev pub place_goes_on : Nested → List Terminal
 place_goes_on Nested.simple = []
 place_goes_on Nested.rule = word.Colon ∷ []
@@ -52,7 +52,7 @@ place_goes_on Nested.head = []
 place_goes_on Nested.heading = []
 place_goes_on Nested.statement = mstmt_more
 
--- each place but that of a statement in a block counts as if it stood in a bracket
+-- each place but that of a statement in a block counts as if it was in a bracket
 abbrev pub outside : Nested → Bool
 outside Nested.simple = true
 outside Nested.rule = true
@@ -62,7 +62,7 @@ outside Nested.head = true
 outside Nested.heading = true
 outside Nested.statement = false
 
--- what is read at a place stands there
+-- what is read at a place is there
 pub place_sound : (source : List ℕ) (n : ℕ) (Block : Phrase ModuleStmt) (blocks : List Lexeme → Read ModuleStmt) → ((ts : List Lexeme) (x : ModuleStmt) (rest : List Lexeme) → blocks ts ≡ Ok (x, rest) → Block x ts rest)
     → (h : Nested) (ts : List Lexeme) (x : Filled h) (rest : List Lexeme) → inner source n blocks h ts ≡ Ok (x, rest) → Inner source n Block h x ts rest
 unfolding inner Inner
@@ -88,7 +88,7 @@ pub record MstmtLaws (source : List ℕ) (n : ℕ) : Type 0 where
   pub shorter : (x : ModuleStmt) (ts rest : List Lexeme) → IsModuleStmt source n x ts rest → length rest < length ts
 
 module _ (source : List ℕ) (n : ℕ) (laws : MstmtLaws source n) where
-  -- the reader at a place reads what stands there
+  -- the reader at a place reads what is there
   pub place_completes : (h : Nested) (x : Filled h) (ts rest : List Lexeme) → Inner source n (IsModuleStmt source n) h x ts rest → starts (place_goes_on h) rest ≡ false → inner source n (mstmt source n) h ts ≡ Ok (x, rest)
   unfolding inner Inner
   place_completes Nested.simple x ts rest d stop = (simple_laws source n).completes x ts rest d stop
@@ -99,7 +99,7 @@ module _ (source : List ℕ) (n : ℕ) (laws : MstmtLaws source n) where
   place_completes Nested.heading x ts rest d stop = (module_head_laws source n).completes x ts rest d stop
   place_completes Nested.statement x ts rest d stop = laws.completes x ts rest d stop
 
-  -- what stands at a place begins with one of its words
+  -- what is at a place begins with one of its words
   pub place_starts : (h : Nested) (x : Filled h) (ts rest : List Lexeme) → Inner source n (IsModuleStmt source n) h x ts rest → starts (place_begins h) ts ≡ true
   unfolding Inner
   place_starts Nested.simple x ts rest d = (simple_laws source n).begins x ts rest d
@@ -162,14 +162,14 @@ module _ (source : List ℕ) (n : ℕ) (laws : MstmtLaws source n) where
   unfolding test first more nullable grammar.nested mstmts grammar.block grammar.ruled grammar.arm grammar.branch grammar.else_part grammar.branches grammar.if_stmt grammar.arm_or_if grammar.inner_for grammar.for_body grammar.for_stmt grammar.methodical mstmt_body type_first simple_first mstmt_first mstmt_more same_terminal
   body_good = is_good mstmt_body refl body_named
 
-  module_behind_within : (front : ModuleFront) → within_of (word.Colon ∷ []) (word.Colon ∷ []) (module_behind front)
+  module_after_within : (front : ModuleFront) → within_of (word.Colon ∷ []) (word.Colon ∷ []) (module_after front)
   unfolding test first more nullable Names same_terminal
-  module_behind_within ((attributes, (start, (name, (params, interface)))), (found, close)) =
-      record { firsts = refl; mores = refl; good = is_good (module_behind ((attributes, (start, (name, (params, interface)))), (found, close))) refl (tt, tt) }
+  module_after_within ((attributes, (start, (name, (params, interface)))), (found, close)) =
+      record { firsts = refl; mores = refl; good = is_good (module_after ((attributes, (start, (name, (params, interface)))), (found, close))) refl (tt, tt) }
 
   module_named : names_of module_whole
   unfolding Names module_whole module_front grammar.nested mstmts
-  module_named = ((tt, ((tt, (tt, tt)), tt)), module_behind_within)
+  module_named = ((tt, ((tt, (tt, tt)), tt)), module_after_within)
 
   -- and that of a module
   pub module_good : good_of module_whole
@@ -233,21 +233,21 @@ pub mstmt_body_tame : Tamed mstmt_body
 unfolding Tame mstmt_body grammar.methodical
 mstmt_body_tame = (if_tame, (for_tame, (tt, arm_tame)))
 
--- a statement in a block stands between `begin` and `end`
+-- a statement in a block is between `begin` and `end`
 pub mstmt_body_guarded : guarded outside mstmt_body ≡ true
 unfolding guarded grammar.nested mstmts grammar.block grammar.ruled grammar.arm grammar.branch grammar.else_part grammar.branches grammar.if_stmt grammar.arm_or_if grammar.inner_for grammar.for_body grammar.for_stmt grammar.methodical mstmt_body
 mstmt_body_guarded = refl
 
-module_behind_tame : (front : ModuleFront) → (guarded outside (module_behind front) ≡ true) × Tamed (module_behind front)
+module_after_tame : (front : ModuleFront) → (guarded outside (module_after front) ≡ true) × Tamed (module_after front)
 unfolding Tame guarded same_terminal
-module_behind_tame ((attributes, (start, (name, (params, interface)))), (found, close)) = (refl, (refl, refl))
+module_after_tame ((attributes, (start, (name, (params, interface)))), (found, close)) = (refl, (refl, refl))
 
 -- so does a module
 pub module_tame : Tamed module_whole
 unfolding Tame module_whole module_front same_terminal
-module_tame = ((tt, ((refl, mstmts_tame), refl)), module_behind_tame)
+module_tame = ((tt, ((refl, mstmts_tame), refl)), module_after_tame)
 
--- what stands at a place closes each bracket that it opens
+-- what is at a place closes each bracket that it opens
 pub place_balanced : (source : List ℕ) (n : ℕ) (Block : Phrase ModuleStmt) → Balanced Block → (h : Nested) → Balanced (Inner source n Block h)
 unfolding Inner
 place_balanced source n Block below Nested.simple x ts rest d l k r = part_balanced source n definitions.simple simple_tame x ts rest d l k r
@@ -276,7 +276,7 @@ place_deep source p blocks below Nested.head ts e k = lower_limit (suc (suc p) +
 place_deep source p blocks below Nested.heading ts e k = lower_limit (suc (suc p) - 1 + k) (p + 1 + k) k ts (omega arith) (part_deep source (suc (suc p)) definitions.module_head module_head_tame module_head_guarded ts e k)
 place_deep source p blocks below Nested.statement ts e k = lower_limit (p + k) (p + 0 + k) k ts (omega arith) (below ts e k)
 
--- where the reader of a part was given too few brackets and blocks, so many are open, and one more if each block in it stands in a bracket
+-- where the reader of a part was given too few brackets and blocks, so many are open, and one more if each block in it is in a bracket
 pub within_deep : {A : Type 0} (source : List ℕ) (p : ℕ) → ((ts : List Lexeme) → mstmt source (suc (suc p)) ts ≡ Err fault.TooDeep → (k : ℕ) → Reaches (p + k) k ts)
     → (g : Of A) → Tamed g → (ts : List Lexeme) → within source (suc (suc p)) g ts ≡ Err fault.TooDeep → (k : ℕ) → Reaches (p + bonus (guarded outside g) + k) k ts
 within_deep source p below g tame ts e k =
@@ -284,7 +284,7 @@ within_deep source p below g tame ts e k =
     outside (place_balanced source (suc (suc p)) (IsModuleStmt source (suc (suc p))) (mstmt_balanced source (suc (suc p)))) p (place_deep source p (mstmt source (suc (suc p))) below) g tame false ts e k
 
 -- where the reader was given too few brackets and blocks, so many are open but two: the outermost statement of a module
--- stands in no block, and neither does the outermost statement in a rule or a method
+-- is in no block, and neither does the outermost statement in a rule or a method
 pub mstmt_deep : (source : List ℕ) (n : ℕ) (ts : List Lexeme) → mstmt source n ts ≡ Err fault.TooDeep → (k : ℕ) → Reaches (n - 2 + k) k ts
 unfolding mstmt
 mstmt_deep source zero ts e k = Reaches.here (omega arith)

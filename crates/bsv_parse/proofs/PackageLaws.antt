@@ -21,7 +21,7 @@ use Rattle.bsv_parse.proofs.PlaceLaws.{part_sound, part_balanced, part_deep, par
 use Rattle.bsv_parse.proofs.DefinitionLaws.{import_laws, import_tame, import_guarded, typedef_laws, typedef_tame, typedef_guarded, interface_laws, interface_tame, interface_guarded, function_laws, function_tame, function_guarded}
 use Rattle.bsv_parse.proofs.ModuleKnot.{module_sound, module_completes, module_begins, module_shorter, module_balanced, module_deep, module_agrees}
 
--- the words with which what stands at a place begins
+-- the words with which what is at a place begins
 abbrev pub place_begins : Defined → List Terminal
 place_begins Defined.import = word.Import ∷ []
 place_begins Defined.typedef = word.Typedef ∷ []
@@ -29,7 +29,7 @@ place_begins Defined.interface = word.Interface ∷ []
 place_begins Defined.function = word.Function ∷ []
 place_begins Defined.module_whole = word.OpenAttribute ∷ word.Module ∷ []
 
--- the words that go on behind it
+-- the words that go on after it
 abbrev pub place_goes_on : Defined → List Terminal
 place_goes_on Defined.import = []
 place_goes_on Defined.typedef = []
@@ -38,7 +38,7 @@ place_goes_on Defined.function = word.Colon ∷ []
 place_goes_on Defined.module_whole = word.Colon ∷ []
 
 module _ (source : List ℕ) (n : ℕ) where
-  -- what is read at a place stands there
+  -- what is read at a place is there
   pub place_sound : (h : Defined) (ts : List Lexeme) (x : Filled h) (rest : List Lexeme) → inner source n h ts ≡ Ok (x, rest) → Inner source n h x ts rest
   unfolding inner Inner
   place_sound Defined.import ts x rest e = part_sound source n definitions.import ts x rest e
@@ -47,7 +47,7 @@ module _ (source : List ℕ) (n : ℕ) where
   place_sound Defined.function ts x rest e = part_sound source n definitions.function ts x rest e
   place_sound Defined.module_whole ts x rest e = module_sound source n ts x rest e
 
-  -- the reader at a place reads what stands there
+  -- the reader at a place reads what is there
   pub place_completes : (h : Defined) (x : Filled h) (ts rest : List Lexeme) → Inner source n h x ts rest → starts (place_goes_on h) rest ≡ false → inner source n h ts ≡ Ok (x, rest)
   unfolding inner Inner
   place_completes Defined.import x ts rest d stop = (import_laws source n).completes x ts rest d stop
@@ -56,7 +56,7 @@ module _ (source : List ℕ) (n : ℕ) where
   place_completes Defined.function x ts rest d stop = (function_laws source n).completes x ts rest d stop
   place_completes Defined.module_whole x ts rest d stop = module_completes source n x ts rest d stop
 
-  -- what stands at a place begins with one of its words
+  -- what is at a place begins with one of its words
   pub place_starts : (h : Defined) (x : Filled h) (ts rest : List Lexeme) → Inner source n h x ts rest → starts (place_begins h) ts ≡ true
   unfolding Inner
   place_starts Defined.import x ts rest d = (import_laws source n).begins x ts rest d
@@ -108,14 +108,14 @@ module _ (source : List ℕ) (n : ℕ) where
   unfolding Names grammar.item
   item_named = (tt, (tt, (tt, (tt, tt))))
 
-  package_behind_within : (front : PackageFront) → within_of (word.Colon ∷ []) (word.Colon ∷ []) (grammar.package_behind front)
+  package_after_within : (front : PackageFront) → within_of (word.Colon ∷ []) (word.Colon ∷ []) (grammar.package_after front)
   unfolding test first more nullable Names same_terminal
-  package_behind_within (start, (name, (found, close))) =
-      record { firsts = refl; mores = refl; good = is_good (grammar.package_behind (start, (name, (found, close)))) refl (tt, tt) }
+  package_after_within (start, (name, (found, close))) =
+      record { firsts = refl; mores = refl; good = is_good (grammar.package_after (start, (name, (found, close)))) refl (tt, tt) }
 
   package_named : names_of grammar.package_whole
   unfolding Names grammar.package_whole grammar.package_front grammar.items
-  package_named = ((tt, (tt, ((tt, (tt, item_named)), tt))), package_behind_within)
+  package_named = ((tt, (tt, ((tt, (tt, item_named)), tt))), package_after_within)
 
   file_named : names_of file
   unfolding Names file grammar.bare
@@ -130,12 +130,12 @@ module _ (source : List ℕ) (n : ℕ) where
   unfolding IsFile
   file_sound ts x rest e = sound source (inner source n) (Inner source n) place_sound file false ts x rest e
 
-  -- the reader of files reads each file behind which no token stands
+  -- the reader of files reads each file after which no token stands
   pub file_completes : (x : Package) (ts : List Lexeme) → IsFile source n x ts [] → within source n file ts ≡ Ok (x, [])
   unfolding IsFile
   file_completes x ts d = file_good.completes false x ts [] d refl
 
--- each place counts as if it stood in a bracket
+-- each place counts as if it was in a bracket
 abbrev anywhere : Defined → Bool
 anywhere h = true
 
@@ -143,20 +143,20 @@ item_tame : Tame anywhere grammar.item
 unfolding Tame grammar.item
 item_tame = (tt, (tt, (tt, (tt, tt))))
 
-package_behind_tame : (front : PackageFront) → (guarded anywhere (grammar.package_behind front) ≡ true) × Tame anywhere (grammar.package_behind front)
+package_after_tame : (front : PackageFront) → (guarded anywhere (grammar.package_after front) ≡ true) × Tame anywhere (grammar.package_after front)
 unfolding Tame guarded same_terminal
-package_behind_tame (start, (name, (found, close))) = (refl, (refl, refl))
+package_after_tame (start, (name, (found, close))) = (refl, (refl, refl))
 
 package_tame : Tame anywhere grammar.package_whole
 unfolding Tame grammar.package_whole grammar.package_front grammar.items same_terminal
-package_tame = ((refl, (refl, ((refl, (tt, item_tame)), refl))), package_behind_tame)
+package_tame = ((refl, (refl, ((refl, (tt, item_tame)), refl))), package_after_tame)
 
 -- a file opens and closes brackets and blocks in pairs
 pub file_tame : Tame anywhere file
 unfolding Tame file grammar.bare
 file_tame = (package_tame, (item_tame, item_tame))
 
--- each place in it counts as if it stood in a bracket
+-- each place in it counts as if it was in a bracket
 pub file_guarded : guarded anywhere file ≡ true
 unfolding guarded file grammar.package_whole grammar.package_front grammar.items grammar.item grammar.bare
 file_guarded = refl

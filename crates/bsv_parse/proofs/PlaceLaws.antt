@@ -24,14 +24,14 @@ use Rattle.bsv_blocks.proofs.TypeKnot.{type_more}
 use Rattle.bsv_blocks.proofs.HoleLaws as holes
 use Rattle.bsv_blocks.proofs.StatementKnot.{stmt_more, stmt_sound, stmt_laws_at, stmt_balanced, stmt_deep, stmt_agrees}
 
--- the words with which what stands at a place begins
+-- the words with which what is at a place begins
 abbrev pub place_begins : Hole → List Terminal
 place_begins Hole.expression = expression_first
 place_begins Hole.arguments = word.OpenParen ∷ []
 place_begins Hole.written = type_first
 place_begins Hole.statement = stmt_first
 
--- the words that go on behind it
+-- the words that go on after it
 abbrev pub place_goes_on : Hole → List Terminal
 place_goes_on Hole.expression = expression_more
 place_goes_on Hole.arguments = []
@@ -39,7 +39,7 @@ place_goes_on Hole.written = type_more
 place_goes_on Hole.statement = stmt_more
 
 module _ (source : List ℕ) (n : ℕ) where
-  -- what is read at a place stands there
+  -- what is read at a place is there
   pub inner_sound : (h : Hole) (ts : List Lexeme) (x : Filled h) (rest : List Lexeme) → inner source n h ts ≡ Ok (x, rest) → Inner source n h x ts rest
   unfolding inner Inner simple_places.inner simple_places.Inner
   inner_sound Hole.expression ts x rest e = holes.inner_sound source n simple_places.Hole.expression ts x rest e
@@ -47,7 +47,7 @@ module _ (source : List ℕ) (n : ℕ) where
   inner_sound Hole.written ts x rest e = holes.inner_sound source n simple_places.Hole.written ts x rest e
   inner_sound Hole.statement ts x rest e = stmt_sound source n ts x rest e
 
-  -- the reader at a place reads what stands there
+  -- the reader at a place reads what is there
   pub inner_completes : (h : Hole) (x : Filled h) (ts rest : List Lexeme) → Inner source n h x ts rest → starts (place_goes_on h) rest ≡ false → inner source n h ts ≡ Ok (x, rest)
   unfolding inner Inner simple_places.inner simple_places.Inner
   inner_completes Hole.expression x ts rest d stop = holes.inner_completes source n simple_places.Hole.expression x ts rest d stop
@@ -55,7 +55,7 @@ module _ (source : List ℕ) (n : ℕ) where
   inner_completes Hole.written x ts rest d stop = holes.inner_completes source n simple_places.Hole.written x ts rest d stop
   inner_completes Hole.statement x ts rest d stop = (stmt_laws_at source n).completes x ts rest d stop
 
-  -- what stands at a place begins with one of its words
+  -- what is at a place begins with one of its words
   pub inner_begins : (h : Hole) (x : Filled h) (ts rest : List Lexeme) → Inner source n h x ts rest → starts (place_begins h) ts ≡ true
   unfolding Inner simple_places.Inner
   inner_begins Hole.expression x ts rest d = holes.inner_begins source n simple_places.Hole.expression x ts rest d
@@ -95,12 +95,12 @@ inner_agrees source n m le Hole.arguments ts = holes.inner_agrees source n m le 
 inner_agrees source n m le Hole.written ts = holes.inner_agrees source n m le simple_places.Hole.written ts
 inner_agrees source n m le Hole.statement ts = stmt_agrees source n m le ts
 
--- each place counts as if it stood in a bracket
+-- each place counts as if it was in a bracket
 abbrev pub anywhere : Hole → Bool
 anywhere h = true
 
 -- what a grammar over these places owes to what holds it: its reader reads it where none of the last words stands
--- behind it, it begins with one of the first words, and it takes a token
+-- after it, it begins with one of the first words, and it takes a token
 pub record PartLaws {A : Type 0} (source : List ℕ) (n : ℕ) (g : Of A) (fs ms : List Terminal) : Type 0 where
   pub completes : (x : A) (ts rest : List Lexeme) → Says source n g x ts rest → starts ms rest ≡ false → part source n g ts ≡ Ok (x, rest)
   pub begins : (x : A) (ts rest : List Lexeme) → Says source n g x ts rest → starts fs ts ≡ true

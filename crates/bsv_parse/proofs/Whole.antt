@@ -53,8 +53,8 @@ no_tree source ts left e n x d =
     ]
 
 -- nor are they one where it ends in front of a token
-pub no_tree_behind : (source : List ℕ) (ts : List Lexeme) (y : Package) (w : Lexeme) (rest : List Lexeme) → within source 67 file ts ≡ Ok (y, w ∷ rest) → (n : ℕ) (x : Package) → IsFile source n x ts [] → ⊥
-no_tree_behind source ts y w rest e n x d =
+pub no_tree_after : (source : List ℕ) (ts : List Lexeme) (y : Package) (w : Lexeme) (rest : List Lexeme) → within source 67 file ts ≡ Ok (y, w ∷ rest) → (n : ℕ) (x : Package) → IsFile source n x ts [] → ⊥
+no_tree_after source ts y w rest e n x d =
     elim (file_or_deep source n 67 x ts d) [
       | inl deep ↦ let never : ◌≡◌ {A = Read Package} (Ok (y, w ∷ rest)) (Err fault.TooDeep) = sym e ∙ deep in absurd cc
       | inr is ↦ let never : w ∷ rest ≡ [] = left_once y x (w ∷ rest) [] (sym e ∙ is) in absurd cc

@@ -62,7 +62,7 @@ groups = many (word.OpenAttribute ∷ []) group
 unfoldable pub param : Of Param
 param = Grammar.both param_of written lower
 
--- one more, behind a `,`
+-- one more, after a `,`
 unfoldable pub next_param : Of Param
 next_param = behind word.Comma param
 
@@ -94,14 +94,14 @@ indexed = Grammar.between (λ o x c. x) word.OpenBracket expression word.CloseBr
 unfoldable pub sized : Of Given
 sized = Grammar.both (λ x c. given.Array x c) indexed (the word.Semicolon)
 
-unfoldable pub given_behind : Of Given
-given_behind =
+unfoldable pub given_after : Of Given
+given_after =
     Grammar.choose (word.LeftArrow ∷ []) (Grammar.made (λ x. given.Instance x.0 x.1) made)
     (Grammar.choose (word.OpenBracket ∷ []) sized
     (Grammar.made (λ x. given.Value x.0 x.1) valued))
 
 unfoldable pub typed : Of ModuleStmt
-typed = Grammar.both typed_of (Grammar.both pair written lower) given_behind
+typed = Grammar.both typed_of (Grammar.both pair written lower) given_after
 
 unfoldable pub defined : Of ModuleStmt
 defined = Grammar.both let_of (Grammar.both pair (the word.Let) lower) valued
@@ -109,11 +109,11 @@ defined = Grammar.both let_of (Grammar.both pair (the word.Let) lower) valued
 unfoldable pub placed : Of Changed
 placed = Grammar.both (λ at x. changed.Place at x.0 x.1) indexed made
 
-unfoldable pub changed_behind : Of Changed
-changed_behind = Grammar.choose (word.OpenBracket ∷ []) placed (Grammar.made (λ x. changed.Value x.0 x.1) valued)
+unfoldable pub changed_after : Of Changed
+changed_after = Grammar.choose (word.OpenBracket ∷ []) placed (Grammar.made (λ x. changed.Value x.0 x.1) valued)
 
 unfoldable pub rewritten : Of ModuleStmt
-rewritten = Grammar.both changed_of lower changed_behind
+rewritten = Grammar.both changed_of lower changed_after
 
 unfoldable pub simple : Of ModuleStmt
 simple = Grammar.choose type_first typed (Grammar.choose (word.Let ∷ []) defined rewritten)
@@ -125,7 +125,7 @@ unfoldable pub asked : Of Expr
 asked = Grammar.between (λ o x c. x) word.OpenParen expression word.CloseParen
 
 module _ {H : Type 0} {T : H → Type 0} where
-  -- the name that an `end..` word ends, if it stands there again; and where the definition ends
+  -- the name that an `end..` word ends, if it is there again; and where the definition ends
   abbrev pub ending : Terminal → List ℕ → Span → Grammar H T Span
   ending kind name close = Grammar.made (λ found. unwrap_or found close) (Grammar.maybe (word.Colon ∷ []) (behind word.Colon (Grammar.leaf (kind ∷ []) (told_as name))))
 
@@ -133,11 +133,11 @@ module _ {H : Type 0} {T : H → Type 0} where
 unfoldable pub statements_front : Terminal → Of (Span × (List Stmt × Span))
 statements_front last = Grammar.both pair (the word.Semicolon) (Grammar.both pair stmts (the last))
 
-abbrev pub statements_behind : List ℕ → Span × (List Stmt × Span) → Of (Body × Span)
-statements_behind name (start, (found, close)) = Grammar.made (statements_of (start, (found, close))) (ending word.Lower name close)
+abbrev pub statements_after : List ℕ → Span × (List Stmt × Span) → Of (Body × Span)
+statements_after name (start, (found, close)) = Grammar.made (statements_of (start, (found, close))) (ending word.Lower name close)
 
 unfoldable pub statements_body : Terminal → List ℕ → Of (Body × Span)
-statements_body last name = Grammar.bind (word.Colon ∷ []) (word.Colon ∷ []) (statements_front last) (statements_behind name)
+statements_body last name = Grammar.bind (word.Colon ∷ []) (word.Colon ∷ []) (statements_front last) (statements_after name)
 
 unfoldable pub value_body : Of (Body × Span)
 value_body = Grammar.both (λ x c. value_of x.0 x.1 c) (Grammar.both pair (the word.Equal) expression) (the word.Semicolon)
@@ -159,12 +159,12 @@ rule_front =
     (Grammar.both pair rule_condition
     (Grammar.both pair (behind word.Semicolon stmts) (the word.EndRule)))))
 
-abbrev pub rule_behind : RuleFront → Of Rule
-rule_behind (attributes, (start, (name, (condition, (found, close))))) =
+abbrev pub rule_after : RuleFront → Of Rule
+rule_after (attributes, (start, (name, (condition, (found, close))))) =
     Grammar.made (rule_of (attributes, (start, (name, (condition, (found, close)))))) (ending word.Lower name.name close)
 
 unfoldable pub rule : Of Rule
-rule = Grammar.bind (word.Colon ∷ []) (word.Colon ∷ []) rule_front rule_behind
+rule = Grammar.bind (word.Colon ∷ []) (word.Colon ∷ []) rule_front rule_after
 
 -- this word, a type and a name
 unfoldable pub header : Terminal → Of Header
@@ -173,18 +173,18 @@ header first = Grammar.both pair (the first) (Grammar.both pair written lower)
 unfoldable pub method_condition : Of (Option Expr)
 method_condition = Grammar.maybe (word.If ∷ []) (behind word.If asked)
 
-abbrev pub method_behind : Header → Of Method
-method_behind (start, (result, name)) =
+abbrev pub method_after : Header → Of Method
+method_after (start, (result, name)) =
     Grammar.both (method_of (start, (result, name))) (Grammar.both pair optional_params method_condition) (body word.EndMethod name.name)
 
 unfoldable pub method : Of Method
-method = Grammar.bind (word.OpenParen ∷ word.If ∷ word.Semicolon ∷ word.Equal ∷ []) (word.Colon ∷ []) (header word.Method) method_behind
+method = Grammar.bind (word.OpenParen ∷ word.If ∷ word.Semicolon ∷ word.Equal ∷ []) (word.Colon ∷ []) (header word.Method) method_after
 
-abbrev pub function_behind : Header → Of Function
-function_behind (start, (result, name)) = Grammar.both (function_of (start, (result, name))) bracketed_params (body word.EndFunction name.name)
+abbrev pub function_after : Header → Of Function
+function_after (start, (result, name)) = Grammar.both (function_of (start, (result, name))) bracketed_params (body word.EndFunction name.name)
 
 unfoldable pub function : Of Function
-function = Grammar.bind (word.OpenParen ∷ []) (word.Colon ∷ []) (header word.Function) function_behind
+function = Grammar.bind (word.OpenParen ∷ []) (word.Colon ∷ []) (header word.Function) function_after
 
 -- The head of a module.
 
@@ -209,7 +209,7 @@ module_head =
 unfoldable pub import : Of Import
 import = Grammar.both import_of (the word.Import) (Grammar.both pair upper (behind word.DoubleColon (behind word.Star (the word.Semicolon))))
 
--- one more, behind a `,`
+-- one more, after a `,`
 unfoldable pub next_name : Of Ident
 next_name = behind word.Comma upper
 
@@ -221,7 +221,7 @@ optional_deriving =
     Grammar.made (λ found. unwrap_or found [])
     (Grammar.maybe (word.Deriving ∷ []) (behind word.Deriving (Grammar.between (λ o found c. found) word.OpenParen names word.CloseParen)))
 
--- the name of a type, its `deriving` and the `;` behind them
+-- the name of a type, its `deriving` and the `;` after them
 unfoldable pub named : Of Named
 named = Grammar.both pair upper (Grammar.both pair optional_deriving (the word.Semicolon))
 
@@ -264,8 +264,8 @@ interface_front =
     (Grammar.both pair upper
     (Grammar.both pair (behind word.Semicolon method_headers) (the word.EndInterface)))
 
-abbrev pub interface_behind : InterfaceFront → Of Interface
-interface_behind (start, (name, (methods, close))) = Grammar.made (interface_of (start, (name, (methods, close)))) (ending word.Upper name.name close)
+abbrev pub interface_after : InterfaceFront → Of Interface
+interface_after (start, (name, (methods, close))) = Grammar.made (interface_of (start, (name, (methods, close)))) (ending word.Upper name.name close)
 
 unfoldable pub interface : Of Interface
-interface = Grammar.bind (word.Colon ∷ []) (word.Colon ∷ []) interface_front interface_behind
+interface = Grammar.bind (word.Colon ∷ []) (word.Colon ∷ []) interface_front interface_after

@@ -64,11 +64,11 @@ abbrev pub make_of : Ident → Option (List Expr × Span) → Make
 make_of name None = record { span = name.span; maker = name; arguments = [] }
 make_of name (Some found) = record { span = to name.span found.1; maker = name; arguments = found.0 }
 
--- a name and its value, behind a type or `let`
+-- a name and its value, after a type or `let`
 abbrev pub declaration : Span → DeclaredType → Ident → Expr → Span → ModuleStmt
 declaration start t name value c = node.Declare (to start c) (record { span = to start c; declared = t; name = name; value = value })
 
--- `type Lower`, and what stands behind it
+-- `type Lower`, and what comes after it
 abbrev pub typed_of : WrittenType × Ident → Given → ModuleStmt
 typed_of (t, name) (given.Instance make c) = node.Instance (to (type_span t) c) t name make
 typed_of (t, name) (given.Array size c) = node.Array (to (type_span t) c) t name size
@@ -78,7 +78,7 @@ typed_of (t, name) (given.Value value c) = declaration (type_span t) (declared.W
 abbrev pub let_of : Span × Ident → Expr × Span → ModuleStmt
 let_of (start, name) (value, c) = declaration start (declared.Let start) name value c
 
--- a name, and what stands behind it
+-- a name, and what comes after it
 abbrev pub changed_of : Ident → Changed → ModuleStmt
 changed_of name (changed.Place at make c) = node.Place (to name.span c) name at make
 changed_of name (changed.Value value c) = node.Assign (to name.span c) name value
@@ -165,7 +165,7 @@ opened start (typedef.Struct s fields name classes) = typedef.Struct (to start s
 abbrev pub alias_of : WrittenType → Ident × Span → Typedef
 alias_of t (name, end) = typedef.Alias (to (type_span t) end) t name
 
--- what stands behind the `}`: a name, the classes of its `deriving`, and where its `;` stands
+-- what comes after the `}`: a name, the classes of its `deriving`, and where its `;` stands
 abbrev pub Named : Type 0
 Named = Ident × (List Ident × Span)
 

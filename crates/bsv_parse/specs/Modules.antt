@@ -107,14 +107,14 @@ ModuleFront = ModuleHead × (List ModuleStmt × Span)
 unfoldable pub module_front : Of ModuleFront
 module_front = Grammar.both pair (Grammar.hole Nested.heading) (Grammar.both pair (behind word.Semicolon mstmts) (the word.EndModule))
 
-abbrev pub module_behind : ModuleFront → Of Module
-module_behind ((attributes, (start, (name, (params, interface)))), (found, close)) =
+abbrev pub module_after : ModuleFront → Of Module
+module_after ((attributes, (start, (name, (params, interface)))), (found, close)) =
     Grammar.made (module_of (attributes, (start, (name, (params, interface)))) found) (definitions.ending word.Lower name.name close)
 
 unfoldable pub module_whole : Of Module
-module_whole = Grammar.bind (word.Colon ∷ []) (word.Colon ∷ []) module_front module_behind
+module_whole = Grammar.bind (word.Colon ∷ []) (word.Colon ∷ []) module_front module_after
 
--- what stands at each place, with this for a statement in a block
+-- what is at each place, with this for a statement in a block
 unfoldable pub Inner : List ℕ → ℕ → Phrase ModuleStmt → (h : Nested) → Phrase (Filled h)
 Inner source n Block Nested.simple = Says source n definitions.simple
 Inner source n Block Nested.rule = Says source n definitions.rule

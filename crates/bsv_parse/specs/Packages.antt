@@ -58,11 +58,11 @@ package_front =
     (Grammar.both pair upper
     (Grammar.both pair (behind word.Semicolon items) (the word.EndPackage)))
 
-abbrev pub package_behind : PackageFront → Of Package
-package_behind (start, (name, (found, close))) = Grammar.made (package_of (start, (name, (found, close)))) (definitions.ending word.Upper name.name close)
+abbrev pub package_after : PackageFront → Of Package
+package_after (start, (name, (found, close))) = Grammar.made (package_of (start, (name, (found, close)))) (definitions.ending word.Upper name.name close)
 
 unfoldable pub package_whole : Of Package
-package_whole = Grammar.bind (word.Colon ∷ []) (word.Colon ∷ []) package_front package_behind
+package_whole = Grammar.bind (word.Colon ∷ []) (word.Colon ∷ []) package_front package_after
 
 -- items without a `package` around them, one or more
 unfoldable pub bare : Of Package

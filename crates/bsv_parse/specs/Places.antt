@@ -33,7 +33,7 @@ Of A = Grammar Hole Filled A
 unfoldable pub stmts : Of (List Stmt)
 stmts = many stmt_first (Grammar.hole Hole.statement)
 
--- what stands at each, with fewer than so many brackets and blocks open at once in it
+-- what is at each, with fewer than so many brackets and blocks open at once in it
 unfoldable pub Inner : List ℕ → ℕ → (h : Hole) → Phrase (Filled h)
 Inner source n Hole.expression = IsExpr source n
 Inner source n Hole.arguments = Means source (λ h. IsExpr source n) expr_grammar.arguments

@@ -19,7 +19,7 @@ IsTooDeep source tokens at = FirstDeep 0 (lexemes source tokens) at
 
 -- How it is read; no definition rests on this.
 
--- what was read, if no token stands behind it
+-- what was read, if no token comes after it
 abbrev pub all_of : Package × List Lexeme → Result Package ReadFault
 all_of (x, []) = Ok x
 all_of (x, w ∷ rest) = refuse (w ∷ rest)

@@ -43,7 +43,7 @@ impl<T: Drop> From<AllocFailed<T>> for ParseFault {
 }
 
 /// So many brackets and blocks at most are open at once in the parts of a file: the statements of
-/// its modules and those of their rules are counted as if they stood in a block.
+/// its modules and those of their rules are counted as if they was in a block.
 const MAX_DEPTH: usize = MAX_OPEN + 3;
 
 /// The file that all these tokens are.

@@ -22,7 +22,7 @@ fn unquoted(bytes: &[u8]) -> &[u8]
     &bytes[1..bytes.len() - 1]
 }
 
-/// A text, and the tokens behind it.
+/// A text, and the tokens after it.
 #[tactic(auto, unfolding(bsv_expr::specs::Reading::take_leaf))]
 fn quoted<'a>(
     alloc: Global,

@@ -50,7 +50,7 @@ pub fn asked<'a>(
     Ok((found, rest))
 }
 
-/// The name that an `end..` word ends, if it stands there again, as in `[ ":" Lower ]`; and where the
+/// The name that an `end..` word ends, if it is there again, as in `[ ":" Lower ]`; and where the
 /// definition ends.
 #[tactic(auto, unfolding(bsv_expr::specs::Reading::read))]
 pub fn ending<'a>(

@@ -252,7 +252,7 @@ fn structure<'a>(
     Ok((Typedef::Struct(span, fields, name, classes), rest))
 }
 
-/// What stands behind `typedef`.
+/// What comes after `typedef`.
 #[tactic(auto, unfolding(crate::specs::Definitions::type_form, bsv_expr::specs::Reading::read))]
 fn type_form<'a>(
     alloc: Global,

@@ -25,11 +25,11 @@ const CLOSERS: [Terminal; 6] = [
     Terminal::EndCase,
 ];
 
-/// How many brackets are open behind a token.
-#[tactic(auto, unfolding(bsv_expr::specs::Brackets::open_behind))]
-fn open_behind(count: usize, terminal: Terminal) -> usize
+/// How many brackets are open after a token.
+#[tactic(auto, unfolding(bsv_expr::specs::Brackets::open_after))]
+fn open_after(count: usize, terminal: Terminal) -> usize
     requires { count ≤ 64 }
-    ensures { result ≡ brackets.open_behind count terminal }
+    ensures { result ≡ brackets.open_after count terminal }
 {
     if is_in(&OPENERS, terminal) {
         count + 1
@@ -47,7 +47,7 @@ pub fn first_deep(lexemes: &[Lexeme]) -> Option<u32>
 {
     let mut count = 0;
     for lexeme in lexemes {
-        count = open_behind(count, lexeme.terminal);
+        count = open_after(count, lexeme.terminal);
         if count > MAX_OPEN {
             return Some(lexeme.span.start);
         }

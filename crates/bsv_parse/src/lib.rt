@@ -6,7 +6,7 @@
 //! (how many brackets are open at once), `answer` (the public call). Types and statements are those
 //! of `bsv_blocks`.
 //!
-//! A piece of the tree that is held while something may still fail stands in a `Boxed`: an early
+//! A piece of the tree that is held while something may still fail is in a `Boxed`: an early
 //! end then drops it in one step, which keeps the proof of the function short.
 #![tactic(auto)]
 

@@ -33,7 +33,7 @@ const MSTMT_FIRST: [Terminal; 10] = [
     Terminal::Method,
 ];
 
-/// The branches of an `if` so far, where they stand, and the arm behind a last `else`.
+/// The branches of an `if` so far, where they stand, and the arm after a last `else`.
 #[derive(Drop)]
 pub struct ModuleBranches {
     pub span: Span,
@@ -41,7 +41,7 @@ pub struct ModuleBranches {
     pub otherwise: Option<ModuleStmt>,
 }
 
-/// What stands behind an `else`.
+/// What comes after an `else`.
 #[derive(Drop)]
 pub enum ModuleElse {
     /// `"if" "(" expr ")" marm`
@@ -114,7 +114,7 @@ fn nested<'a>(
     mstmt(alloc, source, lexemes, depth)
 }
 
-/// The statements that stand here, one behind the other.
+/// The statements that are here, one after the other.
 #[cycle(modules)]
 #[tactic(auto, using(bsv_expr::proofs::Turns::turns_of), unfolding(crate::specs::Modules::mstmt_first))]
 fn repeated<'a>(
@@ -253,7 +253,7 @@ fn else_part<'a>(
     Ok((ModuleElse::Last(last), rest))
 }
 
-/// What stands behind the first branch: `{ "else" "if" "(" expr ")" marm } [ "else" marm ]`.
+/// What comes after the first branch: `{ "else" "if" "(" expr ")" marm } [ "else" marm ]`.
 #[cycle(modules)]
 #[tactic(auto, using(bsv_expr::proofs::Turns::turns_of, crate::proofs::Closed::turns_closed))]
 fn else_parts<'a>(
@@ -292,7 +292,7 @@ fn else_parts<'a>(
     Ok((closed(span, branches, None), rest))
 }
 
-/// The branches of an `if`, and the arm behind a last `else`.
+/// The branches of an `if`, and the arm after a last `else`.
 fn closed(
     span: Span,
     branches: Items<ModuleBranch>,

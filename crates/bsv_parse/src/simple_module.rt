@@ -10,7 +10,7 @@ use bsv_expr::{Lexeme, ReadFault, arguments, expect, expr, name, starts, to};
 use bsv_lex::Terminal;
 use std::alloc::Global;
 
-/// What stands behind `type Lower`, and where its `;` stands.
+/// What comes after `type Lower`, and where its `;` stands.
 #[derive(Drop)]
 pub enum Given {
     /// `"<-" make ";"`
@@ -21,7 +21,7 @@ pub enum Given {
     Value(Expr, Span),
 }
 
-/// What stands behind the name of a statement that changes what is there, and where its `;` stands.
+/// What comes after the name of a statement that changes what is there, and where its `;` stands.
 #[derive(Drop)]
 pub enum Changed {
     /// `"[" expr "]" "<-" make ";"`
@@ -48,7 +48,7 @@ fn make_of(alloc: Global, maker: Ident, found: Option<(Items<Expr>, Span)>) -> M
     }
 }
 
-/// A name and its value, behind a type or `let`.
+/// A name and its value, after a type or `let`.
 fn declaration(
     start: Span,
     declared: DeclaredType,
@@ -70,7 +70,7 @@ fn declaration(
     )
 }
 
-/// `type Lower`, and what stands behind it.
+/// `type Lower`, and what comes after it.
 fn typed_of(written: WrittenType, name: Ident, found: Given) -> ModuleStmt
     ensures { result ≡ trees.typed_of (written, name) found }
 {
@@ -92,7 +92,7 @@ fn typed_of(written: WrittenType, name: Ident, found: Given) -> ModuleStmt
     }
 }
 
-/// A name, and what stands behind it.
+/// A name, and what comes after it.
 fn changed_of(name: Ident, found: Changed) -> ModuleStmt
     ensures { result ≡ trees.changed_of name found }
 {
@@ -173,15 +173,15 @@ fn indexed<'a>(
 }
 
 /// `"<-" make ";" | "[" expr "]" ";" | "=" expr ";"`
-#[tactic(auto, unfolding(crate::specs::Definitions::given_behind, crate::specs::Definitions::sized, bsv_expr::specs::Reading::read))]
-fn given_behind<'a>(
+#[tactic(auto, unfolding(crate::specs::Definitions::given_after, crate::specs::Definitions::sized, bsv_expr::specs::Reading::read))]
+fn given_after<'a>(
     alloc: Global,
     source: &[u8],
     lexemes: &'a [Lexeme],
     depth: usize,
 ) -> Result<(Given, &'a [Lexeme]), ReadFault>
     ensures { Gives (λ x. (x.0, x.1.now)) result
-        (part source.now depth grammar.given_behind lexemes.now) }
+        (part source.now depth grammar.given_after lexemes.now) }
 {
     if starts(&[Terminal::LeftArrow], lexemes) {
         let ((make, close), rest) = made(alloc, source, lexemes, depth)?;
@@ -196,7 +196,7 @@ fn given_behind<'a>(
     Ok((Given::Value(value, close), rest))
 }
 
-/// `type Lower`, and what stands behind it.
+/// `type Lower`, and what comes after it.
 #[tactic(auto, unfolding(crate::specs::Definitions::typed, crate::specs::Places::inner, bsv_expr::specs::Reading::read))]
 fn typed<'a>(
     alloc: Global,
@@ -208,7 +208,7 @@ fn typed<'a>(
 {
     let (written, rest) = written(alloc, source, lexemes, depth)?;
     let (name, rest) = name(alloc, source, Terminal::Lower, rest)?;
-    let (found, rest) = given_behind(alloc, source, rest, depth)?;
+    let (found, rest) = given_after(alloc, source, rest, depth)?;
     Ok((typed_of(written, name, found), rest))
 }
 
@@ -231,15 +231,15 @@ fn defined<'a>(
 }
 
 /// `"[" expr "]" "<-" make ";" | "=" expr ";"`
-#[tactic(auto, unfolding(crate::specs::Definitions::changed_behind, crate::specs::Definitions::placed, bsv_expr::specs::Reading::read))]
-fn changed_behind<'a>(
+#[tactic(auto, unfolding(crate::specs::Definitions::changed_after, crate::specs::Definitions::placed, bsv_expr::specs::Reading::read))]
+fn changed_after<'a>(
     alloc: Global,
     source: &[u8],
     lexemes: &'a [Lexeme],
     depth: usize,
 ) -> Result<(Changed, &'a [Lexeme]), ReadFault>
     ensures { Gives (λ x. (x.0, x.1.now)) result
-        (part source.now depth grammar.changed_behind lexemes.now) }
+        (part source.now depth grammar.changed_after lexemes.now) }
 {
     if starts(&[Terminal::OpenBracket], lexemes) {
         let (at, rest) = indexed(alloc, source, lexemes, depth)?;
@@ -250,7 +250,7 @@ fn changed_behind<'a>(
     Ok((Changed::Value(value, close), rest))
 }
 
-/// `Lower`, and what stands behind it.
+/// `Lower`, and what comes after it.
 #[tactic(auto, unfolding(crate::specs::Definitions::rewritten, bsv_expr::specs::Reading::read))]
 fn rewritten<'a>(
     alloc: Global,
@@ -262,7 +262,7 @@ fn rewritten<'a>(
         (part source.now depth grammar.rewritten lexemes.now) }
 {
     let (name, rest) = name(alloc, source, Terminal::Lower, lexemes)?;
-    let (found, rest) = changed_behind(alloc, source, rest, depth)?;
+    let (found, rest) = changed_after(alloc, source, rest, depth)?;
     Ok((changed_of(name, found), rest))
 }
 

@@ -12,8 +12,8 @@ use Rattle.bsv_prim.specs.Signals.{is_one}
 use Rattle.bsv_prim.specs.Table.{word_at}
 use Rattle.bsv_design.specs.declared.element.Call.{Call as SiteCall}
 use Rattle.bsv_design.specs.declared.kind.Kind.{Kind}
-use Rattle.bsv_design.specs.Bodies.{at}
-use Rattle.bsv_design.specs.Running as running
+use Rattle.bsv_design.specs.design.Bodies.{at}
+use Rattle.bsv_design.specs.carrying.Running as running
 use Rattle.bsv_net.specs.declared.node.NetNode.{NetNode}
 use Rattle.bsv_net.specs.declared.node.NetNode.TheVariants as net
 use Rattle.bsv_net.specs.declared.node.Site.{Site as NetSite}

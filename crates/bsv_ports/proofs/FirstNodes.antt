@@ -1,4 +1,4 @@
--- The first nodes of a net are the inputs, the registers and both bits: what stands where.
+-- The first nodes of a net are the inputs, the registers and both bits: what is where.
 use Rattle.std.proofs.Common.{◌≡◌, ◌∙◌, ◌<◌, ◌≤◌, ◌+◌, ℕ, zero, suc, Bool, true, false, cond, List, [], ◌∷◌, ◌++◌, Option, Some, None, refl, sym, ap, subst, arith, length, map, drop}
 use Rattle.std.specs.Prelude.{slice_get, unwrap_or}
 use Rattle.std.proofs.lemmas.List.{drop-drop, get_or-drop}
@@ -9,20 +9,20 @@ use Rattle.bsv_prim.specs.Table.{word_at}
 use Rattle.bsv_prim.specs.declared.part.Part.{Part}
 use Rattle.bsv_design.specs.declared.element.Element.{Element}
 use Rattle.bsv_design.specs.declared.kind.Kind.{Kind}
-use Rattle.bsv_design.specs.Bodies.{at}
-use Rattle.bsv_design.specs.Kinds.{kind_table}
-use Rattle.bsv_design.specs.Roles.{is_rule}
-use Rattle.bsv_design.specs.Running.{or_zero}
-use Rattle.bsv_design.specs.Schemes.{Scheme, Asking, given, outline}
-use Rattle.bsv_design.specs.States.{part_at}
-use Rattle.bsv_clock.specs.Hardware.{Shows, inputs_from}
+use Rattle.bsv_design.specs.design.Bodies.{at}
+use Rattle.bsv_design.specs.tree.Kinds.{kind_table}
+use Rattle.bsv_design.specs.tree.Roles.{is_rule}
+use Rattle.bsv_design.specs.carrying.Running.{or_zero}
+use Rattle.bsv_design.specs.scheme.Schemes.{Scheme, Asking, given, outline}
+use Rattle.bsv_design.specs.scheme.States.{part_at}
+use Rattle.bsv_clock.specs.Shows.{Shows, inputs_from}
 use Rattle.bsv_clock.specs.Clocks.{is_asked}
 use Rattle.bsv_net.specs.Placing.{node_at}
 use Rattle.bsv_ports.specs.Starts.{input_count, input_starts, register_starts}
 
 -- ---- inputs
 
--- how many inputs stand before those of an element
+-- how many inputs come before those of an element
 unfoldable pub inputs_before : List Element → ℕ → ℕ
 inputs_before [] j = 0
 inputs_before (e ∷ es) zero = 0
@@ -34,7 +34,7 @@ start_of at [] j l = absurd (omega arith)
 start_of at (e ∷ es) zero l = omega arith
 start_of at (e ∷ es) (suc j) l = start_of (at + input_count e) es j (omega arith) ∙ omega arith
 
--- no method stands behind a rule
+-- no method comes after a rule
 unfoldable pub MethodsFirst : List Element → Type 0
 MethodsFirst es =
     (m n : ℕ) (d e : Element) → slice_get es m ≡ Some d → slice_get es n ≡ Some e → m ≤ n → is_rule d.role ≡ true → is_rule e.role ≡ true
@@ -42,9 +42,9 @@ MethodsFirst es =
 abbrev LongEnough : Scheme → Asking → ℕ → List Element → Type 0
 LongEnough S q base es = (j : ℕ) (e : Element) → slice_get es j ≡ Some e → length (given S q (base + j)) ≡ length e.arguments
 
-behind_method : (S : Scheme) (q : Asking) (base : ℕ) (e : Element) (es : List Element) (k : ℕ) → is_rule e.role ≡ false → length (given S q base) ≡ length e.arguments
+after_method : (S : Scheme) (q : Asking) (base : ℕ) (e : Element) (es : List Element) (k : ℕ) → is_rule e.role ≡ false → length (given S q base) ≡ length e.arguments
     → slice_get (inputs_from S q base (map outline (e ∷ es))) (input_count e + k) ≡ slice_get (inputs_from S q (base + 1) (map outline es)) k
-behind_method S q base e es k rule long =
+after_method S q base e es k rule long =
     let rest = inputs_from S q (base + 1) (map outline es) in
     let ws = given S q base in
     ap (λ (b : Bool). slice_get (cond b [] (ws ++ (bit (is_asked q base) ∷ rest))) (cond b 0 (length e.arguments + 1) + k)) rule
@@ -62,9 +62,9 @@ first_is_method e es j f first there rule = of (is_rule e.role) refl
     of false h = refl
     of true h = sym (first 0 (suc j) e f refl there (omega arith) h) ∙ rule
 
-methods_behind : (e : Element) (es : List Element) → MethodsFirst (e ∷ es) → MethodsFirst es
+methods_after : (e : Element) (es : List Element) → MethodsFirst (e ∷ es) → MethodsFirst es
 unfolding MethodsFirst
-methods_behind e es first m n d f p r l h = first (suc m) (suc n) d f p r (omega arith) h
+methods_after e es first m n d f p r l h = first (suc m) (suc n) d f p r (omega arith) h
 
 -- the arguments of a method, and whether it is asked
 pub argument_at : (S : Scheme) (q : Asking) (base : ℕ) (es : List Element) → MethodsFirst es → LongEnough S q base es
@@ -85,8 +85,8 @@ argument_at S q base (x ∷ es) first long (suc j) e there rule k l =
     let not_rule = first_is_method x es j e first there rule in
     let len : length (given S q base) ≡ length x.arguments = ap (λ n. length (given S q n)) (omega arith) ∙ long 0 x refl in
     ap (slice_get (inputs_from S q base (map outline (x ∷ es)))) (omega arith)
-    ∙ (behind_method S q base x es (inputs_before es j + k) not_rule len
-    ∙ (argument_at S q (base + 1) es (methods_behind x es first) (λ i f p. ap (λ n. length (given S q n)) (omega arith) ∙ long (suc i) f p) j e there rule k l
+    ∙ (after_method S q base x es (inputs_before es j + k) not_rule len
+    ∙ (argument_at S q (base + 1) es (methods_after x es first) (λ i f p. ap (λ n. length (given S q n)) (omega arith) ∙ long (suc i) f p) j e there rule k l
     ∙ ap (λ n. slice_get (given S q n) k) (omega arith)))
 
 pub asked_at : (S : Scheme) (q : Asking) (base : ℕ) (es : List Element) → MethodsFirst es → LongEnough S q base es
@@ -107,13 +107,13 @@ asked_at S q base (x ∷ es) first long (suc j) e there rule =
     let not_rule = first_is_method x es j e first there rule in
     let len : length (given S q base) ≡ length x.arguments = ap (λ n. length (given S q n)) (omega arith) ∙ long 0 x refl in
     ap (slice_get (inputs_from S q base (map outline (x ∷ es)))) (omega arith)
-    ∙ (behind_method S q base x es (inputs_before es j + length e.arguments) not_rule len
-    ∙ (asked_at S q (base + 1) es (methods_behind x es first) (λ i f p. ap (λ n. length (given S q n)) (omega arith) ∙ long (suc i) f p) j e there rule
+    ∙ (after_method S q base x es (inputs_before es j + length e.arguments) not_rule len
+    ∙ (asked_at S q (base + 1) es (methods_after x es first) (λ i f p. ap (λ n. length (given S q n)) (omega arith) ∙ long (suc i) f p) j e there rule
     ∙ ap (λ n. Some (bit (is_asked q n))) (omega arith)))
 
 -- ---- registers
 
--- how many registers stand before those of a part
+-- how many registers come before those of a part
 unfoldable pub registers_before : List Kind → ℕ → ℕ
 registers_before [] i = 0
 registers_before (k ∷ ks) zero = 0
@@ -148,5 +148,5 @@ or_zero-unwrap (Some w) = refl
 pub word_is_at : (ws : List Bits) (k : ℕ) → word_at ws k ≡ at ws k
 word_is_at ws k = sym (or_zero-unwrap (slice_get ws k) ∙ unwrap_or-slice_get ws k (bit false))
 
-pub word_behind : (ws : List Bits) (n k : ℕ) → word_at (drop n ws) k ≡ at ws (n + k)
-word_behind ws n k = get_or-drop n ws k (bit false) ∙ word_is_at ws (n + k)
+pub word_after : (ws : List Bits) (n k : ℕ) → word_at (drop n ws) k ≡ at ws (n + k)
+word_after ws n k = get_or-drop n ws k (bit false) ∙ word_is_at ws (n + k)

@@ -7,12 +7,12 @@ use Rattle.bsv_prim.specs.Calls.{latest, seen_by}
 use Rattle.bsv_prim.specs.Table.{Table, Call}
 use Rattle.bsv_design.specs.declared.element.Call.{Call as SiteCall}
 use Rattle.bsv_design.specs.declared.kind.Kind.{Kind}
-use Rattle.bsv_design.specs.Bodies.{Target, target, at}
-use Rattle.bsv_design.specs.Kinds.{kind_table}
-use Rattle.bsv_design.specs.Running.{is_one}
-use Rattle.bsv_design.specs.Schemes.{Called, taken_actions}
-use Rattle.bsv_design.specs.Serial.{by_rank}
-use Rattle.bsv_design.specs.Traces.{acts, kind_at, site_at}
+use Rattle.bsv_design.specs.design.Bodies.{Target, target, at}
+use Rattle.bsv_design.specs.tree.Kinds.{kind_table}
+use Rattle.bsv_design.specs.carrying.Running.{is_one}
+use Rattle.bsv_design.specs.scheme.Schemes.{Called, taken_actions}
+use Rattle.bsv_design.specs.scheme.Serial.{by_rank}
+use Rattle.bsv_design.specs.scheme.Traces.{acts, kind_at, site_at}
 use Rattle.bsv_guard.specs.ElementLaws.{call_of, is_call_of}
 use Rattle.bsv_guard.specs.Turns.{calls_on}
 use Rattle.bsv_guard.proofs.Ranks.{ranked}

@@ -1,4 +1,4 @@
--- The nodes of a method are placed behind those that stand there.
+-- The nodes of a method are placed after those that are there.
 use Rattle.std.proofs.Common.{◌≡◌, ℕ, Bool, true, false, List, [], ◌∷◌, ◌++◌, Option, Some, None, refl, sym, ap, subst}
 use Rattle.std.specs.Prelude.{◌==◌, if◌then◌else◌}
 use Rattle.bsv_bits.specs.declared.operator.Operator.TheVariants.{And, Or}
@@ -29,7 +29,7 @@ merged_grows ns (Some p) live args =
 
 -- ---- a call site
 
--- a call of the method, where its element stands in the net or not
+-- a call of the method, where its element is in the net or not
 abbrev pub with_site : List ℕ → List NetNode → Option MethodPort → ℕ → Option Site → PlacedSoFar
 with_site fires ns o f None = record { nodes = ns; port = o }
 with_site fires ns o f (Some x) = record {

@@ -1,4 +1,4 @@
--- The nodes of a method tell its last call in the clock, where each element that calls it stands in the net.
+-- The nodes of a method tell its last call in the clock, where each element that calls it is in the net.
 use Rattle.std.proofs.Common.{◌≡◌, ◌<◌, ◌∙◌, ℕ, Bool, true, false, List, [], ◌∷◌, length, map, Option, Some, None, is_some, refl, sym, ap, ap₂, subst, arith}
 use Rattle.std.specs.Prelude.{slice_get}
 use Rattle.std.proofs.lemmas.Option.{slice_get_within}
@@ -10,10 +10,10 @@ use Rattle.bsv_prim.specs.Table.{Table}
 use Rattle.bsv_design.specs.declared.element.Call.{Call as SiteCall}
 use Rattle.bsv_design.specs.declared.element.Element.{Element}
 use Rattle.bsv_design.specs.declared.kind.Kind.{Kind}
-use Rattle.bsv_design.specs.Bodies.{Target, at, target, words}
-use Rattle.bsv_design.specs.Kinds.{kind_table}
-use Rattle.bsv_design.specs.Schemes.{Called, answers, calls, calls_of, design_scheme, given, kinds_of, seen, taken_actions, trace_of}
-use Rattle.bsv_design.specs.Traces.{Site, body_trace, kind_at, site_at}
+use Rattle.bsv_design.specs.design.Bodies.{Target, at, target, words}
+use Rattle.bsv_design.specs.tree.Kinds.{kind_table}
+use Rattle.bsv_design.specs.scheme.Schemes.{Called, answers, calls, calls_of, design_scheme, given, kinds_of, seen, taken_actions, trace_of}
+use Rattle.bsv_design.specs.scheme.Traces.{Site, body_trace, kind_at, site_at}
 use Rattle.bsv_graph.specs.Edges.{numbers_below}
 use Rattle.bsv_graph.specs.Orders.{In}
 use Rattle.bsv_guard.specs.ElementLaws.{IsUse}

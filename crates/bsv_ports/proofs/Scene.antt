@@ -7,10 +7,10 @@ use Rattle.bsv_prim.specs.Calls.{latest}
 use Rattle.bsv_prim.specs.Table.{word_at}
 use Rattle.bsv_prim.specs.declared.part.Part.{Part}
 use Rattle.bsv_design.specs.declared.schedule.Schedule.{Schedule}
-use Rattle.bsv_design.specs.Bodies.{Target}
-use Rattle.bsv_design.specs.Designs.{Blueprint, IsDesign}
-use Rattle.bsv_design.specs.Schemes.{Scheme, Asking, Look, design_scheme, seen}
-use Rattle.bsv_design.specs.Traces.{Site, kind_at}
+use Rattle.bsv_design.specs.design.Bodies.{Target}
+use Rattle.bsv_design.specs.design.Designs.{DesignData, IsDesign}
+use Rattle.bsv_design.specs.scheme.Schemes.{Scheme, Asking, Look, design_scheme, seen}
+use Rattle.bsv_design.specs.scheme.Traces.{Site, kind_at}
 use Rattle.bsv_graph.specs.Orders.{In}
 use Rattle.bsv_guard.specs.Turns.{calls_on}
 use Rattle.bsv_clock.specs.Grounds.{Fit, IsLawful, IsScheduleOf}
@@ -25,7 +25,7 @@ use Rattle.bsv_ports.specs.Ports.{arity_of}
 
 -- a design with its schedule, a state and requests that fit it, and the words of a net in a clock from there
 pub record Scene : Type 0 where
-  pub b : Blueprint
+  pub b : DesignData
   pub right : IsDesign b
   pub made : Schedule
   pub lawful : IsLawful (design_scheme b)

@@ -15,14 +15,14 @@ one_zero t m p k = record {
   places = p.places ++ (add p.nodes (net.Constant (zero_word (t.argument_width m k)))).place ∷ [];
 }
 
-zeros_behind : (t : Table) (m : ℕ) (ns : List NetNode) (so_far : List ℕ) (xs : List ℕ) (k : ℕ)
+zeros_after : (t : Table) (m : ℕ) (ns : List NetNode) (so_far : List ℕ) (xs : List ℕ) (k : ℕ)
     → zeros t m ns so_far (xs ++ k ∷ []) ≡ one_zero t m (zeros t m ns so_far xs) k
 unfolding zeros
-zeros_behind t m ns so_far [] k = refl
-zeros_behind t m ns so_far (x ∷ xs) k =
+zeros_after t m ns so_far [] k = refl
+zeros_after t m ns so_far (x ∷ xs) k =
     let p = one_zero t m (record { nodes = ns; places = so_far }) x in
-    zeros_behind t m p.nodes p.places xs k
+    zeros_after t m p.nodes p.places xs k
 
 pub zeros_more : (t : Table) (m : ℕ) (ns : List NetNode) (so_far : List ℕ) (n : ℕ)
     → zeros t m ns so_far (numbers_below (n + 1)) ≡ one_zero t m (zeros t m ns so_far (numbers_below n)) n
-zeros_more t m ns so_far n = ap (zeros t m ns so_far) (numbers_more n) ∙ zeros_behind t m ns so_far (numbers_below n) n
+zeros_more t m ns so_far n = ap (zeros t m ns so_far) (numbers_more n) ∙ zeros_after t m ns so_far (numbers_below n) n

@@ -4,7 +4,7 @@ use Rattle.std.specs.Prelude.{ℕ, ◌==◌, List, [], ◌∷◌, ◌++◌, slic
 use Rattle.bsv_bits.specs.Words.{zero_word}
 use Rattle.bsv_prim.specs.Table.{Table}
 use Rattle.bsv_design.specs.declared.kind.Kind.{Kind}
-use Rattle.bsv_design.specs.Kinds.{kind_table}
+use Rattle.bsv_design.specs.tree.Kinds.{kind_table}
 use Rattle.bsv_graph.specs.Edges.{numbers_below}
 use Rattle.bsv_net.specs.declared.node.NetNode.{NetNode}
 use Rattle.bsv_net.specs.declared.node.NetNode.TheVariants as net
@@ -41,7 +41,7 @@ all_picked ns live so_far (a ∷ firsts) (b ∷ seconds) =
     all_picked (add ns (net.Pick live a b)).nodes live (so_far ++ (add ns (net.Pick live a b)).place ∷ []) firsts seconds
 all_picked ns live so_far _ _ = record { nodes = ns; places = so_far }
 
--- one more call site, behind those so far
+-- one more call site, after those so far
 abbrev pub merged : List NetNode → Option MethodPort → ℕ → List ℕ → PlacedPort
 merged ns None live args = record { nodes = ns; port = record { called = live; args = args } }
 merged ns (Some port) live args = of (either ns port.called live) where
@@ -51,7 +51,7 @@ merged ns (Some port) live args = of (either ns port.called live) where
   of : Placed → PlacedPort
   of p = behind p.place (all_picked p.nodes live [] args port.args)
 
--- the nodes of the call at a call site, where its element stands in the net already
+-- the nodes of the call at a call site, where its element is in the net already
 abbrev pub site_in : Option (List Site) → ℕ → Option Site
 site_in None n = None
 site_in (Some sites) n = slice_get sites n

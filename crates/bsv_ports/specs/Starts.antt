@@ -1,11 +1,11 @@
--- Where the inputs and the registers of a design stand in its net: the first nodes are the inputs, then come the registers,
+-- Where the inputs and the registers of a design are in its net: the first nodes are the inputs, then come the registers,
 -- and then a bit that is 0 and one that is 1.
 use Rattle.std.specs.Prelude.{ℕ, ◌+◌, true, false, cond, List, [], ◌∷◌, ◌++◌, map, length}
 use Rattle.bsv_bits.specs.Words.{bit}
 use Rattle.bsv_design.specs.declared.element.Element.{Element}
 use Rattle.bsv_design.specs.declared.kind.Kind.{Kind}
-use Rattle.bsv_design.specs.Kinds.{kind_table}
-use Rattle.bsv_design.specs.Roles.{is_rule}
+use Rattle.bsv_design.specs.tree.Kinds.{kind_table}
+use Rattle.bsv_design.specs.tree.Roles.{is_rule}
 use Rattle.bsv_graph.specs.Edges.{numbers_below}
 use Rattle.bsv_net.specs.declared.node.NetNode.{NetNode}
 use Rattle.bsv_net.specs.declared.node.NetNode.TheVariants as net

@@ -1,6 +1,6 @@
 ghost use Rattle.std.specs.Prelude.{◌≡◌, ◌++◌, ◌∷◌, [], IfOk, IfSome, OnOk, map};
-ghost use Rattle.bsv_clock.specs.Hardware as carrying;
-ghost use Rattle.bsv_design.specs.Schemes.{outline};
+ghost use Rattle.bsv_clock.specs.Shows as carrying;
+ghost use Rattle.bsv_design.specs.scheme.Schemes.{outline};
 ghost use Rattle.bsv_ports.specs.Starts as spec;
 ghost use Rattle.bsv_graph.specs.Edges.{numbers_below};
 ghost use Rattle.bsv_net.specs.declared.node.NetNode.TheVariants as net;
@@ -24,7 +24,7 @@ fn push_inputs(widths: &mut Items<u32>, ports: &[Port]) -> Result<(), OutOfMemor
     Ok(())
 }
 
-/// The widths of the inputs, of each method its own. Behind the first rule there are no methods.
+/// The widths of the inputs, of each method its own. After the first rule there are no methods.
 pub fn inputs_of(alloc: Global, elements: &[Element]) -> Result<Items<u32>, OutOfMemory>
     ensures { IfOk result (λ widths. widths
         ≡ carrying.input_widths_of (map outline elements.now)) }
@@ -53,7 +53,7 @@ fn push_registers(registers: &mut Items<RegisterInfo>, part: &NamedPart) -> Resu
 }
 
 /// The registers of all parts, in building order.
-#[tactic(auto, unfolding(bsv_clock::specs::Hardware::cells_of))]
+#[tactic(auto, unfolding(bsv_clock::specs::Shows::cells_of))]
 pub fn registers_of(alloc: Global, parts: &[NamedPart]) -> Result<Items<RegisterInfo>, OutOfMemory>
     ensures { IfOk result (λ registers. map carrying.cell registers
         ≡ carrying.cells_of (map (λ p. p.kind) parts.now)) }
@@ -102,7 +102,7 @@ pub fn input_starts(alloc: Global, elements: &[Element]) -> Result<Vec<u32>, Out
     Ok(starts)
 }
 
-/// Of each part the node of its first register, behind so many inputs.
+/// Of each part the node of its first register, after so many inputs.
 #[tactic(auto, unfolding(crate::specs::Starts::register_starts))]
 pub fn register_starts(
     alloc: Global,
@@ -146,7 +146,7 @@ fn push_register_nodes(nodes: &mut Items<NetNode>, count: u32) -> Result<(), Out
     Ok(())
 }
 
-/// The inputs and the registers as nodes, and behind them a bit that is 0 and one that is 1.
+/// The inputs and the registers as nodes, and after them a bit that is 0 and one that is 1.
 pub fn first_nodes(
     alloc: Global,
     inputs: u32,

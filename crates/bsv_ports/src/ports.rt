@@ -1,6 +1,6 @@
 ghost use Rattle.std.specs.Prelude.{◌≡◌, ◌<◌, [], IfOk, OnOk, map};
 ghost use Rattle.std.specs.Option.{option_copied};
-ghost use Rattle.bsv_design.specs.Kinds.{kind_table};
+ghost use Rattle.bsv_design.specs.tree.Kinds.{kind_table};
 ghost use Rattle.bsv_ports.specs.Ports as spec;
 
 use crate::call_sites::CallSite;
@@ -11,7 +11,7 @@ use bsv_prim::Primitive;
 use sqlite_items::{Items, at};
 use std::alloc::Global;
 
-/// The nodes of the elements that stand in a net: the one that tells whether an element fires, and those of its calls.
+/// The nodes of the elements that are in a net: the one that tells whether an element fires, and those of its calls.
 #[derive(Clone, Copy)]
 pub struct Firing<'a> {
     pub fires: &'a [u32],
@@ -47,7 +47,7 @@ fn pick_all(
     Ok(places)
 }
 
-/// One more call site behind those so far. The node is 1 where it is live.
+/// One more call site after those so far. The node is 1 where it is live.
 fn merge(
     alloc: Global,
     nodes: &mut Items<NetNode>,
@@ -69,7 +69,7 @@ fn merge(
     Ok(MethodPort { called, args })
 }
 
-/// The nodes of the call at a call site, where its element stands in the net.
+/// The nodes of the call at a call site, where its element is in the net.
 fn site_at<'a>(sites: &'a [Items<Site>], call_site: CallSite) -> Option<&'a Site>
     ensures { option_copied result ≡ spec.site_at sites.entry.now call_site }
 {
@@ -79,7 +79,7 @@ fn site_at<'a>(sites: &'a [Items<Site>], call_site: CallSite) -> Option<&'a Site
     }
 }
 
-/// A call site, behind those so far, where it calls the method.
+/// A call site, after those so far, where it calls the method.
 fn at_call_site(
     alloc: Global,
     nodes: &mut Items<NetNode>,

@@ -1,4 +1,4 @@
--- Orderly lists of calls, one behind the other.
+-- Orderly lists of calls, one after the other.
 use Rattle.std.proofs.Common.{◌≡◌, ℕ, Bool, true, false, List, [], ◌∷◌, ◌++◌, refl, ap, Option, Some}
 use Rattle.std.specs.Prelude.{cond, nat_eq, if◌then◌else◌}
 use Rattle.std.specs.List.{AllByRecursion}
@@ -52,7 +52,7 @@ pub order_from_orderly : (t : Table) (p : Part) (cs : List Call) → IsOrderly t
 order_from_orderly t p [] h = tt
 order_from_orderly t p (c ∷ cs) h = (h.2, order_from_orderly t (after_call t p c) cs h.3)
 
--- one more call behind an orderly list
+-- one more call after an orderly list
 pub orderly_snoc : (t : Table) (p : Part) (cs : List Call) (c : Call) → IsOrderly t p cs → CallFits t c → AllByRecursion (λ b. MayPrecede t b c) cs → IsReady t (after_calls t p cs) c → IsOrderly t p (cs ++ c ∷ [])
 orderly_snoc t p [] c o f b r = (f, r, tt, tt)
 orderly_snoc t p (d ∷ ds) c o f b r =

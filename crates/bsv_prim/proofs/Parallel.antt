@@ -61,7 +61,7 @@ answer_at t p front (b ∷ before) behind c h value =
     (append_assoc front (b ∷ []) before)
     (answer_at t p (front ++ b ∷ []) before behind c h.1 value)
 
--- a call of an ordered list may precede each that stands behind it
+-- a call of an ordered list may precede each that comes after it
 order_at : (t : Table) (before behind : List Call) (c : Call) → IsInOrder t (before ++ c ∷ behind) → AllByRecursion (MayPrecede t c) behind
 order_at t [] behind c h = h.0
 order_at t (b ∷ before) behind c h = order_at t before behind c h.1

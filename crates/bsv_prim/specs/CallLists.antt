@@ -1,5 +1,5 @@
 -- Lists of calls that are seen whole.
--- Proof alone: it stands in specs/ since the `laws` of an impl may cite nothing of proofs/.
+-- Proof alone: it is in specs/ since the `laws` of an impl may cite nothing of proofs/.
 use Rattle.std.proofs.Common.{◌≡◌, ℕ, Bool, true, false, List, [], ◌∷◌, refl, ap, sym, ◌∙◌, inl, inr}
 use Rattle.std.specs.Prelude.{◌⊎◌, cond, filter}
 use Rattle.std.specs.List.{AllByRecursion}

@@ -1,12 +1,12 @@
 -- What the laws of a kind give: the calls of one element can run one at a time by their ranks, and
--- element behind element. `elements_are_serial` promises it of every kind.
+-- element after element. `elements_are_serial` promises it of every kind.
 use Rattle.std.specs.Prelude.{◌≡◌, ◌≤◌, true, false, List, [], ◌∷◌, ◌++◌}
 use Rattle.std.specs.List.{AllByRecursion}
 use Rattle.bsv_prim.specs.Table.{Table, Call, CallFits, in_one_element}
 use Rattle.bsv_prim.specs.Calls.{IsReady, MayPrecede, IsOrderly, after_calls}
 use Rattle.bsv_prim.specs.declared.part.Part.{Part}
 
--- two calls that may stand in one element, the first of them of no higher rank
+-- two calls that may be in one element, the first of them of no higher rank
 pub record IsByRank (t : Table) (x y : Call) : Type 0 where
   pub beside : in_one_element (t.relation x.method y.method) ≡ true
   pub unseen : t.sees x.method y.method ≡ false

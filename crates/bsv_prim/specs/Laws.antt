@@ -25,7 +25,7 @@ pub record TableLaws (t : Table) : Type 0 where
   -- actions have a rank above 0, which is the lower one where one is SB to the other
   pub action_rank : (m : ℕ) → t.is_action m ≡ true → 1 ≤ t.rank m
   pub rank_rises : (m n : ℕ) → t.is_action m ≡ true → t.is_action n ≡ true → t.relation m n ≡ Sb → t.rank m < t.rank n
-  -- two calls that may stand in one element may precede each other as their ranks stand
+  -- two calls that may be in one element may precede each other as their ranks stand
   pub by_rank : (m n : ℕ) → in_one_element (t.relation m n) ≡ true → t.sees m n ≡ false → t.sees n m ≡ false → t.rank m ≤ t.rank n → goes_before (t.relation m n) ≡ true
 
 -- parts fit from the opening on

@@ -1,5 +1,5 @@
 -- A register keeps the laws.
--- Proof alone: it stands in specs/ since the `laws` of an impl may cite nothing of proofs/.
+-- Proof alone: it is in specs/ since the `laws` of an impl may cite nothing of proofs/.
 use Rattle.std.proofs.Common.{◌≡◌, ℕ, zero, suc, ◌*◌, ◌%◌, ◌^◌, ◌<◌, ◌≤◌, Bool, true, false, List, [], ◌∷◌, refl, ap, sym, ◌∙◌, arith, Option, Some, None}
 use Rattle.std.specs.Prelude.{nat_eq, if◌then◌else◌, MatchOption}
 use Rattle.std.specs.List.{AllByRecursion}

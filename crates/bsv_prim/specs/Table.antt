@@ -33,7 +33,7 @@ pub record Table : Type 1 where
   pub result_piece : ℕ → Shape
   pub next_piece : ℕ → Shape
 
--- the word of a list at a place, and behind its end one bit that is 0
+-- the word of a list at a place, and after its end one bit that is 0
 abbrev pub word_at : List Bits → ℕ → Bits
 word_at words k = slice_index_or words k (record { width = 1; value = 0 })
 
@@ -64,7 +64,7 @@ goes_before Sbr = true
 goes_before Sa = false
 goes_before C = false
 
--- CF, SB and SA: the relations of two calls that may stand in one element
+-- CF, SB and SA: the relations of two calls that may be in one element
 abbrev pub in_one_element : Rel → Bool
 in_one_element Cf = true
 in_one_element Sb = true

@@ -1,5 +1,5 @@
 -- Each of the four wires keeps the laws.
--- Proof alone: it stands in specs/ since the `laws` of an impl may cite nothing of proofs/.
+-- Proof alone: it is in specs/ since the `laws` of an impl may cite nothing of proofs/.
 use Rattle.std.proofs.Common.{◌≡◌, ℕ, ◌+◌, ◌*◌, ◌^◌, ◌<◌, ◌≤◌, Bool, true, false, List, refl, ap, sym, arith, Option, Some, None, inl}
 use Rattle.std.specs.Prelude.{is_some}
 use Rattle.std.proofs.Math.Pow.{pow_pos}

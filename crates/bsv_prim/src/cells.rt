@@ -89,7 +89,7 @@ pub(crate) fn relation_of_wire(first: u32, second: u32) -> Rel
     }
 }
 
-/// What stands in the place of the registers that a wire has not.
+/// What is in the place of the registers that a wire has not.
 pub(crate) fn no_register() -> RegisterInfo
     ensures width { result.width ≡ 1 }
     ensures start { result.start ≡ zero_word 1 }

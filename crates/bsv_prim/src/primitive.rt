@@ -17,7 +17,7 @@ pub enum Rel {
     Sb,
     /// The first sequences after the second.
     Sa,
-    /// Either may come first, but the two may not stand in one element.
+    /// Either may come first, but the two may not be in one element.
     Sbr,
     /// They conflict.
     C,

@@ -64,7 +64,7 @@ impl Queue {
         self.depth
     }
 
-    /// Puts a word behind the last one.
+    /// Puts a word after the last one.
     pub fn push(&mut self, word: Word)
         requires { length self.old.items < self.old.depth }
         ensures { self.new ≡ record self.old { items = self.old.items ++ word ∷ [] } }

@@ -20,7 +20,7 @@ pub fn parallel_is_serial<K: Primitive>()
 {}
 
 /// A law of every kind: the calls of one element can run one at a time by their ranks, and element
-/// behind element.
+/// after element.
 pub fn elements_are_serial<K: Primitive>()
     // Each call of one element is ready at its turn, where all are ready before the first.
     ensures element { (kind : K) → ElementInTurn (K.table kind) }

@@ -8,12 +8,12 @@ use Rattle.std.specs.Prelude.{IsTrue, IsFalse, slice_get, Some}
 use Rattle.std.proofs.lemmas.Bool.{cases_Bool}
 use Rattle.bsv_graph.specs.declared.edge.Edge.{Edge}
 use Rattle.bsv_graph.specs.Edges.{edges_where}
-use Rattle.bsv_schedule.specs.executing.Orders.{HasNeither, IsValueClash, NoValueClash, WireCycle, ValueClash, ExecutionCycle, Executes}
-use Rattle.bsv_graph.specs.Orders.{In, StandsBefore}
+use Rattle.bsv_schedule.specs.execution_order.Orders.{HasNeither, IsValueClash, NoValueClash, WireCycle, ValueClash, ExecutionCycle, Executes}
+use Rattle.bsv_graph.specs.Orders.{In, IsBefore}
 use Rattle.bsv_graph.specs.Reaching.{AreWithin}
 use Rattle.bsv_schedule.specs.relating.Relating.{Relating, feed_edges, is_value_edge, value_edges, early_edges, hard_edges, soft_edges}
 use Rattle.bsv_schedule.specs.stopping.Stops.{Stops, Picks, AreStops}
-use Rattle.bsv_schedule.specs.urging.Orders.{urgency_edges, UrgencyOrder, IsBehindRule, IsFirstRule, UrgencyCycle, MethodBehindRule, Urges}
+use Rattle.bsv_schedule.specs.urgency_order.Orders.{urgency_edges, UrgencyOrder, IsBehindRule, IsFirstRule, UrgencyCycle, MethodBehindRule, Urges}
 use Rattle.bsv_graph.specs.Walks.{HasCycle, IsAcyclic, NoneCloses}
 use Rattle.bsv_graph.proofs.EdgeLemmas.{where_of}
 use Rattle.bsv_graph.proofs.OrderedLemmas.{before_in}
@@ -116,14 +116,14 @@ first_rule r (y ∷ ys) q i h = elim (cases_Bool (r.rule y)) [
 ]
 
 module _ (r : Relating) (xs : List ℕ) where
-  decide_rule_before : (m : ℕ) → ((q : ℕ) → In xs q → q < r.count) → Decided ((q : ℕ) × IsTrue (r.rule q) × StandsBefore xs q m)
-  decide_rule_before m f = elim (first_with (λ q. IsTrue (r.rule q) × StandsBefore xs q m) (λ q. decide_both (decide_true (r.rule q)) (decide_before xs q m)) r.count) [
+  decide_rule_before : (m : ℕ) → ((q : ℕ) → In xs q → q < r.count) → Decided ((q : ℕ) × IsTrue (r.rule q) × IsBefore xs q m)
+  decide_rule_before m f = elim (first_with (λ q. IsTrue (r.rule q) × IsBefore xs q m) (λ q. decide_both (decide_true (r.rule q)) (decide_before xs q m)) r.count) [
     | inl g ↦ inr (λ h. g h.0 (f h.0 (before_in xs h.0 m h.2).0) (h.1, h.2))
     | inr x ↦ inl (x.0, x.1.holds.0, x.1.holds.1)
   ]
 
-  decide_behind : ((q : ℕ) → In xs q → q < r.count) → (m : ℕ) → Decided (IsBehindRule r xs m)
-  decide_behind f m = elim (decide_both (decide_false (r.value m)) (decide_both (decide_false (r.rule m)) (decide_rule_before m f))) [
+  decide_after : ((q : ℕ) → In xs q → q < r.count) → (m : ℕ) → Decided (IsBehindRule r xs m)
+  decide_after f m = elim (decide_both (decide_false (r.value m)) (decide_both (decide_false (r.rule m)) (decide_rule_before m f))) [
     | inl h ↦ inl (record { no_value = h.0; no_rule = h.1.0; behind = h.1.1 })
     | inr n ↦ inr (λ h. n (h.no_value, (h.no_rule, h.behind)))
   ]
@@ -134,7 +134,7 @@ UrgencyAnswer r = ((xs : List ℕ) × Urges r xs) ⊎ ((k : ℕ) × UrgencyCycle
 
 module _ (r : Relating) (feeds : IsAcyclic (feed_edges r)) where
   methods_answer : NoneCloses (feed_edges r) r.urging → (xs : List ℕ) → UrgencyOrder r xs → UrgencyAnswer r
-  methods_answer p xs u = elim (first_with (IsBehindRule r xs) (decide_behind r xs u.order.below) r.count) [
+  methods_answer p xs u = elim (first_with (IsBehindRule r xs) (decide_after r xs u.order.below) r.count) [
     | inl f ↦ inl (xs, record { pairs = p; order = u; methods = λ m h. f m (u.order.below m (before_in xs h.behind.0 m h.behind.2).1) h })
     | inr x ↦
         let b = x.1.holds.behind in

@@ -3,12 +3,12 @@ use Rattle.std.proofs.Common.{◌≡◌, ℕ, ◌+◌, ◌-◌, ◌<◌, inl, in
 use Rattle.std.proofs.lemmas.List.{take_more, take_all, length-drop}
 use Rattle.std.specs.Prelude.{IsTrue, IsFalse, All}
 use Rattle.std.proofs.lemmas.Bool.{both_ways}
-use Rattle.bsv_graph.specs.Orders.{In, StandsBefore}
+use Rattle.bsv_graph.specs.Orders.{In, IsBefore}
 use Rattle.bsv_schedule.specs.relating.Relating.{Relating}
-use Rattle.bsv_schedule.specs.urging.Orders.{IsBehindRule, NoneBehindRule, IsLeastBehindRule, IsFirstRule}
+use Rattle.bsv_schedule.specs.urgency_order.Orders.{IsBehindRule, NoneBehindRule, IsLeastBehindRule, IsFirstRule}
 use Rattle.bsv_graph.proofs.LeastLemmas.{in_parts}
 use Rattle.bsv_graph.proofs.OrderedLemmas.{before_in}
-use Rattle.bsv_schedule.specs.urging.Acting.{IsActionIn, IsLeastActionIn, NoActionIn}
+use Rattle.bsv_schedule.specs.urgency_order.Acting.{IsActionIn, IsLeastActionIn, NoActionIn}
 
 -- one more that is not the number
 pub not_in_more : (xs : List ℕ) (k d m : ℕ) → k < length xs → ¬ In (take k xs) m → (get_or xs k d ≡ m → ⊥) → ¬ In (take (k + 1) xs) m
@@ -41,16 +41,16 @@ read_split xs k d h = rw add-one (sym (take-append-drop k xs) ∙ ap (λ z. take
 
 module _ (r : Relating) where
   -- what comes after a rule comes after the first
-  behind_in : (before behind : List ℕ) (q p m : ℕ) → ((k : ℕ) → In before k → IsFalse (r.rule k)) → IsTrue (r.rule p)
-      → StandsBefore (before ++ (q ∷ behind)) p m → In behind m
-  behind_in [] behind q p m f h (inl s) = s.1
-  behind_in [] behind q p m f h (inr s) = (before_in behind p m s).1
-  behind_in (x ∷ before) behind q p m f h (inl s) = absurd (both_ways (r.rule x) (f x (inl refl)) (subst (λ z. IsTrue (r.rule z)) s.0 h))
-  behind_in (x ∷ before) behind q p m f h (inr s) = behind_in before behind q p m (λ k i. f k (inr i)) h s
+  after_in : (before behind : List ℕ) (q p m : ℕ) → ((k : ℕ) → In before k → IsFalse (r.rule k)) → IsTrue (r.rule p)
+      → IsBefore (before ++ (q ∷ behind)) p m → In behind m
+  after_in [] behind q p m f h (inl s) = s.1
+  after_in [] behind q p m f h (inr s) = (before_in behind p m s).1
+  after_in (x ∷ before) behind q p m f h (inl s) = absurd (both_ways (r.rule x) (f x (inl refl)) (subst (λ z. IsTrue (r.rule z)) s.0 h))
+  after_in (x ∷ before) behind q p m f h (inr s) = after_in before behind q p m (λ k i. f k (inr i)) h s
 
-  in_behind : (before behind : List ℕ) (q m : ℕ) → In behind m → StandsBefore (before ++ (q ∷ behind)) q m
-  in_behind [] behind q m i = inl (refl, i)
-  in_behind (x ∷ before) behind q m i = inr (in_behind before behind q m i)
+  in_after : (before behind : List ℕ) (q m : ℕ) → In behind m → IsBefore (before ++ (q ∷ behind)) q m
+  in_after [] behind q m i = inl (refl, i)
+  in_after (x ∷ before) behind q m i = inr (in_after before behind q m i)
 
   module _ (xs : List ℕ) (k d : ℕ) (l : k < length xs) (rule : IsTrue (r.rule (get_or xs k d)))
       (f : (q : ℕ) → In (take k xs) q → IsFalse (r.rule q)) where
@@ -63,30 +63,30 @@ module _ (r : Relating) where
       earlier = f;
     }
 
-    pub behind_action : (m : ℕ) → IsBehindRule r xs m → IsActionIn r (drop (k + 1) xs) m
-    behind_action m b = record {
+    pub after_action : (m : ℕ) → IsBehindRule r xs m → IsActionIn r (drop (k + 1) xs) m
+    after_action m b = record {
       no_value = b.no_value;
       no_rule = b.no_rule;
-      there = behind_in (take k xs) (drop (k + 1) xs) (get_or xs k d) b.behind.0 m f b.behind.1
-          (subst (λ z. StandsBefore z b.behind.0 m) (read_split xs k d l) b.behind.2);
+      there = after_in (take k xs) (drop (k + 1) xs) (get_or xs k d) b.behind.0 m f b.behind.1
+          (subst (λ z. IsBefore z b.behind.0 m) (read_split xs k d l) b.behind.2);
     }
 
-    pub action_behind : (m : ℕ) → IsActionIn r (drop (k + 1) xs) m → IsBehindRule r xs m
-    action_behind m a = record {
+    pub action_after : (m : ℕ) → IsActionIn r (drop (k + 1) xs) m → IsBehindRule r xs m
+    action_after m a = record {
       no_value = a.no_value;
       no_rule = a.no_rule;
       behind = (
         get_or xs k d,
         rule,
-        subst (λ z. StandsBefore z (get_or xs k d) m) (sym (read_split xs k d l)) (in_behind (take k xs) (drop (k + 1) xs) (get_or xs k d) m a.there),
+        subst (λ z. IsBefore z (get_or xs k d) m) (sym (read_split xs k d l)) (in_after (take k xs) (drop (k + 1) xs) (get_or xs k d) m a.there),
       );
     }
 
-    pub least_behind : (m : ℕ) → IsLeastActionIn r (drop (k + 1) xs) m → IsLeastBehindRule r xs m
-    least_behind m a = record { behind = action_behind m a.action; lower = λ j h b. a.lower j h (behind_action j b) }
+    pub least_after : (m : ℕ) → IsLeastActionIn r (drop (k + 1) xs) m → IsLeastBehindRule r xs m
+    least_after m a = record { behind = action_after m a.action; lower = λ j h b. a.lower j h (after_action j b) }
 
-    pub none_behind : NoActionIn r (drop (k + 1) xs) → NoneBehindRule r xs
-    none_behind g m b = g m (behind_action m b)
+    pub none_after : NoActionIn r (drop (k + 1) xs) → NoneBehindRule r xs
+    none_after g m b = g m (after_action m b)
 
   pub none_at_all : (xs : List ℕ) → ((q : ℕ) → In xs q → IsFalse (r.rule q)) → NoneBehindRule r xs
   none_at_all xs f m b = both_ways (r.rule b.behind.0) (f b.behind.0 (before_in xs b.behind.0 m b.behind.2).0) b.behind.1

@@ -7,7 +7,7 @@ use Rattle.bsv_schedule.specs.relating.Relating.{Relating, goes_only, is_one_val
 use Rattle.bsv_graph.specs.Walks.{HasEdge}
 use Rattle.bsv_graph.proofs.EdgeLemmas.{where_has, where_of}
 use Rattle.bsv_graph.proofs.WalkLemmas.{edge_parts, edge_left, edge_right}
-use Rattle.bsv_schedule.specs.executing.Between.{edge_between, edges_between}
+use Rattle.bsv_schedule.specs.execution_order.Between.{edge_between, edges_between}
 
 -- the edges of a value method, as its tests say
 pub record TouchesAt (r : Relating) (v a b : ℕ) : Type 0 where

@@ -10,15 +10,15 @@ use Rattle.bsv_design.specs.declared.design.Design.{Design}
 use Rattle.bsv_design.specs.declared.design.NamedPart.{NamedPart}
 use Rattle.bsv_design.specs.declared.element.Element.{Element}
 use Rattle.bsv_design.specs.declared.tree.Pair.{Pair}
-use Rattle.bsv_design.specs.Bodies.{target}
-use Rattle.bsv_design.specs.Designs.{IsDesign}
-use Rattle.bsv_design.specs.Schemes.{design_scheme, calls_of}
-use Rattle.bsv_design.specs.Seen.{blueprint}
+use Rattle.bsv_design.specs.design.Bodies.{target}
+use Rattle.bsv_design.specs.design.Designs.{IsDesign}
+use Rattle.bsv_design.specs.scheme.Schemes.{design_scheme, calls_of}
+use Rattle.bsv_design.specs.tree.Seen.{design_data}
 use Rattle.bsv_schedule.specs.relating.Uses.{pair_below}
 
 pub few_elements : (d : Design) → length d.elements < 2 ^ 32
 few_elements d =
-    let few : nat_lt (length d.elements) (2 ^ 32) ≡ true = ∥∥₁_elim d.right (Bool-set _ _) (λ (right : IsDesign (blueprint d)). right.few_elements) in
+    let few : nat_lt (length d.elements) (2 ^ 32) ≡ true = ∥∥₁_elim d.right (Bool-set _ _) (λ (right : IsDesign (design_data d)). right.few_elements) in
     ltb-true _ _ few
 
 -- the pairs name elements
@@ -30,18 +30,18 @@ all_below n (p ∷ ps) h =
     ap (λ b. b && list_all (pair_below n) ps) here ∙ all_below n ps (λ k. h (suc k))
 
 pub pairs_below : (d : Design) → IsTrue (list_all (pair_below (length d.elements)) d.pairs)
-pairs_below d = ∥∥₁_elim d.right (Bool-set _ _) (λ (right : IsDesign (blueprint d)). all_below (length d.elements) d.pairs (λ k p at.
+pairs_below d = ∥∥₁_elim d.right (Bool-set _ _) (λ (right : IsDesign (design_data d)). all_below (length d.elements) d.pairs (λ k p at.
     let r = right.pairs k p at in
     (slice_get_within d.elements p.before r.0.element r.0.at, slice_get_within d.elements p.after r.1.element r.1.at)))
 
-pub uses_some : (d : Design) (n : ℕ) (e : Element) → slice_get d.elements n ≡ Some e → (design_scheme (blueprint d)).uses n ≡ map target e.calls
+pub uses_some : (d : Design) (n : ℕ) (e : Element) → slice_get d.elements n ≡ Some e → (design_scheme (design_data d)).uses n ≡ map target e.calls
 unfolding design_scheme
 uses_some d n e at = ap calls_of at
 
-pub uses_none : (d : Design) (n : ℕ) → slice_get d.elements n ≡ None → (design_scheme (blueprint d)).uses n ≡ []
+pub uses_none : (d : Design) (n : ℕ) → slice_get d.elements n ≡ None → (design_scheme (design_data d)).uses n ≡ []
 unfolding design_scheme
 uses_none d n at = ap calls_of at
 
-pub kinds_are : (d : Design) → (design_scheme (blueprint d)).kinds ≡ map (λ (p : NamedPart). p.kind) d.parts
+pub kinds_are : (d : Design) → (design_scheme (design_data d)).kinds ≡ map (λ (p : NamedPart). p.kind) d.parts
 unfolding design_scheme
 kinds_are d = refl

@@ -6,14 +6,14 @@ use Rattle.std.proofs.lemmas.Option.{same_Some}
 use Rattle.bsv_design.specs.declared.tree.Pair.{Pair}
 use Rattle.bsv_graph.specs.declared.edge.Edge.{Edge}
 use Rattle.bsv_schedule.specs.relating.Elements.{edge_of}
-use Rattle.bsv_schedule.specs.executing.Orders.{Executes, IsFirstValueClash}
+use Rattle.bsv_schedule.specs.execution_order.Orders.{Executes, IsFirstValueClash}
 use Rattle.bsv_schedule.specs.relating.Relating.{Relating, early_edges}
 use Rattle.bsv_graph.specs.Walks.{LeastOnCycle}
 use Rattle.bsv_graph.proofs.GraphLemmas.{closes_one}
 use Rattle.bsv_schedule.proofs.OrderLaws.{execution_one}
-use Rattle.bsv_schedule.specs.declared.executing.fault.OrderFault.{OrderFault}
-use Rattle.bsv_schedule.specs.declared.executing.fault.OrderFault.TheVariants as fault
-use Rattle.bsv_schedule.specs.executing.Answers.{IsOrderingPair, RefusesExecution, IsExecutionAnswer, IsExecutionUnlessMemory}
+use Rattle.bsv_schedule.specs.declared.execution_order.fault.OrderFault.{OrderFault}
+use Rattle.bsv_schedule.specs.declared.execution_order.fault.OrderFault.TheVariants as fault
+use Rattle.bsv_schedule.specs.execution_order.Answers.{IsOrderingPair, RefusesExecution, IsExecutionAnswer, IsExecutionUnlessMemory}
 
 least_one : (es : List Edge) (a b : ℕ) → LeastOnCycle es a → LeastOnCycle es b → a ≡ b
 least_one es a b p q = elim (cases_order a b) [

@@ -6,12 +6,12 @@ use Rattle.std.proofs.lemmas.Option.{same_Some}
 use Rattle.bsv_design.specs.declared.tree.Pair.{Pair}
 use Rattle.bsv_graph.specs.Orders.{In}
 use Rattle.bsv_schedule.specs.relating.Relating.{Relating, feed_edges}
-use Rattle.bsv_schedule.specs.urging.Orders.{IsLeastBehindRule, IsFirstRule, UrgencyOrder, MethodBehindRule, Urges}
+use Rattle.bsv_schedule.specs.urgency_order.Orders.{IsLeastBehindRule, IsFirstRule, UrgencyOrder, MethodBehindRule, Urges}
 use Rattle.bsv_graph.proofs.GraphLemmas.{closes_one}
 use Rattle.bsv_graph.proofs.OrderedLemmas.{least_one}
-use Rattle.bsv_schedule.specs.declared.urging.fault.UrgencyFault.{UrgencyFault}
-use Rattle.bsv_schedule.specs.declared.urging.fault.UrgencyFault.TheVariants as fault
-use Rattle.bsv_schedule.specs.urging.Answers.{RefusesUrgency, IsUrgencyAnswer, IsUrgencyUnlessMemory, urging_pairs}
+use Rattle.bsv_schedule.specs.declared.urgency_order.fault.UrgencyFault.{UrgencyFault}
+use Rattle.bsv_schedule.specs.declared.urgency_order.fault.UrgencyFault.TheVariants as fault
+use Rattle.bsv_schedule.specs.urgency_order.Answers.{RefusesUrgency, IsUrgencyAnswer, IsUrgencyUnlessMemory, urging_pairs}
 
 pair_one : (ps : List Pair) (k l : ℕ) (p q : Pair) → k ≡ l → slice_get ps k ≡ Some p → slice_get ps l ≡ Some q → p ≡ q
 pair_one ps k l p q e x y = same_Some p q (sym x ∙ (ap (slice_get ps) e ∙ y))
@@ -42,11 +42,11 @@ module _ (r : Relating) where
   rule_one : (xs : List ℕ) (x y : ℕ) → IsFirstRule r xs x → IsFirstRule r xs y → x ≡ y
   rule_one xs x y p q = first_one p.before p.behind q.before q.behind x y (sym p.split ∙ q.split) p.rule q.rule p.earlier q.earlier
 
-  accepted_not_behind : (xs : List ℕ) (m q : ℕ) → Urges r xs → MethodBehindRule r m q → ⊥
-  accepted_not_behind xs m q u b = u.methods m (subst (λ ys. IsLeastBehindRule r ys m) (order_one b.order xs b.least u.order) b.method).behind
+  accepted_not_after : (xs : List ℕ) (m q : ℕ) → Urges r xs → MethodBehindRule r m q → ⊥
+  accepted_not_after xs m q u b = u.methods m (subst (λ ys. IsLeastBehindRule r ys m) (order_one b.order xs b.least u.order) b.method).behind
 
-  behind_method : (m n p q : ℕ) → MethodBehindRule r m p → MethodBehindRule r n q → m ≡ n
-  behind_method m n p q a b = method_one b.order m n (subst (λ ys. IsLeastBehindRule r ys m) (order_one a.order b.order a.least b.least) a.method) b.method
+  after_method : (m n p q : ℕ) → MethodBehindRule r m p → MethodBehindRule r n q → m ≡ n
+  after_method m n p q a b = method_one b.order m n (subst (λ ys. IsLeastBehindRule r ys m) (order_one a.order b.order a.least b.least) a.method) b.method
 
   behind_rule : (m n p q : ℕ) → MethodBehindRule r m p → MethodBehindRule r n q → p ≡ q
   behind_rule m n p q a b = rule_one b.order p q (subst (λ ys. IsFirstRule r ys p) (order_one a.order b.order a.least b.least) a.rule) b.rule
@@ -55,15 +55,15 @@ module _ (r : Relating) where
 pub one : (r : Relating) (ps : List Pair) (x y : Result (List ℕ) UrgencyFault) → IsUrgencyAnswer r ps x → IsUrgencyAnswer r ps y → x ≡ y
 one r ps (Ok xs) (Ok ys) p q = ap Ok (order_one r xs ys p.order q.order)
 one r ps (Ok xs) (Err (fault.UrgencyCycle s)) p q = let c = q.0.1 in absurd (p.pairs c.before c.behind c.edge c.split c.closes)
-one r ps (Ok xs) (Err (fault.MethodBehindRule m a)) p q = absurd (accepted_not_behind r xs m a p q.0)
+one r ps (Ok xs) (Err (fault.MethodBehindRule m a)) p q = absurd (accepted_not_after r xs m a p q.0)
 one r ps (Err (fault.UrgencyCycle t)) (Ok ys) p q = let c = p.0.1 in absurd (q.pairs c.before c.behind c.edge c.split c.closes)
 one r ps (Err (fault.UrgencyCycle t)) (Err (fault.UrgencyCycle s)) p q =
     ap (λ z. Err (fault.UrgencyCycle z)) (pair_one (urging_pairs ps) p.0.0 q.0.0 t s (closes_one (feed_edges r) r.urging p.0.0 q.0.0 p.0.1 q.0.1) p.0.2 q.0.2)
 one r ps (Err (fault.UrgencyCycle t)) (Err (fault.MethodBehindRule n b)) p q = let c = p.0.1 in absurd (q.0.pairs c.before c.behind c.edge c.split c.closes)
-one r ps (Err (fault.MethodBehindRule m a)) (Ok ys) p q = absurd (accepted_not_behind r ys m a q p.0)
+one r ps (Err (fault.MethodBehindRule m a)) (Ok ys) p q = absurd (accepted_not_after r ys m a q p.0)
 one r ps (Err (fault.MethodBehindRule m a)) (Err (fault.UrgencyCycle s)) p q = let c = q.0.1 in absurd (p.0.pairs c.before c.behind c.edge c.split c.closes)
 one r ps (Err (fault.MethodBehindRule m a)) (Err (fault.MethodBehindRule n b)) p q =
-    ap (λ z. Err (fault.MethodBehindRule z a)) (behind_method r m n a b p.0 q.0) ∙ ap (λ z. Err (fault.MethodBehindRule n z)) (behind_rule r m n a b p.0 q.0)
+    ap (λ z. Err (fault.MethodBehindRule z a)) (after_method r m n a b p.0 q.0) ∙ ap (λ z. Err (fault.MethodBehindRule n z)) (behind_rule r m n a b p.0 q.0)
 one r ps (Err fault.OutOfMemory) y p q = absurd (p.1 refl)
 one r ps x (Err fault.OutOfMemory) p q = absurd (q.1 refl)
 

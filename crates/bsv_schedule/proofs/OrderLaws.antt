@@ -2,27 +2,27 @@
 use Rattle.std.proofs.Common.{◌≡◌, ◌≢◌, ℕ, ◌<◌, inl, inr, List, ◌∷◌, ◌++◌, refl}
 use Rattle.std.specs.Prelude.{IsTrue, IsFalse}
 use Rattle.std.proofs.lemmas.Bool.{cases_Bool}
-use Rattle.bsv_graph.specs.Orders.{In, StandsBefore, place_of}
+use Rattle.bsv_graph.specs.Orders.{In, IsBefore, place_of}
 use Rattle.bsv_graph.specs.Walks.{HasEdge}
 use Rattle.bsv_graph.proofs.EdgeLemmas.{where_has, within_all}
 use Rattle.bsv_graph.proofs.LeastLemmas.{in_right, once_apart}
 use Rattle.bsv_graph.proofs.OrderedLemmas.{least_one, keeps_one, keeps_has, respects_split, respects_before, either_before, split_before, before_in, place_before}
 use Rattle.bsv_graph.proofs.WalkLemmas.{edge_left, edge_right}
 use Rattle.bsv_schedule.specs.relating.Relating.{Relating, Agrees, feed_edges, value_edges, early_edges, hard_edges}
-use Rattle.bsv_schedule.specs.executing.Orders.{ExecutionOrder}
-use Rattle.bsv_schedule.specs.urging.Orders.{urgency_edges, UrgencyOrder}
+use Rattle.bsv_schedule.specs.execution_order.Orders.{ExecutionOrder}
+use Rattle.bsv_schedule.specs.urgency_order.Orders.{urgency_edges, UrgencyOrder}
 use Rattle.bsv_schedule.specs.stopping.Stops.{Stops, Ordered}
 
 pub execution_one : (r : Relating) (xs ys : List ℕ) → ExecutionOrder r xs → ExecutionOrder r ys → xs ≡ ys
 execution_one r xs ys p q = least_one r.count p.0 xs ys p.2 (rw (keeps_one q.1 p.1) at q.2)
 
--- the pairs of the attributes stand in the orders
-pub ordering_before : (r : Relating) (xs : List ℕ) (a b : ℕ) → Agrees r → ExecutionOrder r xs → HasEdge r.ordering a b → StandsBefore xs a b
+-- the pairs of the attributes are in the orders
+pub ordering_before : (r : Relating) (xs : List ℕ) (a b : ℕ) → Agrees r → ExecutionOrder r xs → HasEdge r.ordering a b → IsBefore xs a b
 ordering_before r xs a b g x h =
     let w = within_all r.count r.ordering g.ordering a b h in
     respects_before x.0 xs a b x.2.respects (x.2.order.each a w.0) (x.2.order.each b w.1) (keeps_has a b x.1 (edge_left r.ordering (early_edges r r.count) a b h))
 
-pub urging_stands : (r : Relating) (xs : List ℕ) (a b : ℕ) → Agrees r → UrgencyOrder r xs → HasEdge r.urging a b → StandsBefore xs a b
+pub urging_stands : (r : Relating) (xs : List ℕ) (a b : ℕ) → Agrees r → UrgencyOrder r xs → HasEdge r.urging a b → IsBefore xs a b
 urging_stands r xs a b g u h =
     let w = within_all r.count r.urging g.urging a b h in
     respects_before (urgency_edges r) xs a b u.respects (u.order.each a w.0) (u.order.each b w.1) (edge_left r.urging (feed_edges r) a b h)
@@ -45,7 +45,7 @@ module _ (r : Relating) (execution urgency : List ℕ) (agrees : Agrees r) (x : 
         (keeps_has f e x.1 (feed_hard f e (x_below f (rw p (in_right before (e ∷ behind) f i))) (x_below e (rw p (in_right before (e ∷ behind) e (inl refl)))) h)))
   ]
 
-  clash_stops : (e f : ℕ) → StandsBefore execution f e → f ≢ e → IsFalse (r.goes f e) → ¬ Stops r execution urgency f e → ¬ Stops r execution urgency e f → ⊥
+  clash_stops : (e f : ℕ) → IsBefore execution f e → f ≢ e → IsFalse (r.goes f e) → ¬ Stops r execution urgency f e → ¬ Stops r execution urgency e f → ⊥
   clash_stops e f h n g p q =
       let k = before_in execution f e h in
       elim (either_before urgency f e (u.order.each f (x_below f k.0)) (u.order.each e (x_below e k.1)) n) [

@@ -4,15 +4,15 @@ use Rattle.std.proofs.lemmas.Bool.{cases_eq, cases_lt}
 use Rattle.std.proofs.lemmas.List.{take_more}
 use Rattle.std.specs.Prelude.{IsTrue, IsFalse, ◌↔◌, if◌then◌else◌, not, slice_get, Some}
 use Rattle.bsv_lemmas.proofs.Places.{at_left}
-use Rattle.bsv_graph.specs.Orders.{In, IsOnce, StandsBefore, place_of}
+use Rattle.bsv_graph.specs.Orders.{In, IsOnce, IsBefore, place_of}
 use Rattle.bsv_schedule.specs.relating.Relating.{Relating}
 use Rattle.bsv_schedule.specs.stopping.Stops.{Clash, Stops, Picks}
 use Rattle.bsv_graph.proofs.LeastLemmas.{in_read, in_parts}
 use Rattle.bsv_graph.proofs.OrderedLemmas.{in_not, either_before, place_before, place_here, place_there}
 use Rattle.bsv_schedule.specs.stopping.Placed.{HasPlaces}
 
--- a lower place stands before
-before_place : (xs : List ℕ) (a b : ℕ) → IsOnce xs → In xs a → In xs b → place_of xs a < place_of xs b → StandsBefore xs a b
+-- a lower place comes before
+before_place : (xs : List ℕ) (a b : ℕ) → IsOnce xs → In xs a → In xs b → place_of xs a < place_of xs b → IsBefore xs a b
 before_place xs a b o i j h = elim (cases_eq a b) [
   | inl e ↦ absurd (omega (arith, ap (place_of xs) e))
   | inr n ↦ elim (either_before xs a b i j n) [
@@ -44,12 +44,12 @@ places_more order out i x o l h e f a k = go (cases_eq a x) (in_parts (take i or
     go (inr p) (inr (inl j)) = absurd (p (j ∙ sym e))
     go (inr p) (inr (inr j)) = absurd j
 
--- what stands before has a lower place
+-- what comes before has a lower place
 module _ (n : ℕ) (order places : List ℕ) (h : HasPlaces n order places) (a b : ℕ) (u : a < n) (v : b < n) where
-  pub places_before : get_or places a 0 < get_or places b 0 → StandsBefore order a b
+  pub places_before : get_or places a 0 < get_or places b 0 → IsBefore order a b
   places_before l = before_place order a b h.order_of.once (h.order_of.each a u) (h.order_of.each b v) (omega (arith, h.at a u, h.at b v))
 
-  pub before_places : StandsBefore order a b → get_or places a 0 < get_or places b 0
+  pub before_places : IsBefore order a b → get_or places a 0 < get_or places b 0
   before_places l = omega (arith, h.at a u, h.at b v, place_before order a b h.order_of.once l)
 
 not_true : (b : Bool) → IsTrue (not b) → IsFalse b

@@ -13,11 +13,11 @@ use Rattle.bsv_design.specs.declared.kind.Kind.{Kind}
 use Rattle.bsv_design.specs.declared.tree.Attribute.{Attribute}
 use Rattle.bsv_design.specs.declared.tree.Attribute.TheVariants as attribute
 use Rattle.bsv_design.specs.declared.tree.Pair.{Pair}
-use Rattle.bsv_design.specs.Bodies.{Target, target}
-use Rattle.bsv_design.specs.Relations.{goes, feeds}
-use Rattle.bsv_design.specs.Roles.{is_value, is_rule}
-use Rattle.bsv_design.specs.Schemes.{Scheme, design_scheme, outline, kinds_of}
-use Rattle.bsv_design.specs.Seen.{blueprint}
+use Rattle.bsv_design.specs.design.Bodies.{Target, target}
+use Rattle.bsv_design.specs.scheme.Relations.{goes, feeds}
+use Rattle.bsv_design.specs.tree.Roles.{is_value, is_rule}
+use Rattle.bsv_design.specs.scheme.Schemes.{Scheme, design_scheme, outline, kinds_of}
+use Rattle.bsv_design.specs.tree.Seen.{design_data}
 use Rattle.bsv_graph.specs.declared.edge.Edge.{Edge}
 use Rattle.bsv_schedule.specs.declared.relating.related.Relation.{Relation}
 use Rattle.bsv_schedule.specs.declared.relating.related.Relation.TheVariants as relation
@@ -185,18 +185,18 @@ roles_in : (es : List Element) → map (λ (e : Element). e.role) es ≡ map (λ
 roles_in [] = refl
 roles_in (e ∷ es) = ap (λ z. e.role ∷ z) (roles_in es)
 
-pub roles_are : (d : Design) → map (λ (e : Element). e.role) d.elements ≡ map (λ o. o.role) (design_scheme (blueprint d)).elements
+pub roles_are : (d : Design) → map (λ (e : Element). e.role) d.elements ≡ map (λ o. o.role) (design_scheme (design_data d)).elements
 unfolding design_scheme
 roles_are d = roles_in d.elements
 
-pub pairs_are : (d : Design) → d.pairs ≡ (design_scheme (blueprint d)).pairs
+pub pairs_are : (d : Design) → d.pairs ≡ (design_scheme (design_data d)).pairs
 unfolding design_scheme
 pairs_are d = refl
 
-pub scheme_of : (d : Design) → IsSchemeOf (design_scheme (blueprint d)) (kinds_of (blueprint d)) d.elements
+pub scheme_of : (d : Design) → IsSchemeOf (design_scheme (design_data d)) (kinds_of (design_data d)) d.elements
 scheme_of d = record { kinds = kinds_are d; some = uses_some d; none = uses_none d }
 
-pub agrees_design : (d : Design) → Agrees (relating (design_scheme (blueprint d)))
+pub agrees_design : (d : Design) → Agrees (relating (design_scheme (design_data d)))
 unfolding relating design_scheme
 agrees_design d =
     let long : length d.elements ≡ length (map outline d.elements) = sym (length-map d.elements outline) in
@@ -226,10 +226,10 @@ relating_same S r roles go feed preempt order urge =
     }
 
 -- what the parts of the relations of a design are
-module _ (d : Design) (ks : List Kind) (es : List Element) (us vs : List Usage) (kinds : ks ≡ kinds_of (blueprint d)) (elements : es ≡ d.elements)
+module _ (d : Design) (ks : List Kind) (es : List Element) (us vs : List Usage) (kinds : ks ≡ kinds_of (design_data d)) (elements : es ≡ d.elements)
     (slice : vs ≡ us) (are : AreUsages ks es us) where
-  scheme : IsSchemeOf (design_scheme (blueprint d)) ks es
-  scheme = subst (λ k. IsSchemeOf (design_scheme (blueprint d)) k es) (sym kinds) (subst (IsSchemeOf (design_scheme (blueprint d)) (kinds_of (blueprint d))) (sym elements) (scheme_of d))
+  scheme : IsSchemeOf (design_scheme (design_data d)) ks es
+  scheme = subst (λ k. IsSchemeOf (design_scheme (design_data d)) k es) (sym kinds) (subst (IsSchemeOf (design_scheme (design_data d)) (kinds_of (design_data d))) (sym elements) (scheme_of d))
 
   usages : AreUsages ks es vs
   usages = subst (AreUsages ks es) (sym slice) are
@@ -239,16 +239,16 @@ module _ (d : Design) (ks : List Kind) (es : List Element) (us vs : List Usage) 
 
   module _ (t : Table) (side : side_of t ≡ length vs) where
     pub clashes_are : ((a b : ℕ) → a < length vs → b < length vs → IsTrue (at t a b) ↔ IsTrue (meet_at relation.Clashes ks vs a b))
-        → (a b : ℕ) → not (marked t a b) ≡ goes (design_scheme (blueprint d)) a b
-    clashes_are marks a b = goes_is (design_scheme (blueprint d)) a b (marked t a b)
-        (marked_meets (design_scheme (blueprint d)) ks es vs scheme usages relation.Clashes t side marks a b)
-        (meets_marked (design_scheme (blueprint d)) ks es vs scheme usages relation.Clashes t side marks a b)
+        → (a b : ℕ) → not (marked t a b) ≡ goes (design_scheme (design_data d)) a b
+    clashes_are marks a b = goes_is (design_scheme (design_data d)) a b (marked t a b)
+        (marked_meets (design_scheme (design_data d)) ks es vs scheme usages relation.Clashes t side marks a b)
+        (meets_marked (design_scheme (design_data d)) ks es vs scheme usages relation.Clashes t side marks a b)
 
     pub feeds_are : ((a b : ℕ) → a < length vs → b < length vs → IsTrue (at t a b) ↔ IsTrue (meet_at relation.Feeds ks vs a b))
-        → (a b : ℕ) → marked t a b ≡ feeds (design_scheme (blueprint d)) a b
-    feeds_are marks a b = feeds_is (design_scheme (blueprint d)) a b (marked t a b)
-        (marked_meets (design_scheme (blueprint d)) ks es vs scheme usages relation.Feeds t side marks a b)
-        (meets_marked (design_scheme (blueprint d)) ks es vs scheme usages relation.Feeds t side marks a b)
+        → (a b : ℕ) → marked t a b ≡ feeds (design_scheme (design_data d)) a b
+    feeds_are marks a b = feeds_is (design_scheme (design_data d)) a b (marked t a b)
+        (marked_meets (design_scheme (design_data d)) ks es vs scheme usages relation.Feeds t side marks a b)
+        (meets_marked (design_scheme (design_data d)) ks es vs scheme usages relation.Feeds t side marks a b)
 
 -- ---- edges look below the count alone
 

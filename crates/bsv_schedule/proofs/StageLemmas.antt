@@ -5,7 +5,7 @@ use Rattle.std.specs.Prelude.{IsTrue, if◌then◌else◌}
 use Rattle.bsv_graph.specs.declared.edge.Edge.{Edge}
 use Rattle.bsv_graph.specs.declared.graph.Graph.{Graph}
 use Rattle.bsv_graph.specs.Graphs.{IsGraphOf}
-use Rattle.bsv_schedule.specs.executing.Orders.{IsValueClash}
+use Rattle.bsv_schedule.specs.execution_order.Orders.{IsValueClash}
 use Rattle.bsv_schedule.specs.relating.Relating.{Relating, feed_edges, value_edges, early_edges, is_value_edge, goes_only}
 use Rattle.bsv_graph.specs.Walks.{HasEdge, Walk, IsAcyclic}
 use Rattle.bsv_graph.proofs.EdgeLemmas.{where_of, where_has}
@@ -15,7 +15,7 @@ use Rattle.bsv_graph.specs.Edges.{edges_from}
 use Rattle.std.proofs.lemmas.List.Elements.{filter-append}
 use Rattle.std.proofs.Common.{map, ap}
 use Rattle.std.proofs.lemmas.List.{map-append}
-use Rattle.bsv_schedule.specs.executing.Between.{edge_between, edges_between}
+use Rattle.bsv_schedule.specs.execution_order.Between.{edge_between, edges_between}
 use Rattle.bsv_schedule.proofs.BetweenLemmas.{value_there, value_back, value_up}
 
 -- the edges of one value method more

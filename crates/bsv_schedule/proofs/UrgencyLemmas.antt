@@ -4,9 +4,9 @@ use Rattle.std.proofs.lemmas.List.{length-map}
 use Rattle.bsv_design.specs.declared.tree.Pair.{Pair}
 use Rattle.bsv_graph.specs.declared.edge.Edge.{Edge}
 use Rattle.bsv_design.specs.declared.design.Design.{Design}
-use Rattle.bsv_design.specs.Schemes.{design_scheme}
+use Rattle.bsv_design.specs.scheme.Schemes.{design_scheme}
 use Rattle.bsv_schedule.specs.relating.Elements.{relating, is_urging, edge_of, edges_of}
-use Rattle.bsv_schedule.specs.urging.Answers.{urging_pairs}
+use Rattle.bsv_schedule.specs.urgency_order.Answers.{urging_pairs}
 use Rattle.bsv_schedule.specs.relating.Elements.{design_relating}
 
 -- there are as many edges as pairs

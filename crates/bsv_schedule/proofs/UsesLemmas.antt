@@ -6,10 +6,10 @@ use Rattle.std.specs.Prelude.{IsTrue, IsFalse, if◌then◌else◌, filter, ◌=
 use Rattle.std.specs.List.{list_all, list_any}
 use Rattle.bsv_design.specs.declared.element.Call.{Call}
 use Rattle.bsv_design.specs.declared.kind.Kind.{Kind}
-use Rattle.bsv_design.specs.Bodies.{Target, target}
-use Rattle.bsv_design.specs.Relations.{goes, feeds, for_all, for_some, may_precede, may_precede_of, is_seen, sees_of}
-use Rattle.bsv_design.specs.Schemes.{Scheme}
-use Rattle.bsv_design.specs.Widths.{call_named}
+use Rattle.bsv_design.specs.design.Bodies.{Target, target}
+use Rattle.bsv_design.specs.scheme.Relations.{goes, feeds, for_all, for_some, may_precede, may_precede_of, is_seen, sees_of}
+use Rattle.bsv_design.specs.scheme.Schemes.{Scheme}
+use Rattle.bsv_design.specs.design.Widths.{call_named}
 use Rattle.bsv_schedule.specs.declared.relating.related.Relation.{Relation}
 use Rattle.bsv_schedule.specs.declared.relating.related.Relation.TheVariants as relation
 use Rattle.bsv_schedule.specs.declared.relating.usage.Usage.{Usage}

@@ -2,7 +2,7 @@
 use Rattle.std.proofs.Common.{◌≡◌, ℕ, inl, inr, Bool, true, false, refl, suc, subst, arith}
 use Rattle.std.proofs.lemmas.Bool.{cases_eq, and_parts, and_from, lt-ltb, ltb-true}
 use Rattle.std.specs.Prelude.{IsTrue, if◌then◌else◌, ◌&&◌, ◌||◌, not, nat_lt}
-use Rattle.bsv_schedule.specs.executing.Orders.{IsValueClash}
+use Rattle.bsv_schedule.specs.execution_order.Orders.{IsValueClash}
 use Rattle.bsv_schedule.specs.relating.Relating.{Relating, feed_edges, goes_only, is_one_value, value_of, is_value_edge, value_edges, early_edges}
 use Rattle.bsv_graph.specs.Walks.{HasEdge, IsAcyclic}
 use Rattle.bsv_graph.proofs.EdgeLemmas.{where_has, where_of}

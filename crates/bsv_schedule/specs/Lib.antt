@@ -1,4 +1,4 @@
 pub mod relating
-pub mod executing
-pub mod urging
+pub mod execution_order
+pub mod urgency_order
 pub mod stopping

@@ -1,27 +1,27 @@
 ghost use Rattle.std.specs.Prelude.{◌≡◌, ℕ, ◌<◌, ◌⊎◌, List, length, Result};
 ghost use Rattle.bsv_design.specs.declared.tree.Pair.{Pair};
 ghost use Rattle.bsv_graph.specs.declared.edge.Edge.{Edge};
-ghost use Rattle.bsv_schedule.specs.executing.Orders.{
+ghost use Rattle.bsv_schedule.specs.execution_order.Orders.{
   ExecutionOrder,
   WireCycle,
   ValueClash,
   ExecutionCycle,
   Executes,
 };
-ghost use Rattle.bsv_graph.specs.Orders.{IsLeastOrder, StandsBefore};
+ghost use Rattle.bsv_graph.specs.Orders.{IsLeastOrder, IsBefore};
 ghost use Rattle.bsv_schedule.specs.relating.Relating.{Relating, Agrees, feed_edges};
 ghost use Rattle.bsv_schedule.specs.stopping.Stops.{AreStops, Ordered};
-ghost use Rattle.bsv_schedule.specs.urging.Orders.{
+ghost use Rattle.bsv_schedule.specs.urgency_order.Orders.{
   UrgencyOrder,
   UrgencyCycle,
   MethodBehindRule,
   Urges,
 };
 ghost use Rattle.bsv_graph.specs.Walks.{HasEdge, IsAcyclic};
-ghost use Rattle.bsv_schedule.specs.declared.executing.fault.OrderFault.{OrderFault};
-ghost use Rattle.bsv_schedule.specs.declared.urging.fault.UrgencyFault.{UrgencyFault};
-ghost use Rattle.bsv_schedule.specs.executing.Answers.{IsExecutionAnswer};
-ghost use Rattle.bsv_schedule.specs.urging.Answers.{IsUrgencyAnswer};
+ghost use Rattle.bsv_schedule.specs.declared.execution_order.fault.OrderFault.{OrderFault};
+ghost use Rattle.bsv_schedule.specs.declared.urgency_order.fault.UrgencyFault.{UrgencyFault};
+ghost use Rattle.bsv_schedule.specs.execution_order.Answers.{IsExecutionAnswer};
+ghost use Rattle.bsv_schedule.specs.urgency_order.Answers.{IsUrgencyAnswer};
 
 /// There is at most one least order, and so one execution order and one urgency order; and where these are given, each
 /// element stops the same others.
@@ -58,12 +58,12 @@ pub fn ordered()
         → ExecutionOrder r execution → UrgencyOrder r urgency → Ordered r execution urgency }
 {}
 
-/// The pairs of the attributes stand in the orders as they are listed.
+/// The pairs of the attributes are in the orders as they are listed.
 pub fn obeyed()
     ensures execution { (r : Relating) (xs : List ℕ) (a b : ℕ) → Agrees r
-        → ExecutionOrder r xs → HasEdge r.ordering a b → StandsBefore xs a b }
+        → ExecutionOrder r xs → HasEdge r.ordering a b → IsBefore xs a b }
     ensures urgency { (r : Relating) (xs : List ℕ) (a b : ℕ) → Agrees r
-        → UrgencyOrder r xs → HasEdge r.urging a b → StandsBefore xs a b }
+        → UrgencyOrder r xs → HasEdge r.urging a b → IsBefore xs a b }
 {}
 
 /// Elements that relate so have at most one answer: an execution order, or a fault.

@@ -1,4 +1,4 @@
--- The tables of the code are those of the definitions, and no name stands twice in one.
+-- The tables of the code are those of the definitions, and no name is twice in one.
 use Rattle.std.proofs.Common.{◌≡◌, map, refl}
 use Rattle.std.specs.Map.{keys_of}
 use Rattle.bsv_scopes.specs.declared.definitions.TheConstants.{TYPES, LABELS}

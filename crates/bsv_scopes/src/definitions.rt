@@ -126,7 +126,7 @@ impl Definitions {
         })
     }
 
-    /// Defines the name in the space, behind the names that it has, and says whether it was new there.
+    /// Defines the name in the space, after the names that it has, and says whether it was new there.
     #[tactic(auto, using(crate::proofs::Names::defined))]
     pub fn define(&mut self, space: Space, name: Name) -> Result<bool, AllocError>
         ensures is_new { IfOk result (λ is_new. is_new

@@ -1,4 +1,4 @@
--- The calls of the clock can be applied to the parts, and the parts behind them are those behind the clock.
+-- The calls of the clock can be applied to the parts, and the parts after them are those after the clock.
 use Rattle.std.proofs.Common.{◌≡◌, ◌∙◌, ℕ, zero, suc, ◌<◌, true, List, [], ◌∷◌, Option, Some, refl, sym, ap, ap₂, subst, arith, length}
 use Rattle.std.specs.Prelude.{slice_get}
 use Rattle.std.specs.List.{AllByRecursion}
@@ -9,10 +9,10 @@ use Rattle.bsv_prim.specs.Table.{Call}
 use Rattle.bsv_prim.specs.declared.part.Part.{Part}
 use Rattle.bsv_design.specs.declared.kind.Kind.{Kind}
 use Rattle.bsv_design.specs.declared.schedule.Schedule.{Schedule}
-use Rattle.bsv_design.specs.Kinds.{kind_table}
-use Rattle.bsv_design.specs.Schemes.{Scheme}
-use Rattle.bsv_design.specs.States.{FitsKinds, emptied, part_at}
-use Rattle.bsv_design.specs.Traces.{acts}
+use Rattle.bsv_design.specs.tree.Kinds.{kind_table}
+use Rattle.bsv_design.specs.scheme.Schemes.{Scheme}
+use Rattle.bsv_design.specs.scheme.States.{FitsKinds, emptied, part_at}
+use Rattle.bsv_design.specs.scheme.Traces.{acts}
 use Rattle.bsv_guard.specs.Turns.{calls_on}
 use Rattle.bsv_guard.proofs.Turns.{sound_turns, all_on, fits_at, length-parts}
 use Rattle.bsv_clock.specs.Feeding.{IsFed}
@@ -20,9 +20,9 @@ use Rattle.bsv_clock.specs.Grounds.{IsLawful}
 use Rattle.bsv_clock.specs.Settling.{Doing, deeds, end_of}
 use Rattle.bsv_clock.proofs.CallLists.{all_map}
 use Rattle.bsv_clock.proofs.Steadily.{emptied_fits}
-use Rattle.bsv_serial.specs.declared.made.MadeCall.{MadeCall}
-use Rattle.bsv_serial.specs.Applying.{AllCanTake, CanTake, all_behind, behind}
-use Rattle.bsv_serial.specs.Made.{as_calls}
+use Rattle.bsv_serial.specs.declared.calls_made.MadeCall.{MadeCall}
+use Rattle.bsv_serial.specs.Applying.{AllCanTake, CanTake, all_after, behind}
+use Rattle.bsv_serial.specs.CallsMade.{as_calls}
 use Rattle.bsv_serial.specs.Sights.{CanBeApplied}
 use Rattle.bsv_serial.proofs.Joining.{made_on}
 use Rattle.bsv_serial.proofs.LookingSoFar.{orderly_applied}
@@ -39,16 +39,16 @@ take_all (k ∷ ks) [] ms l m h = absurd (let z : ⊥ = omega arith in z)
 take_all (k ∷ ks) (p ∷ ps) [] l m h = absurd (let z : ⊥ = omega arith in z)
 take_all (k ∷ ks) (p ∷ ps) (cs ∷ ms) l m h = (h zero k refl, take_all ks ps ms (omega arith) (omega arith) (λ i kind e. h (suc i) kind e))
 
-pub behind_all : (ks : List Kind) (ps es : List Part) (ms : List (List MadeCall)) → length ps ≡ length ks → length es ≡ length ks → length ms ≡ length ks
-    → ((i : ℕ) (k : Kind) → slice_get ks i ≡ Some k → behind k (part_at ps i) (made_on ms i) ≡ part_at es i) → all_behind ks ps ms ≡ es
-behind_all [] [] [] ms l e m h = refl
-behind_all [] [] (x ∷ es) ms l e m h = absurd (let z : ⊥ = omega arith in z)
-behind_all [] (p ∷ ps) es ms l e m h = absurd (let z : ⊥ = omega arith in z)
-behind_all (k ∷ ks) [] es ms l e m h = absurd (let z : ⊥ = omega arith in z)
-behind_all (k ∷ ks) (p ∷ ps) [] ms l e m h = absurd (let z : ⊥ = omega arith in z)
-behind_all (k ∷ ks) (p ∷ ps) (x ∷ es) [] l e m h = absurd (let z : ⊥ = omega arith in z)
-behind_all (k ∷ ks) (p ∷ ps) (x ∷ es) (cs ∷ ms) l e m h =
-    ap₂ (λ (y : Part) (ys : List Part). y ∷ ys) (h zero k refl) (behind_all ks ps es ms (omega arith) (omega arith) (omega arith) (λ i kind f. h (suc i) kind f))
+pub after_all : (ks : List Kind) (ps es : List Part) (ms : List (List MadeCall)) → length ps ≡ length ks → length es ≡ length ks → length ms ≡ length ks
+    → ((i : ℕ) (k : Kind) → slice_get ks i ≡ Some k → behind k (part_at ps i) (made_on ms i) ≡ part_at es i) → all_after ks ps ms ≡ es
+after_all [] [] [] ms l e m h = refl
+after_all [] [] (x ∷ es) ms l e m h = absurd (let z : ⊥ = omega arith in z)
+after_all [] (p ∷ ps) es ms l e m h = absurd (let z : ⊥ = omega arith in z)
+after_all (k ∷ ks) [] es ms l e m h = absurd (let z : ⊥ = omega arith in z)
+after_all (k ∷ ks) (p ∷ ps) [] ms l e m h = absurd (let z : ⊥ = omega arith in z)
+after_all (k ∷ ks) (p ∷ ps) (x ∷ es) [] l e m h = absurd (let z : ⊥ = omega arith in z)
+after_all (k ∷ ks) (p ∷ ps) (x ∷ es) (cs ∷ ms) l e m h =
+    ap₂ (λ (y : Part) (ys : List Part). y ∷ ys) (h zero k refl) (after_all ks ps es ms (omega arith) (omega arith) (omega arith) (λ i kind f. h (suc i) kind f))
 
 -- ---- in a clock
 
@@ -81,15 +81,15 @@ module _ (S : Scheme) (made : Schedule) (lawful : IsLawful S) (s : List Part) (p
           (orderly_applied (kind_table kind) (part_at start i) (calls_on i (deeds D made.execution)) (fed.orderly i kind is) acting);
     }
 
-    one_behind : behind kind (part_at start i) (made_on lists i) ≡ part_at (end_of S made s D) i
+    one_after : behind kind (part_at start i) (made_on lists i) ≡ part_at (end_of S made s D) i
     unfolding end_of
-    one_behind =
+    one_after =
         ap (prim.after_calls (kind_table kind) (part_at start i)) all_calls
         ∙ sym ((sound_turns S lawful.sound lawful.fitting).each_part start start_fits (deeds D made.execution) i kind is)
 
   pub clock_takes : AllCanTake S.kinds start lists
   clock_takes = take_all S.kinds start lists (length-parts S.kinds start start_fits) count one_takes
 
-  pub clock_behind : all_behind S.kinds start lists ≡ end_of S made s D
-  clock_behind =
-      behind_all S.kinds start (end_of S made s D) lists (length-parts S.kinds start start_fits) (length-parts S.kinds (end_of S made s D) fed.end_fits) count one_behind
+  pub clock_after : all_after S.kinds start lists ≡ end_of S made s D
+  clock_after =
+      after_all S.kinds start (end_of S made s D) lists (length-parts S.kinds start start_fits) (length-parts S.kinds (end_of S made s D) fed.end_fits) count one_after

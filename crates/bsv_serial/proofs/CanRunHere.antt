@@ -11,21 +11,21 @@ use Rattle.bsv_design.specs.declared.element.Element.{Element}
 use Rattle.bsv_design.specs.declared.kind.Kind.{Kind}
 use Rattle.bsv_design.specs.declared.schedule.Need.{Need}
 use Rattle.bsv_design.specs.declared.schedule.Schedule.{Schedule}
-use Rattle.bsv_design.specs.Bodies.{target}
-use Rattle.bsv_design.specs.Designs.{HasWidths, IsDesign}
-use Rattle.bsv_design.specs.Guards.{needs_from, needs_of}
-use Rattle.bsv_design.specs.Roles.{gives_value}
-use Rattle.bsv_design.specs.Schemes.{Scheme, Outline, Asking, design_scheme, filled, given, if_asked, kinds_of, ports_of}
-use Rattle.bsv_design.specs.Seen.{blueprint}
-use Rattle.bsv_design.specs.States.{AreWordsOf, emptied}
-use Rattle.bsv_design.specs.Widths.{widths_from, call_fits, condition_fits, port_fits, result_fits}
+use Rattle.bsv_design.specs.design.Bodies.{target}
+use Rattle.bsv_design.specs.design.Designs.{HasWidths, IsDesign}
+use Rattle.bsv_design.specs.design.Guards.{needs_from, needs_of}
+use Rattle.bsv_design.specs.tree.Roles.{gives_value}
+use Rattle.bsv_design.specs.scheme.Schemes.{Scheme, Outline, Asking, design_scheme, filled, given, if_asked, kinds_of, ports_of}
+use Rattle.bsv_design.specs.tree.Seen.{design_data}
+use Rattle.bsv_design.specs.scheme.States.{AreWordsOf, emptied}
+use Rattle.bsv_design.specs.design.Widths.{widths_from, call_fits, condition_fits, port_fits, result_fits}
 use Rattle.bsv_guard.proofs.Whole.{named_in}
 use Rattle.bsv_clock.specs.Feeding.{IsFed}
 use Rattle.bsv_clock.specs.Grounds.{Fit, IsLawful, IsScheduleOf}
 use Rattle.bsv_clock.specs.Settling.{Doing, DoesWithin, look_of}
-use Rattle.bsv_serial.specs.declared.made.MadeCall.{MadeCall}
+use Rattle.bsv_serial.specs.declared.calls_made.MadeCall.{MadeCall}
 use Rattle.bsv_serial.specs.Bodies.{CanBeComputed}
-use Rattle.bsv_serial.specs.Settings.{Ground, CanRun}
+use Rattle.bsv_serial.specs.Settings.{Setting, CanRun}
 use Rattle.bsv_serial.proofs.DecidedFront.{so_far}
 use Rattle.bsv_serial.proofs.Joining.{made_on}
 use Rattle.bsv_serial.proofs.LookingSoFar.{same_look_here, can_look_here}
@@ -44,7 +44,7 @@ is_some_widths (Some ws) = true
 
 module _ (d : Design) (n : ℕ) (e : Element) (is : slice_get d.elements n ≡ Some e) where
   abbrev ks : List Kind
-  ks = kinds_of (blueprint d)
+  ks = kinds_of (design_data d)
 
   abbrev found : Option (List ℕ)
   found = widths_from e.arguments ks e.calls [] e.nodes
@@ -56,7 +56,7 @@ module _ (d : Design) (n : ℕ) (e : Element) (is : slice_get d.elements n ≡ S
   unfolding or_no_widths
   fact test h =
       ∥∥₁_elim d.right (Bool-set _ _)
-      (λ (right : IsDesign (blueprint d)).
+      (λ (right : IsDesign (design_data d)).
       let w = (right.elements n e is).fits in
       ap (λ (o : Option (List ℕ)). test (or_no_widths o)) w.nodes ∙ h w)
 
@@ -69,7 +69,7 @@ module _ (d : Design) (n : ℕ) (e : Element) (is : slice_get d.elements n ≡ S
   unfolding is_some_widths
   some =
       ∥∥₁_elim d.right (Bool-set (is_some_widths found) true)
-      (λ (right : IsDesign (blueprint d)). ap is_some_widths (right.elements n e is).fits.nodes)
+      (λ (right : IsDesign (design_data d)). ap is_some_widths (right.elements n e is).fits.nodes)
 
   pub has_widths : HasWidths ks e
   has_widths = record {
@@ -83,17 +83,17 @@ module _ (d : Design) (n : ℕ) (e : Element) (is : slice_get d.elements n ≡ S
 
 -- ---- in a clock
 
-module _ (d : Design) (made : Schedule) (lawful : IsLawful (design_scheme (blueprint d))) (scheduled : IsScheduleOf (design_scheme (blueprint d)) made)
-    (q : Asking) (s : List Part) (fit : Fit (design_scheme (blueprint d)) q s) (needs : List (List Need)) (are_needs : needs ≡ needs_of (kinds_of (blueprint d)) d.elements)
-    (long : length (emptied (kinds_of (blueprint d)) s) ≡ length (kinds_of (blueprint d)))
-    (D : Doing) (within : DoesWithin (design_scheme (blueprint d)) D) (fed : IsFed (design_scheme (blueprint d)) made s D)
+module _ (d : Design) (made : Schedule) (lawful : IsLawful (design_scheme (design_data d))) (scheduled : IsScheduleOf (design_scheme (design_data d)) made)
+    (q : Asking) (s : List Part) (fit : Fit (design_scheme (design_data d)) q s) (needs : List (List Need)) (are_needs : needs ≡ needs_of (kinds_of (design_data d)) d.elements)
+    (long : length (emptied (kinds_of (design_data d)) s) ≡ length (kinds_of (design_data d)))
+    (D : Doing) (within : DoesWithin (design_scheme (design_data d)) D) (fed : IsFed (design_scheme (design_data d)) made s D)
     (us rest : List ℕ) (n : ℕ) (split : made.urgency ≡ us ++ n ∷ rest)
-    (lists : List (List MadeCall)) (are : (i : ℕ) → i < length (kinds_of (blueprint d)) → made_on lists i ≡ tagged (kinds_of (blueprint d)) i (so_far D us) 0 made.execution) where
+    (lists : List (List MadeCall)) (are : (i : ℕ) → i < length (kinds_of (design_data d)) → made_on lists i ≡ tagged (kinds_of (design_data d)) i (so_far D us) 0 made.execution) where
   abbrev S : Scheme
-  S = design_scheme (blueprint d)
+  S = design_scheme (design_data d)
 
-  abbrev pub ground : Ground
-  ground = record { kinds = kinds_of (blueprint d); elements = d.elements; needs = needs; asking = q; state = emptied (kinds_of (blueprint d)) s }
+  abbrev pub ground : Setting
+  ground = record { kinds = kinds_of (design_data d); elements = d.elements; needs = needs; asking = q; state = emptied (kinds_of (design_data d)) s }
 
   module _ (e : Element) (is : slice_get d.elements n ≡ Some e) where
     given_fits : AreWordsOf e.arguments (filled e.arguments (if_asked (slice_get q.asked n) (slice_get q.args n)))
@@ -101,7 +101,7 @@ module _ (d : Design) (made : Schedule) (lawful : IsLawful (design_scheme (bluep
         subst (AreWordsOf e.arguments) (given_here d q n e is)
         (subst (λ (o : Option Outline). AreWordsOf (ports_of o) (given S q n)) (outline_there d q n e is) (fit.requests n))
 
-    computed : CanBeComputed (kinds_of (blueprint d)) (emptied (kinds_of (blueprint d)) s) lists e (filled e.arguments (if_asked (slice_get q.asked n) (slice_get q.args n)))
+    computed : CanBeComputed (kinds_of (design_data d)) (emptied (kinds_of (design_data d)) s) lists e (filled e.arguments (if_asked (slice_get q.asked n) (slice_get q.args n)))
     unfolding design_scheme
     computed = record {
       widths = has_widths d n e is;
@@ -117,6 +117,6 @@ module _ (d : Design) (made : Schedule) (lawful : IsLawful (design_scheme (bluep
       element = e;
       is = is;
       body = computed;
-      needs = ap (λ (ns : List (List Need)). slice_get ns n) are_needs ∙ mapped_at (λ (x : Element). needs_from (kinds_of (blueprint d)) 0 x.calls) d.elements n e is;
-      named = named_in d n e (kinds_of (blueprint d)) e.calls is refl refl;
+      needs = ap (λ (ns : List (List Need)). slice_get ns n) are_needs ∙ mapped_at (λ (x : Element). needs_from (kinds_of (design_data d)) 0 x.calls) d.elements n e is;
+      named = named_in d n e (kinds_of (design_data d)) e.calls is refl refl;
     }

@@ -10,10 +10,10 @@ use Rattle.bsv_prim.specs.declared.part.Part.{Part}
 use Rattle.bsv_design.specs.declared.design.Design.{Design}
 use Rattle.bsv_design.specs.declared.element.Port.{Port}
 use Rattle.bsv_design.specs.declared.schedule.Schedule.{Schedule}
-use Rattle.bsv_design.specs.Designs.{IsDesign}
-use Rattle.bsv_design.specs.Schemes.{Asking, design_scheme, kinds_of, outline}
-use Rattle.bsv_design.specs.Seen.{blueprint}
-use Rattle.bsv_design.specs.States.{AreWordsOf, AskingFits, FitsKinds}
+use Rattle.bsv_design.specs.design.Designs.{IsDesign}
+use Rattle.bsv_design.specs.scheme.Schemes.{Asking, design_scheme, kinds_of, outline}
+use Rattle.bsv_design.specs.tree.Seen.{design_data}
+use Rattle.bsv_design.specs.scheme.States.{AreWordsOf, AskingFits, FitsKinds}
 use Rattle.bsv_graph.specs.Orders.{IsOrderOf}
 use Rattle.bsv_guard.specs.Fitting.{RequestFits}
 use Rattle.bsv_guard.proofs.DesignFits.{request_fits}
@@ -28,24 +28,24 @@ words_prop [] (w ∷ ws) = hlevel
 words_prop (p ∷ ps) [] = hlevel
 words_prop (p ∷ ps) (w ∷ ws) = hlevel (le_prop, ℕ_set, words_prop ps ws)
 
-pub requests_fit : (d : Design) (q : Asking) → AskingFits d.elements q → (n : ℕ) → RequestFits (design_scheme (blueprint d)) q n
+pub requests_fit : (d : Design) (q : Asking) → AskingFits d.elements q → (n : ℕ) → RequestFits (design_scheme (design_data d)) q n
 requests_fit d q asking n =
-    ∥∥₁_elim d.right (words_prop _ _) (λ (right : IsDesign (blueprint d)). request_fits (blueprint d) right q asking n)
+    ∥∥₁_elim d.right (words_prop _ _) (λ (right : IsDesign (design_data d)). request_fits (design_data d) right q asking n)
 
-pub fits_together : (d : Design) (q : Asking) (s : List Part) → AskingFits d.elements q → FitsKinds (kinds_of (blueprint d)) s → Fit (design_scheme (blueprint d)) q s
+pub fits_together : (d : Design) (q : Asking) (s : List Part) → AskingFits d.elements q → FitsKinds (kinds_of (design_data d)) s → Fit (design_scheme (design_data d)) q s
 unfolding design_scheme
 fits_together d q s asking parts = record { requests = requests_fit d q asking; parts = parts }
 
-module _ (d : Design) (made : Schedule) (scheduled : IsScheduleOf (design_scheme (blueprint d)) made) where
-  count : length (design_scheme (blueprint d)).elements ≡ length d.elements
+module _ (d : Design) (made : Schedule) (scheduled : IsScheduleOf (design_scheme (design_data d)) made) where
+  count : length (design_scheme (design_data d)).elements ≡ length d.elements
   unfolding design_scheme
   count = length-map d.elements outline
 
   pub executes : IsOrderOf (length d.elements) made.execution
-  executes = subst (λ (c : ℕ). IsOrderOf c made.execution) count (execution_order (design_scheme (blueprint d)) made scheduled)
+  executes = subst (λ (c : ℕ). IsOrderOf c made.execution) count (execution_order (design_scheme (design_data d)) made scheduled)
 
   pub urges : IsOrderOf (length d.elements) made.urgency
-  urges = subst (λ (c : ℕ). IsOrderOf c made.urgency) count (urgency_order (design_scheme (blueprint d)) made scheduled)
+  urges = subst (λ (c : ℕ). IsOrderOf c made.urgency) count (urgency_order (design_scheme (design_data d)) made scheduled)
 
   pub execution_long : length made.execution ≤ length d.elements
   execution_long = once_long (length d.elements) made.execution executes.once executes.below

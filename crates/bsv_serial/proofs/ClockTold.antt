@@ -12,12 +12,12 @@ use Rattle.bsv_design.specs.declared.fired.Fired.{Fired}
 use Rattle.bsv_design.specs.declared.kind.Kind.{Kind}
 use Rattle.bsv_design.specs.declared.schedule.Need.{Need}
 use Rattle.bsv_design.specs.declared.schedule.Schedule.{Schedule}
-use Rattle.bsv_design.specs.Guards.{needs_of}
-use Rattle.bsv_design.specs.Roles.{is_rule}
-use Rattle.bsv_design.specs.Schemes.{Scheme, Outline, Asking, Called, Look, calls, design_scheme, kinds_of, outline, ready, value}
-use Rattle.bsv_design.specs.Seen.{blueprint}
-use Rattle.bsv_design.specs.Serial.{by_rank}
-use Rattle.bsv_design.specs.States.{AskingFits, FitMethods, FitsKinds, emptied, methods_in}
+use Rattle.bsv_design.specs.design.Guards.{needs_of}
+use Rattle.bsv_design.specs.tree.Roles.{is_rule}
+use Rattle.bsv_design.specs.scheme.Schemes.{Scheme, Outline, Asking, Called, Look, calls, design_scheme, kinds_of, outline, ready, value}
+use Rattle.bsv_design.specs.tree.Seen.{design_data}
+use Rattle.bsv_design.specs.scheme.Serial.{by_rank}
+use Rattle.bsv_design.specs.scheme.States.{AskingFits, FitMethods, FitsKinds, emptied, methods_in}
 use Rattle.bsv_graph.specs.Edges.{numbers_below}
 use Rattle.bsv_graph.specs.Orders.{In, place_of}
 use Rattle.bsv_graph.proofs.EdgeLemmas.{in_below}
@@ -34,11 +34,11 @@ use Rattle.bsv_clock.proofs.Steadily.{emptied_fits, steady_scheme}
 use Rattle.bsv_clock.proofs.Stopping.{execution_order, urgency_order}
 use Rattle.bsv_serial.specs.declared.fates.Fate.{Fate}
 use Rattle.bsv_serial.specs.declared.fates.Fate.TheVariants as fate
-use Rattle.bsv_serial.specs.Applying.{AllCanTake, all_behind}
-use Rattle.bsv_serial.specs.Deciding.{CanDecideAll, Course, SoFar, all_decided, undecided}
-use Rattle.bsv_serial.specs.Telling as telling
-use Rattle.bsv_serial.specs.Telling.{fate_at, given_by, is_blocked, is_fired, or_idle, stopped_by}
-use Rattle.bsv_serial.proofs.AppliedClock.{clock_behind, clock_takes}
+use Rattle.bsv_serial.specs.Applying.{AllCanTake, all_after}
+use Rattle.bsv_serial.specs.Decider.{CanDecideAll, Course, SoFar, all_decided, undecided}
+use Rattle.bsv_serial.specs.ToldEvents as told_events
+use Rattle.bsv_serial.specs.ToldEvents.{fate_at, given_by, is_blocked, is_fired, or_idle, stopped_by}
+use Rattle.bsv_serial.proofs.AppliedClock.{clock_after, clock_takes}
 use Rattle.bsv_serial.proofs.DecidedClock.{AreDecided, clock_decided, fate_of, is_rule_at, outcome, tagged_alike}
 use Rattle.bsv_serial.proofs.DecidedFront.{all_decided as all_known, is_first_stopper, so_far, stopper_in, stopper_is}
 use Rattle.bsv_serial.proofs.Joining.{made_on}
@@ -157,15 +157,15 @@ not_asked (e ∷ es) asked args h n r = cases (is_rule e.role) refl (λ m asked 
 
 -- ---- in a clock
 
-module _ (d : Design) (made : Schedule) (lawful : IsLawful (design_scheme (blueprint d))) (scheduled : IsScheduleOf (design_scheme (blueprint d)) made)
-    (q : Asking) (s : List Part) (fit : Fit (design_scheme (blueprint d)) q s) (asking : AskingFits d.elements q)
-    (needs : List (List Need)) (are_needs : needs ≡ needs_of (kinds_of (blueprint d)) d.elements)
+module _ (d : Design) (made : Schedule) (lawful : IsLawful (design_scheme (design_data d))) (scheduled : IsScheduleOf (design_scheme (design_data d)) made)
+    (q : Asking) (s : List Part) (fit : Fit (design_scheme (design_data d)) q s) (asking : AskingFits d.elements q)
+    (needs : List (List Need)) (are_needs : needs ≡ needs_of (kinds_of (design_data d)) d.elements)
     (places : List ℕ) (placed : (n : ℕ) → n < length d.elements → (n < length places) × (slice_index places n ≡ place_of made.execution n)) where
   abbrev S : Scheme
-  S = design_scheme (blueprint d)
+  S = design_scheme (design_data d)
 
   abbrev ks : List Kind
-  ks = kinds_of (blueprint d)
+  ks = kinds_of (design_data d)
 
   abbrev D : Doing
   D = the_clock false S made q s
@@ -210,16 +210,16 @@ module _ (d : Design) (made : Schedule) (lawful : IsLawful (design_scheme (bluep
 
   -- ---- the parts
 
-  made_is : (i : ℕ) → i < length ks → made_on found.made i ≡ tagged ks i D 0 made.execution
+  made_is : (i : ℕ) → i < length ks → made_on found.calls_made i ≡ tagged ks i D 0 made.execution
   made_is i l = whole.1.made_is i l ∙ tagged_alike ks i (so_far D made.urgency) D (λ n. sym (all_known S made lawful scheduled D within false q s settled n)) 0 made.execution
 
-  pub takes : AllCanTake ks (emptied ks s) found.made
+  pub takes : AllCanTake ks (emptied ks s) found.calls_made
   unfolding design_scheme
-  takes = clock_takes S made lawful s fit.parts D fed found.made whole.1.calls made_is
+  takes = clock_takes S made lawful s fit.parts D fed found.calls_made whole.1.calls made_is
 
-  pub parts_behind : all_behind ks (emptied ks s) found.made ≡ end_of S made s D
+  pub parts_after : all_after ks (emptied ks s) found.calls_made ≡ end_of S made s D
   unfolding design_scheme
-  parts_behind = clock_behind S made lawful s fit.parts D fed found.made whole.1.calls made_is
+  parts_after = clock_after S made lawful s fit.parts D fed found.calls_made whole.1.calls made_is
 
   -- ---- what is told
 
@@ -263,8 +263,8 @@ module _ (d : Design) (made : Schedule) (lawful : IsLawful (design_scheme (bluep
       is_fired_fn : Fate → Bool
       is_fired_fn f = is_fired f
 
-  pub fired_told : telling.all_fired found.fates made.execution ≡ fired_in made D
-  unfolding telling.all_fired fired_in
+  pub fired_told : told_events.all_fired found.fates made.execution ≡ fired_in made D
+  unfolding told_events.all_fired fired_in
   fired_told = filter_same (λ n. is_fired (fate_at found.fates n)) (fires D) made.execution (λ n k. fired_known n (in_execution n k))
 
   given_known : (n : ℕ) → n < length d.elements → given_by n (fate_at found.fates n) ≡ cond (fires D n) (gives n (value S q n L)) []
@@ -276,8 +276,8 @@ module _ (d : Design) (made : Schedule) (lawful : IsLawful (design_scheme (bluep
       given_fn : ℕ → Fate → List (ℕ × Bits)
       given_fn n f = given_by n f
 
-  pub given_told : telling.all_given found.fates made.execution ≡ results_under S q L (fired_in made D)
-  unfolding telling.all_given fired_in
+  pub given_told : told_events.all_given found.fates made.execution ≡ results_under S q L (fired_in made D)
+  unfolding told_events.all_given fired_in
   given_told =
       mapped_same (λ n. given_by n (fate_at found.fates n)) (λ n. cond (fires D n) (gives n (value S q n L)) []) made.execution (λ n k. given_known n (in_execution n k))
       ∙ kept_map (λ n. gives n (value S q n L)) (fires D) made.execution
@@ -314,14 +314,14 @@ module _ (d : Design) (made : Schedule) (lawful : IsLawful (design_scheme (bluep
       stopped_fn : Fate → List ℕ
       stopped_fn f = map (λ p. p.0) (stopped_by n f)
 
-  pub stopped_told : map (λ p. p.0) (telling.all_stopped found.fates made.urgency) ≡ stopped_in false S made q s (fired_in made D)
-  unfolding telling.all_stopped
+  pub stopped_told : map (λ p. p.0) (told_events.all_stopped found.fates made.urgency) ≡ stopped_in false S made q s (fired_in made D)
+  unfolding told_events.all_stopped
   stopped_told =
       firsts (λ n. stopped_by n (fate_at found.fates n)) (λ n. is_candidate false S q s (fired_in made D) n && not (is_in (fired_in made D) n)) made.urgency
       (λ n k. stopped_known n (in_urgency n k))
 
-  pub stoppers_told : AllByRecursion (IsFirstStopper S made (fired_in made D)) (telling.all_stopped found.fates made.urgency)
-  unfolding telling.all_stopped
+  pub stoppers_told : AllByRecursion (IsFirstStopper S made (fired_in made D)) (told_events.all_stopped found.fates made.urgency)
+  unfolding told_events.all_stopped
   stoppers_told =
       each_of (IsFirstStopper S made (fired_in made D)) (λ n. stopped_by n (fate_at found.fates n)) made.urgency
       (λ n k. subst (λ (f : Fate). AllByRecursion (IsFirstStopper S made (fired_in made D)) (stopped_by n f)) (sym (fate_known n (in_urgency n k)))
@@ -352,9 +352,9 @@ module _ (d : Design) (made : Schedule) (lawful : IsLawful (design_scheme (bluep
       rule_of None = false
       rule_of (Some o) = is_rule o.role
 
-  pub blocked_told : telling.all_blocked found.fates
+  pub blocked_told : told_events.all_blocked found.fates
       ≡ filter (λ n. is_asked q n && not (ready false S q n (clock_look S q s (fired_in made D)))) (numbers_below (length S.elements))
-  unfolding telling.all_blocked
+  unfolding told_events.all_blocked
   blocked_told =
       ap (λ (k : ℕ). filter (λ n. is_blocked (fate_at found.fates n)) (numbers_below k)) whole.1.fates_long
       ∙ filter_same (λ n. is_blocked (fate_at found.fates n)) (λ n. is_asked q n && not (ready false S q n (clock_look S q s (fired_in made D)))) (numbers_below (length d.elements))
@@ -363,15 +363,15 @@ module _ (d : Design) (made : Schedule) (lawful : IsLawful (design_scheme (bluep
 
   -- ---- all
 
-  pub clock_happens : (fired : Fired) (after : List Part) → after ≡ all_behind ks (emptied ks s) found.made
-      → fired.list.items ≡ telling.all_fired found.fates made.execution
-      → fired.stopped.items ≡ telling.all_stopped found.fates made.urgency
-      → fired.blocked.items ≡ telling.all_blocked found.fates
-      → fired.results.items ≡ telling.all_given found.fates made.execution
+  pub clock_happens : (fired : Fired) (after : List Part) → after ≡ all_after ks (emptied ks s) found.calls_made
+      → fired.list.items ≡ told_events.all_fired found.fates made.execution
+      → fired.stopped.items ≡ told_events.all_stopped found.fates made.urgency
+      → fired.blocked.items ≡ told_events.all_blocked found.fates
+      → fired.results.items ≡ told_events.all_given found.fates made.execution
       → Happens false S made q s fired after
   clock_happens fired after is_after list stopped blocked results =
       let the_list : fired.list.items ≡ fired_in made D = list ∙ fired_told in
-      subst (λ (ps : List Part). Happens false S made q s fired ps) (sym (is_after ∙ parts_behind))
+      subst (λ (ps : List Part). Happens false S made q s fired ps) (sym (is_after ∙ parts_after))
       (record {
         clock = subst (λ (ns : List ℕ). IsClock false S made q s ns (end_of S made s D)) (sym the_list) (some_clock false S made q s together (steady_scheme false S lawful));
         stopped = ap (λ (ps : List (ℕ × ℕ)). map (λ p. p.0) ps) stopped ∙ stopped_told ∙ ap (λ (ns : List ℕ). stopped_in false S made q s ns) (sym the_list);
@@ -382,12 +382,12 @@ module _ (d : Design) (made : Schedule) (lawful : IsLawful (design_scheme (bluep
             ∙ ap (λ (ns : List ℕ). results_in_turn S q (emptied S.kinds s) ns) (sym the_list);
       })
 
-  pub end_fits : FitsKinds ks (all_behind ks (emptied ks s) found.made)
+  pub end_fits : FitsKinds ks (all_after ks (emptied ks s) found.calls_made)
   unfolding design_scheme
-  end_fits = subst (FitsKinds ks) (sym parts_behind) fed.end_fits
+  end_fits = subst (FitsKinds ks) (sym parts_after) fed.end_fits
 
-  pub all_long : length (all_behind ks (emptied ks s) found.made) ≡ length (emptied ks s)
-  all_long = length-parts ks (all_behind ks (emptied ks s) found.made) end_fits ∙ sym long
+  pub all_long : length (all_after ks (emptied ks s) found.calls_made) ≡ length (emptied ks s)
+  all_long = length-parts ks (all_after ks (emptied ks s) found.calls_made) end_fits ∙ sym long
 
   pub fates_count : length found.fates ≡ length d.elements
   fates_count = whole.1.fates_long

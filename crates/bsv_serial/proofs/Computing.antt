@@ -10,19 +10,19 @@ use Rattle.bsv_design.specs.declared.element.Port.{Port}
 use Rattle.bsv_design.specs.declared.kind.Kind.{Kind}
 use Rattle.bsv_design.specs.declared.node.Node.{Node}
 use Rattle.bsv_design.specs.declared.node.Node.TheVariants as node
-use Rattle.bsv_design.specs.Bodies.{target, Answers, answer, node_word, of_parts, values, words_behind}
-use Rattle.bsv_design.specs.Schemes.{answers, guard_of, result_of, no_result}
+use Rattle.bsv_design.specs.design.Bodies.{target, Answers, answer, node_word, of_parts, values, words_after}
+use Rattle.bsv_design.specs.scheme.Schemes.{answers, guard_of, result_of, no_result}
 use Rattle.bsv_design.proofs.Bodies.{words_one}
-use Rattle.bsv_design.specs.Traces.{kind_at}
-use Rattle.bsv_design.specs.Widths.{if_some, node_width, widths_from}
+use Rattle.bsv_design.specs.scheme.Traces.{kind_at}
+use Rattle.bsv_design.specs.design.Widths.{if_some, node_width, widths_from}
 use Rattle.bsv_guard.specs.Fitting.{HaveWidths}
 use Rattle.bsv_guard.proofs.BodyFits.{words_fit}
 use Rattle.bsv_guard.proofs.Fits.{answers_fit}
 use Rattle.bsv_guard.proofs.Nodes.{chained}
-use Rattle.bsv_serial.specs.declared.made.MadeCall.{MadeCall}
+use Rattle.bsv_serial.specs.declared.calls_made.MadeCall.{MadeCall}
 use Rattle.bsv_serial.proofs.Lists.{split_at}
 use Rattle.bsv_serial.specs.Bodies.{HasOperands, CanBeComputed}
-use Rattle.bsv_serial.specs.Sights.{look_behind}
+use Rattle.bsv_serial.specs.Sights.{look_with}
 
 -- ---- words
 
@@ -51,7 +51,7 @@ module _ (r : Answers) (arguments : List Bits) (cs : List Call) where
     word_same ws (node.SignExtend a width) = refl
 
     pub values_same : (ws : List Bits) (ns : List Node) → values r arguments cs ws ns ≡ values q arguments cs ws ns
-    unfolding words_behind
+    unfolding words_after
     values_same ws [] = refl
     values_same ws (x ∷ ns) =
         ap (λ (v : Bits). values r arguments cs (ws ++ v ∷ []) ns) (word_same ws x)
@@ -76,18 +76,18 @@ parted ports ks cs us (x ∷ xs) ys ends e =
       rest = p.rest;
     }
 
-module _ (ks : List Kind) (ps : List Part) (made : List (List MadeCall)) (e : Element) (arguments : List Bits) (h : CanBeComputed ks ps made e arguments) where
+module _ (ks : List Kind) (ps : List Part) (calls_made : List (List MadeCall)) (e : Element) (arguments : List Bits) (h : CanBeComputed ks ps calls_made e arguments) where
   -- the answers under the look are those under one of parts that fit
-  same_answers : (k : ℕ) (c : Call) → slice_get e.calls k ≡ Some c → (args : List Bits) → answers ks (look_behind ks ps made) k (target c) args ≡ answers ks h.seen k (target c) args
+  same_answers : (k : ℕ) (c : Call) → slice_get e.calls k ≡ Some c → (args : List Bits) → answers ks (look_with ks ps calls_made) k (target c) args ≡ answers ks h.seen k (target c) args
   unfolding answers
   same_answers k c at args =
       ap (λ (p : Part). cond (guard_of (kind_at ks (target c)) c.method p) (result_of (kind_at ks (target c)) c.method p args) (no_result (kind_at ks (target c)) c.method)) (h.same k c at)
 
-  pub same_words : (ns : List Node) → values (answers ks (look_behind ks ps made)) arguments e.calls [] ns ≡ values (answers ks h.seen) arguments e.calls [] ns
-  same_words ns = values_same (answers ks (look_behind ks ps made)) arguments e.calls (answers ks h.seen) same_answers [] ns
+  pub same_words : (ns : List Node) → values (answers ks (look_with ks ps calls_made)) arguments e.calls [] ns ≡ values (answers ks h.seen) arguments e.calls [] ns
+  same_words ns = values_same (answers ks (look_with ks ps calls_made)) arguments e.calls (answers ks h.seen) same_answers [] ns
 
   -- each node has its operands where those before it stand
-  pub operands_at : (i : ℕ) (x : Node) → slice_get e.nodes i ≡ Some x → HasOperands ks e.arguments e.calls (values (answers ks (look_behind ks ps made)) arguments e.calls [] (take i e.nodes)) x
+  pub operands_at : (i : ℕ) (x : Node) → slice_get e.nodes i ≡ Some x → HasOperands ks e.arguments e.calls (values (answers ks (look_with ks ps calls_made)) arguments e.calls [] (take i e.nodes)) x
   unfolding widths_from
   operands_at i x at =
       let w = h.widths in

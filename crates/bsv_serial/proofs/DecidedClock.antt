@@ -12,12 +12,12 @@ use Rattle.bsv_design.specs.declared.element.Element.{Element}
 use Rattle.bsv_design.specs.declared.kind.Kind.{Kind}
 use Rattle.bsv_design.specs.declared.schedule.Need.{Need}
 use Rattle.bsv_design.specs.declared.schedule.Schedule.{Schedule}
-use Rattle.bsv_design.specs.Guards.{needs_from, needs_of}
-use Rattle.bsv_design.specs.Roles.{is_rule}
-use Rattle.bsv_design.specs.Schemes.{Scheme, Outline, Asking, Called, Look, calls, design_scheme, filled, if_asked, kinds_of, outline, ready, taken_actions, value}
-use Rattle.bsv_design.specs.Seen.{blueprint}
-use Rattle.bsv_design.specs.Serial.{by_rank}
-use Rattle.bsv_design.specs.States.{emptied}
+use Rattle.bsv_design.specs.design.Guards.{needs_from, needs_of}
+use Rattle.bsv_design.specs.tree.Roles.{is_rule}
+use Rattle.bsv_design.specs.scheme.Schemes.{Scheme, Outline, Asking, Called, Look, calls, design_scheme, filled, if_asked, kinds_of, outline, ready, taken_actions, value}
+use Rattle.bsv_design.specs.tree.Seen.{design_data}
+use Rattle.bsv_design.specs.scheme.Serial.{by_rank}
+use Rattle.bsv_design.specs.scheme.States.{emptied}
 use Rattle.bsv_graph.specs.Orders.{In, place_of}
 use Rattle.bsv_guard.specs.ElementLaws.{ActsAlike}
 use Rattle.bsv_clock.specs.Clocks.{is_asked, is_in, may_fire, may_fire_as}
@@ -29,12 +29,12 @@ use Rattle.bsv_clock.proofs.Steadily.{looks_decide}
 use Rattle.bsv_clock.proofs.Stopping.{execution_order, stops_true, stops_within}
 use Rattle.bsv_serial.specs.declared.fates.Fate.{Fate}
 use Rattle.bsv_serial.specs.declared.fates.Fate.TheVariants as fate
-use Rattle.bsv_serial.specs.declared.made.MadeCall.{MadeCall}
+use Rattle.bsv_serial.specs.declared.calls_made.MadeCall.{MadeCall}
 use Rattle.bsv_serial.specs.Bodies.{holds, words_under}
-use Rattle.bsv_serial.specs.Deciding.{Course, SoFar, CanDecide, CanDecideAll, all_decided, all_stopped, decided, fired, if_ready, of_element, or_nobody, undecided, unless_stopped, with_fate}
+use Rattle.bsv_serial.specs.Decider.{Course, SoFar, CanDecide, CanDecideAll, all_decided, all_stopped, decided, fired, if_ready, of_element, flattened, undecided, unless_stopped, with_fate}
 use Rattle.bsv_serial.specs.Making.{with_sites}
 use Rattle.bsv_serial.specs.Settings.{is_ready, sites_of, value_of, words_at}
-use Rattle.bsv_serial.specs.Sights.{look_behind, or_none}
+use Rattle.bsv_serial.specs.Sights.{look_with, or_none}
 use Rattle.bsv_serial.proofs.CanRunHere.{can_run}
 use Rattle.bsv_serial.proofs.DecidedFront.{below, does_now, idle, in_as_before, in_now, not_yet, or_else, others_as_before, so_far, stopper_in, stopper_is, stopper_snoc, stopper_so_far}
 use Rattle.bsv_serial.proofs.Joining.{length-sites, made_on, sites_on}
@@ -76,17 +76,17 @@ tagged_nothing ks i D none place (n ∷ ns) =
 
 -- ---- in a clock
 
-module _ (d : Design) (made : Schedule) (lawful : IsLawful (design_scheme (blueprint d))) (scheduled : IsScheduleOf (design_scheme (blueprint d)) made)
-    (q : Asking) (s : List Part) (fit : Fit (design_scheme (blueprint d)) q s) (needs : List (List Need)) (are_needs : needs ≡ needs_of (kinds_of (blueprint d)) d.elements)
-    (long : length (emptied (kinds_of (blueprint d)) s) ≡ length (kinds_of (blueprint d)))
-    (D : Doing) (within : DoesWithin (design_scheme (blueprint d)) D) (fed : IsFed (design_scheme (blueprint d)) made s D)
-    (settled : IsSettled false (design_scheme (blueprint d)) made q s D)
+module _ (d : Design) (made : Schedule) (lawful : IsLawful (design_scheme (design_data d))) (scheduled : IsScheduleOf (design_scheme (design_data d)) made)
+    (q : Asking) (s : List Part) (fit : Fit (design_scheme (design_data d)) q s) (needs : List (List Need)) (are_needs : needs ≡ needs_of (kinds_of (design_data d)) d.elements)
+    (long : length (emptied (kinds_of (design_data d)) s) ≡ length (kinds_of (design_data d)))
+    (D : Doing) (within : DoesWithin (design_scheme (design_data d)) D) (fed : IsFed (design_scheme (design_data d)) made s D)
+    (settled : IsSettled false (design_scheme (design_data d)) made q s D)
     (places : List ℕ) (placed : (n : ℕ) → n < length d.elements → (n < length places) × (slice_index places n ≡ place_of made.execution n)) where
   abbrev S : Scheme
-  S = design_scheme (blueprint d)
+  S = design_scheme (design_data d)
 
   abbrev ks : List Kind
-  ks = kinds_of (blueprint d)
+  ks = kinds_of (design_data d)
 
   abbrev L : Look
   L = look_of S made s D
@@ -107,8 +107,8 @@ module _ (d : Design) (made : Schedule) (lawful : IsLawful (design_scheme (bluep
   fate_in us n = cond (is_in us n) (fate_of S made q s D n) fate.Idle
 
   pub record AreDecided (us : List ℕ) (x : SoFar) : Type 0 where
-    pub calls : length x.made ≡ length ks
-    pub made_is : (i : ℕ) → i < length ks → made_on x.made i ≡ tagged ks i (so_far D us) 0 made.execution
+    pub calls : length x.calls_made ≡ length ks
+    pub made_is : (i : ℕ) → i < length ks → made_on x.calls_made i ≡ tagged ks i (so_far D us) 0 made.execution
     pub stoppers_long : length x.stoppers ≡ length d.elements
     pub stoppers_are : (n : ℕ) → n < length d.elements → slice_get x.stoppers n ≡ Some (stopper_in D made us n)
     pub fates_long : length x.fates ≡ length d.elements
@@ -192,7 +192,7 @@ module _ (d : Design) (made : Schedule) (lawful : IsLawful (design_scheme (bluep
           whole None = refl
           whole (Some y) = refl
 
-      same_made : (i : ℕ) → i < length ks → made_on x.made i ≡ tagged ks i (so_far D next) 0 made.execution
+      same_made : (i : ℕ) → i < length ks → made_on x.calls_made i ≡ tagged ks i (so_far D next) 0 made.execution
       same_made i l = are.made_is i l ∙ tagged_alike ks i (so_far D us) (so_far D next) same_doing 0 made.execution
 
       pub left_out : fate_of S made q s D n ≡ fate.Idle → AreDecided next x
@@ -221,13 +221,13 @@ module _ (d : Design) (made : Schedule) (lawful : IsLawful (design_scheme (bluep
     start = emptied ks s
 
     abbrev here : Look
-    here = look_behind ks start x.made
+    here = look_with ks start x.calls_made
 
     alike : ActsAlike false S q n here L
     unfolding design_scheme
     alike =
         looks_decide false S lawful q n here L
-        (same_look_here S made lawful scheduled s fit.parts D within fed us rest n split x.made are.made_is)
+        (same_look_here S made lawful scheduled s fit.parts D within fed us rest n split x.calls_made are.made_is)
 
     needs_now : or_none (slice_get needs n) ≡ needs_from ks 0 e.calls
     needs_now =
@@ -237,7 +237,7 @@ module _ (d : Design) (made : Schedule) (lawful : IsLawful (design_scheme (bluep
     abbrev arguments : List Bits
     arguments = filled e.arguments (if_asked (slice_get q.asked n) (slice_get q.args n))
 
-    ready_now : is_ready course.ground x.made n ≡ ready false S q n L
+    ready_now : is_ready course.ground x.calls_made n ≡ ready false S q n L
     unfolding is_ready
     ready_now =
         ap (λ (o : Option Element). ready_in o) is
@@ -248,7 +248,7 @@ module _ (d : Design) (made : Schedule) (lawful : IsLawful (design_scheme (bluep
         ready_in None = false
         ready_in (Some e) = holds ks here e (or_none (slice_get needs n)) (filled e.arguments (if_asked (slice_get q.asked n) (slice_get q.args n)))
 
-    words_now : words_at course.ground x.made n ≡ words_under ks here e arguments
+    words_now : words_at course.ground x.calls_made n ≡ words_under ks here e arguments
     unfolding words_at
     words_now = ap (λ (o : Option Element). words_in o) is
       where
@@ -256,11 +256,11 @@ module _ (d : Design) (made : Schedule) (lawful : IsLawful (design_scheme (bluep
         words_in None = []
         words_in (Some e) = words_under ks here e (filled e.arguments (if_asked (slice_get q.asked n) (slice_get q.args n)))
 
-    calls_now : taken_actions (sites_of ks (words_at course.ground x.made n) (Some e)) ≡ calls S q n L
+    calls_now : taken_actions (sites_of ks (words_at course.ground x.calls_made n) (Some e)) ≡ calls S q n L
     calls_now =
         ap (λ (ws : List Bits). taken_actions (sites_of ks ws (Some e))) words_now ∙ calls_here d q n e is here ∙ alike.same_calls
 
-    value_now : value_of (words_at course.ground x.made n) (Some e) ≡ value S q n L
+    value_now : value_of (words_at course.ground x.calls_made n) (Some e) ≡ value S q n L
     value_now = ap (λ (ws : List Bits). value_of ws (Some e)) words_now ∙ value_here d q n e is here ∙ alike.same_value
 
     -- ---- it fires
@@ -273,10 +273,10 @@ module _ (d : Design) (made : Schedule) (lawful : IsLawful (design_scheme (bluep
       does_here = does_now S made lawful scheduled D within us rest n split ∙ does
 
       more_made : (i : ℕ) → i < length ks
-          → made_on (with_sites ks (slice_index places n) x.made (sites_of ks (words_at course.ground x.made n) (Some e))) i
+          → made_on (with_sites ks (slice_index places n) x.calls_made (sites_of ks (words_at course.ground x.calls_made n) (Some e))) i
           ≡ tagged ks i (so_far D next) 0 made.execution
       more_made i l =
-          sites_on ks (slice_index places n) i (sites_of ks (words_at course.ground x.made n) (Some e)) x.made (subst (λ (k : ℕ). i < k) (sym are.calls) l)
+          sites_on ks (slice_index places n) i (sites_of ks (words_at course.ground x.calls_made n) (Some e)) x.calls_made (subst (λ (k : ℕ). i < k) (sym are.calls) l)
           ∙ ap₂ (λ (cs : List Called) (ms : List MadeCall). added_on ks i (slice_index places n) cs ms) calls_now (are.made_is i l)
           ∙ ap (λ (k : ℕ). added_on ks i k (calls S q n L) (tagged ks i (so_far D us) 0 made.execution)) ((placed n small).1 ∙ none_more (place_of made.execution n))
           ∙ added_tagged ks i n (calls S q n L) (so_far D us) (so_far D next) (idle S made lawful scheduled D within us rest n split) does_here
@@ -302,12 +302,12 @@ module _ (d : Design) (made : Schedule) (lawful : IsLawful (design_scheme (bluep
       pub fires_now : fate.Fired (value S q n L) ≡ fate_of S made q s D n → AreDecided next (fired course x n (Some e))
       unfolding fired
       fires_now is_fate = record {
-        calls = length-sites ks (slice_index places n) 0 (sites_of ks (words_at course.ground x.made n) (Some e)) x.made ∙ are.calls;
+        calls = length-sites ks (slice_index places n) 0 (sites_of ks (words_at course.ground x.calls_made n) (Some e)) x.calls_made ∙ are.calls;
         made_is = more_made;
         stoppers_long = all_stopped_long x.stoppers (or_none (slice_get made.stops n)) n ∙ are.stoppers_long;
         stoppers_are = more_stopped;
-        fates_long = length-set x.fates n (fate.Fired (value_of (words_at course.ground x.made n) (Some e))) ∙ are.fates_long;
-        fates_are = put_down (fate.Fired (value_of (words_at course.ground x.made n) (Some e))) (ap (λ (o : Option Bits). fate.Fired o) value_now ∙ is_fate);
+        fates_long = length-set x.fates n (fate.Fired (value_of (words_at course.ground x.calls_made n) (Some e))) ∙ are.fates_long;
+        fates_are = put_down (fate.Fired (value_of (words_at course.ground x.calls_made n) (Some e))) (ap (λ (o : Option Bits). fate.Fired o) value_now ∙ is_fate);
       }
 
     -- ---- what comes of it
@@ -329,9 +329,9 @@ module _ (d : Design) (made : Schedule) (lawful : IsLawful (design_scheme (bluep
         rule_of None = false
         rule_of (Some o) = is_rule o.role
 
-    stopper_now : or_nobody (slice_get x.stoppers n) ≡ stopper_in D made made.urgency n
+    stopper_now : flattened (slice_get x.stoppers n) ≡ stopper_in D made made.urgency n
     stopper_now =
-        ap (λ (o : Option (Option ℕ)). or_nobody o) (are.stoppers_are n small) ∙ stopper_so_far S made lawful scheduled D within us rest n split
+        ap (λ (o : Option (Option ℕ)). flattened o) (are.stoppers_are n small) ∙ stopper_so_far S made lawful scheduled D within us rest n split
 
     -- what it does, and what comes of it, by whether it may fire, is ready, is a rule, and is stopped
     abbrev does_so : Bool → Bool → Option ℕ → Option (List Called)
@@ -368,7 +368,7 @@ module _ (d : Design) (made : Schedule) (lawful : IsLawful (design_scheme (bluep
       by_ready true k = subst (λ (o : Option ℕ). AreDecided next (unless_stopped course x n (Some e) o)) (sym stopper_now) (by_stopper k own_stopper refl)
       by_ready false k = by_rule k role_rule rule_now
 
-    by_may : (may : Bool) → may_fire S q n ≡ may → AreDecided next (if may then if_ready course x n (Some e) role_rule (is_ready course.ground x.made n) else x)
+    by_may : (may : Bool) → may_fire S q n ≡ may → AreDecided next (if may then if_ready course x n (Some e) role_rule (is_ready course.ground x.calls_made n) else x)
     by_may true h = subst (λ (r : Bool). AreDecided next (if_ready course x n (Some e) role_rule r)) (sym ready_now) (by_ready h (ready false S q n L) refl)
     by_may false h =
         left_out (does_as false (ready false S q n L) own_stopper h refl refl)
@@ -398,7 +398,7 @@ module _ (d : Design) (made : Schedule) (lawful : IsLawful (design_scheme (bluep
 
     pub can_decide : CanDecide course x n
     can_decide = record {
-      run = can_run d made lawful scheduled q s fit needs are_needs long D within fed us rest n split x.made are.made_is e is;
+      run = can_run d made lawful scheduled q s fit needs are_needs long D within fed us rest n split x.calls_made are.made_is e is;
       place = (placed n small).0;
       calls = are.calls;
       stoppers = are.stoppers_long;

@@ -6,8 +6,8 @@ use Rattle.std.proofs.lemmas.Bool.Decides.{nat_tests}
 use Rattle.std.proofs.lemmas.Bool.{and_parts, and_from, eqb-true}
 use Rattle.bsv_prim.specs.declared.part.Part.{Part}
 use Rattle.bsv_design.specs.declared.schedule.Schedule.{Schedule}
-use Rattle.bsv_design.specs.Schemes.{Scheme, Asking, Called}
-use Rattle.bsv_graph.specs.Orders.{In, IsOnce, StandsBefore, place_of}
+use Rattle.bsv_design.specs.scheme.Schemes.{Scheme, Asking, Called}
+use Rattle.bsv_graph.specs.Orders.{In, IsOnce, IsBefore, place_of}
 use Rattle.bsv_graph.proofs.LeastLemmas.{in_left, in_right, in_parts, once_apart}
 use Rattle.bsv_guard.specs.ElementLaws.{IsUse}
 use Rattle.bsv_clock.specs.Clocks.{is_in}
@@ -40,7 +40,7 @@ number_same n = grind (arith, nat_tests)
 other_number : (m n : ℕ) → m ≢ n → (m == n) ≡ false
 other_number m n e = grind (arith, nat_tests, e)
 
--- what stands before an element stands in front of it
+-- what comes before an element comes before it
 place_next : (u n : ℕ) (us : List ℕ) → u ≢ n → place_of (u ∷ us) n ≡ 1 + place_of us n
 place_next u n us o = ap (λ (b : Bool). if b then 0 else 1 + place_of us n) (other_number u n o)
 
@@ -91,7 +91,7 @@ module _ (D : Doing) (made : Schedule) where
   record IsFirstOf (us : List ℕ) (n g : ℕ) : Type 0 where
     found_in : In us g
     passes_test : (fires D g && stops_in made g n) ≡ true
-    first_of : (f : ℕ) → In us f → (fires D f && stops_in made f n) ≡ true → (f ≡ g) ⊎ StandsBefore us g f
+    first_of : (f : ℕ) → In us f → (fires D f && stops_in made f n) ≡ true → (f ≡ g) ⊎ IsBefore us g f
 
   first_step : (us : List ℕ) (n g u : ℕ) → (stopper_in D made us n ≡ Some g → IsFirstOf us n g) → (b : Bool) → stops n u ≡ b → cond b (Some u) (stopper_in D made us n) ≡ Some g → IsFirstOf (u ∷ us) n g
   first_step us n g u ih true e h =

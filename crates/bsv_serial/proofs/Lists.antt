@@ -5,7 +5,7 @@ use Rattle.std.proofs.lemmas.List.{take-append-drop}
 use Rattle.std.proofs.lemmas.Option.{slice_get_read}
 use Rattle.bsv_lemmas.proofs.Places.{drop_one}
 
--- what an index reads stands there
+-- what an index reads is there
 pub read_at : {X : Type 0} (xs ys : List X) (i : ℕ) (x : X) → xs ≡ ys → i < length ys → x ≡ get_or xs i x → slice_get ys i ≡ Some x
 read_at xs ys i x are l e = slice_get_read ys (length ys) i x refl l (subst (λ zs. x ≡ get_or zs i x) are e)
 

@@ -11,12 +11,12 @@ use Rattle.bsv_prim.specs.Table.{Table, Call}
 use Rattle.bsv_prim.specs.declared.part.Part.{Part}
 use Rattle.bsv_design.specs.declared.kind.Kind.{Kind}
 use Rattle.bsv_design.specs.declared.schedule.Schedule.{Schedule}
-use Rattle.bsv_design.specs.Bodies.{Target}
-use Rattle.bsv_design.specs.Kinds.{kind_table}
-use Rattle.bsv_design.specs.Relations.{is_seen}
-use Rattle.bsv_design.specs.Schemes.{Scheme, Called}
-use Rattle.bsv_design.specs.States.{FitsKinds, emptied, part_at}
-use Rattle.bsv_design.specs.Traces.{acts, kind_at}
+use Rattle.bsv_design.specs.design.Bodies.{Target}
+use Rattle.bsv_design.specs.tree.Kinds.{kind_table}
+use Rattle.bsv_design.specs.scheme.Relations.{is_seen}
+use Rattle.bsv_design.specs.scheme.Schemes.{Scheme, Called}
+use Rattle.bsv_design.specs.scheme.States.{FitsKinds, emptied, part_at}
+use Rattle.bsv_design.specs.scheme.Traces.{acts, kind_at}
 use Rattle.bsv_graph.specs.Orders.{In}
 use Rattle.bsv_guard.specs.ElementLaws.{IsUse}
 use Rattle.bsv_guard.specs.Fitting.{IsFitCall, IsMethodOf}
@@ -30,9 +30,9 @@ use Rattle.bsv_clock.specs.Settling.{Doing, DoesWithin, deed, deeds, look_of}
 use Rattle.bsv_clock.proofs.CallLists.{all_append, all_map, seen_on}
 use Rattle.bsv_clock.proofs.Settle.{same_seen}
 use Rattle.bsv_clock.proofs.Steadily.{emptied_fits}
-use Rattle.bsv_serial.specs.declared.made.MadeCall.{MadeCall}
-use Rattle.bsv_serial.specs.Made.{as_calls}
-use Rattle.bsv_serial.specs.Sights.{AreMethods, CanBeApplied, CanLook, CanLookAt, MayLook, behind_seen, look_behind, part_behind}
+use Rattle.bsv_serial.specs.declared.calls_made.MadeCall.{MadeCall}
+use Rattle.bsv_serial.specs.CallsMade.{as_calls}
+use Rattle.bsv_serial.specs.Sights.{AreMethods, CanBeApplied, CanLook, CanLookAt, MayLook, after_seen, look_with, part_after}
 use Rattle.bsv_serial.proofs.Joining.{made_on}
 use Rattle.bsv_serial.proofs.DecidedFront.{so_far, so_far_within, alike_before, below}
 use Rattle.bsv_serial.proofs.Tagged.{as_calls_tagged, tagged, tagged_on}
@@ -131,10 +131,10 @@ module _ (S : Scheme) (made : Schedule) (lawful : IsLawful S) (scheduled : IsSch
         as_calls_fn : List MadeCall → List Call
         as_calls_fn cs = as_calls cs
 
-    pub look_here : look_behind S.kinds start lists t ≡ look_of S made s D t
-    unfolding look_behind behind_seen look_of look_after
+    pub look_here : look_with S.kinds start lists t ≡ look_of S made s D t
+    unfolding look_with after_seen look_of look_after
     look_here =
-        ap (λ (o : Option Kind). part_behind o t.method (part_at start t.part) (made_on lists t.part)) is
+        ap (λ (o : Option Kind). part_after o t.method (part_at start t.part) (made_on lists t.part)) is
         ∙ ap (prim.after_calls (kind_table kind) (part_at start t.part)) seen_calls
         ∙ sym ((sound_turns S lawful.sound lawful.fitting).each_part start start_fits (seen_by S.kinds t all) t.part kind is)
 
@@ -166,7 +166,7 @@ module _ (S : Scheme) (made : Schedule) (lawful : IsLawful S) (scheduled : IsSch
       cases None e m = absurd m
       cases (Some kind) e m = (kind, e, m)
 
-  pub same_look_here : (t : Target) → IsUse S n t → look_behind S.kinds start lists t ≡ look_of S made s D t
+  pub same_look_here : (t : Target) → IsUse S n t → look_with S.kinds start lists t ≡ look_of S made s D t
   same_look_here t u = let k = kind_there t u in look_here t u k.0 k.1
 
   pub can_look_here : length start ≡ length S.kinds → (t : Target) → IsUse S n t → CanLookAt S.kinds start lists t

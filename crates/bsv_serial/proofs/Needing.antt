@@ -7,10 +7,10 @@ use Rattle.bsv_lemmas.proofs.Places.{at_middle}
 use Rattle.bsv_design.specs.declared.element.Call.{Call}
 use Rattle.bsv_design.specs.declared.kind.Kind.{Kind}
 use Rattle.bsv_design.specs.declared.schedule.Need.{Need}
-use Rattle.bsv_design.specs.Bodies.{target}
-use Rattle.bsv_design.specs.Guards.{is_guarded, needs_from, holds_at}
-use Rattle.bsv_design.specs.Schemes.{Look, is_open}
-use Rattle.bsv_design.specs.Traces.{kind_at}
+use Rattle.bsv_design.specs.design.Bodies.{target}
+use Rattle.bsv_design.specs.design.Guards.{is_guarded, needs_from, holds_at}
+use Rattle.bsv_design.specs.scheme.Schemes.{Look, is_open}
+use Rattle.bsv_design.specs.scheme.Traces.{kind_at}
 use Rattle.bsv_serial.specs.Bodies.{guards_hold, AreOpen}
 use Rattle.bsv_design.proofs.Elements.{unguarded}
 

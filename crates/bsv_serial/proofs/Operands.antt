@@ -12,12 +12,12 @@ use Rattle.bsv_design.specs.declared.element.Port.{Port}
 use Rattle.bsv_design.specs.declared.kind.Kind.{Kind}
 use Rattle.bsv_design.specs.declared.node.Node.{Node}
 use Rattle.bsv_design.specs.declared.node.Node.TheVariants as node
-use Rattle.bsv_design.specs.Bodies.{at}
-use Rattle.bsv_design.specs.Computing.{between, sliced, joined, extended, sign_extended}
-use Rattle.bsv_design.specs.Kinds.{kind_table}
-use Rattle.bsv_design.specs.Schemes.{filled}
-use Rattle.bsv_design.specs.Traces.{acts}
-use Rattle.bsv_design.specs.Widths.{port_fits, method_fits, gives_word, result_width, node_width, gives_bit, if_width, two_width, slice_width, join_width, extend_width}
+use Rattle.bsv_design.specs.design.Bodies.{at}
+use Rattle.bsv_design.specs.carrying.Computing.{between, sliced, joined, extended, sign_extended}
+use Rattle.bsv_design.specs.tree.Kinds.{kind_table}
+use Rattle.bsv_design.specs.scheme.Schemes.{filled}
+use Rattle.bsv_design.specs.scheme.Traces.{acts}
+use Rattle.bsv_design.specs.design.Widths.{port_fits, method_fits, gives_word, result_width, node_width, gives_bit, if_width, two_width, slice_width, join_width, extend_width}
 use Rattle.bsv_design.proofs.Asked.{some_width, most_width}
 use Rattle.bsv_guard.specs.Fitting.{IsFitCall}
 use Rattle.bsv_guard.proofs.BodyFits.{call_fit, word_there}
@@ -38,7 +38,7 @@ argument_within ks ports cs ws k h = mapped_within ports k h.width h.is
 pub port_bounds : (ports : List Port) (k : ℕ) (p : Port) → IsTrue (list_all port_fits ports) → slice_get ports k ≡ Some p → (1 ≤ p.width) × (p.width ≤ 128)
 port_bounds ports k p h e = let fits = holds_at_all port_fits ports h k p e in (some_width p fits, most_width p fits)
 
--- a word that is given stands in its place, and else 0
+-- a word that is given is in its place, and else 0
 pub given_there : (ports : List Port) (ws : List Bits) (k : ℕ) (w : Bits) → k < length ports → slice_get ws k ≡ Some w → slice_get (filled ports ws) k ≡ Some w
 given_there [] ws k w l e = absurd (omega arith)
 given_there (p ∷ ports) [] k w l e = absurd (let n : ⊥ = cc in n)

@@ -10,12 +10,12 @@ use Rattle.bsv_design.specs.declared.element.Call.{Call}
 use Rattle.bsv_design.specs.declared.element.Element.{Element}
 use Rattle.bsv_design.specs.declared.kind.Kind.{Kind}
 use Rattle.bsv_design.specs.declared.schedule.Need.{Need}
-use Rattle.bsv_design.specs.Bodies.{target}
-use Rattle.bsv_design.specs.Guards.{body_ready, holds_at, is_asked as is_needed, is_guarded, needs_from, needs_hold, needs_of}
-use Rattle.bsv_design.specs.Schemes.{Scheme, Outline, Asking, Called, Look, all_hold, answers, calls, design_scheme, filled, given, if_asked, kinds_of, outline, ports_of, ready, taken_actions, value}
-use Rattle.bsv_design.specs.Schemes as schemes
-use Rattle.bsv_design.specs.Seen.{blueprint}
-use Rattle.bsv_design.specs.Traces.{demand_at, kind_at, body_trace}
+use Rattle.bsv_design.specs.design.Bodies.{target}
+use Rattle.bsv_design.specs.design.Guards.{body_ready, holds_at, is_asked as is_needed, is_guarded, needs_from, needs_hold, needs_of}
+use Rattle.bsv_design.specs.scheme.Schemes.{Scheme, Outline, Asking, Called, Look, all_hold, answers, calls, design_scheme, filled, given, if_asked, kinds_of, outline, ports_of, ready, taken_actions, value}
+use Rattle.bsv_design.specs.scheme.Schemes as schemes
+use Rattle.bsv_design.specs.tree.Seen.{design_data}
+use Rattle.bsv_design.specs.scheme.Traces.{demand_at, kind_at, body_trace}
 use Rattle.bsv_guard.specs.ElementLaws.{IsUse}
 use Rattle.bsv_guard.proofs.Whole.{lifted}
 use Rattle.bsv_serial.specs.Bodies.{guards_hold, holds, words_under}
@@ -52,10 +52,10 @@ same_guards ks look cs ws (n ∷ ns) h =
 
 module _ (d : Design) (q : Asking) (n : ℕ) (e : Element) (is : slice_get d.elements n ≡ Some e) where
   abbrev ks : List Kind
-  ks = kinds_of (blueprint d)
+  ks = kinds_of (design_data d)
 
   abbrev S : Scheme
-  S = design_scheme (blueprint d)
+  S = design_scheme (design_data d)
 
   abbrev arguments : List Bits
   arguments = filled e.arguments (if_asked (slice_get q.asked n) (slice_get q.args n))
@@ -97,5 +97,5 @@ module _ (d : Design) (q : Asking) (n : ℕ) (e : Element) (is : slice_get d.ele
       ∙ ap (λ (b : Bool). all_hold false (map (demand_at (words_under ks look e arguments)) e.conditions) && b)
       (sym (same_guards ks look e.calls (words_under ks look e arguments) (needs_from ks 0 e.calls) (never_under ks 0 e.calls)))
       ∙ ap (body_ready false ks e (needs_from ks 0 e.calls) look) (sym given_here)
-      ∙ sym ((lifted (blueprint d) needs are).whole n e (needs_from ks 0 e.calls) look q is
+      ∙ sym ((lifted (design_data d) needs are).whole n e (needs_from ks 0 e.calls) look q is
       (ap (λ (ns : List (List Need)). slice_get ns n) are ∙ mapped_at (λ (x : Element). needs_from ks 0 x.calls) d.elements n e is))

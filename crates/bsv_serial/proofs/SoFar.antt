@@ -1,6 +1,6 @@
 -- What is decided so far, part by part.
 use Rattle.std.proofs.Common.{◌≡◌}
-use Rattle.bsv_serial.specs.Deciding.{SoFar}
+use Rattle.bsv_serial.specs.Decider.{SoFar}
 
-pub same_so_far : (x y : SoFar) → x.made ≡ y.made → x.stoppers ≡ y.stoppers → x.fates ≡ y.fates → x ≡ y
-same_so_far x y made stoppers fates = λ i. record { made = made i; stoppers = stoppers i; fates = fates i }
+pub same_so_far : (x y : SoFar) → x.calls_made ≡ y.calls_made → x.stoppers ≡ y.stoppers → x.fates ≡ y.fates → x ≡ y
+same_so_far x y calls_made stoppers fates = λ i. record { calls_made = calls_made i; stoppers = stoppers i; fates = fates i }

@@ -6,7 +6,7 @@ use Rattle.std.proofs.lemmas.Option.{slice_get_within}
 use Rattle.std.proofs.lemmas.List.{length-set}
 use Rattle.bsv_lemmas.proofs.Places.{set_there, set_elsewhere}
 use Rattle.bsv_clock.specs.Clocks.{is_in}
-use Rattle.bsv_serial.specs.Deciding.{all_stopped, or_nobody, stopped_at}
+use Rattle.bsv_serial.specs.Decider.{all_stopped, flattened, stopped_at}
 use Rattle.bsv_serial.proofs.DecidedFront.{or_else}
 
 -- ---- lists
@@ -26,19 +26,19 @@ pub all_stopped_long : (ss : List (Option ℕ)) (ks : List ℕ) (by : ℕ) → l
 unfolding all_stopped
 all_stopped_long ss [] by = refl
 all_stopped_long ss (k ∷ ks) by =
-    all_stopped_long (stopped_at ss k by (or_nobody (slice_get ss k))) ks by ∙ stopped_long ss k by (or_nobody (slice_get ss k))
+    all_stopped_long (stopped_at ss k by (flattened (slice_get ss k))) ks by ∙ stopped_long ss k by (flattened (slice_get ss k))
 
 one_stopped : (ss : List (Option ℕ)) (k m by : ℕ) (o : Option ℕ) → slice_get ss m ≡ Some o → (b : Bool) → (k == m) ≡ b
-    → slice_get (stopped_at ss k by (or_nobody (slice_get ss k))) m ≡ Some (or_else o (cond b (Some by) None))
+    → slice_get (stopped_at ss k by (flattened (slice_get ss k))) m ≡ Some (or_else o (cond b (Some by) None))
 one_stopped ss k m by o at_m true e =
     let same = eqb-true k m e in
-    ap (λ (j : ℕ). slice_get (stopped_at ss j by (or_nobody (slice_get ss j))) m) same
-    ∙ ap (λ (x : Option (Option ℕ)). slice_get (stopped_at ss m by (or_nobody x)) m) at_m ∙ here o at_m
+    ap (λ (j : ℕ). slice_get (stopped_at ss j by (flattened (slice_get ss j))) m) same
+    ∙ ap (λ (x : Option (Option ℕ)). slice_get (stopped_at ss m by (flattened x)) m) at_m ∙ here o at_m
   where
     here : (o : Option ℕ) → slice_get ss m ≡ Some o → slice_get (stopped_at ss m by o) m ≡ Some (or_else o (Some by))
     here None e = set_there ss m (Some by) (slice_get_within ss m None e)
     here (Some x) e = e
-one_stopped ss k m by o at_m false e = elsewhere (or_nobody (slice_get ss k)) ∙ at_m ∙ ap (λ (x : Option ℕ). Some x) (whole o)
+one_stopped ss k m by o at_m false e = elsewhere (flattened (slice_get ss k)) ∙ at_m ∙ ap (λ (x : Option ℕ). Some x) (whole o)
   where
     elsewhere : (x : Option ℕ) → slice_get (stopped_at ss k by x) m ≡ slice_get ss m
     elsewhere None = set_elsewhere ss k m (Some by) (eqb-false k m e)
@@ -65,5 +65,5 @@ all_stopped_at ss [] m by o e = e ∙ ap (λ (x : Option ℕ). Some x) (whole o)
     whole None = refl
     whole (Some x) = refl
 all_stopped_at ss (k ∷ ks) m by o e =
-    all_stopped_at (stopped_at ss k by (or_nobody (slice_get ss k))) ks m by (or_else o (cond (k == m) (Some by) None)) (one_stopped ss k m by o e (k == m) refl)
+    all_stopped_at (stopped_at ss k by (flattened (slice_get ss k))) ks m by (or_else o (cond (k == m) (Some by) None)) (one_stopped ss k m by o e (k == m) refl)
     ∙ ap (λ (x : Option ℕ). Some x) (both o (Some by) (k == m) (is_in ks m))

@@ -6,15 +6,15 @@ use Rattle.std.specs.List.{AllByRecursion}
 use Rattle.std.proofs.lemmas.Bool.Decides.{nat_tests}
 use Rattle.bsv_prim.specs.Table.{Call}
 use Rattle.bsv_design.specs.declared.kind.Kind.{Kind}
-use Rattle.bsv_design.specs.Schemes.{Called}
-use Rattle.bsv_design.specs.Serial.{rank, put_by_rank, by_rank}
+use Rattle.bsv_design.specs.scheme.Schemes.{Called}
+use Rattle.bsv_design.specs.scheme.Serial.{rank, put_by_rank, by_rank}
 use Rattle.bsv_graph.specs.Orders.{In, IsOnce, place_of}
 use Rattle.bsv_guard.specs.ElementLaws.{call_of}
 use Rattle.bsv_guard.specs.Turns.{calls_on}
 use Rattle.bsv_clock.specs.Settling.{Doing, deed, deeds}
 use Rattle.bsv_clock.proofs.CallLists.{calls_on-append}
-use Rattle.bsv_serial.specs.declared.made.MadeCall.{MadeCall}
-use Rattle.bsv_serial.specs.Made.{is_behind, added, as_call, as_calls}
+use Rattle.bsv_serial.specs.declared.calls_made.MadeCall.{MadeCall}
+use Rattle.bsv_serial.specs.CallsMade.{is_later, added, as_call, as_calls}
 use Rattle.bsv_serial.specs.Making.{made_at}
 
 -- ---- tags
@@ -57,33 +57,33 @@ as_calls_tagged ks i D place (n ∷ ns) =
     ∙ ap₂ (λ (xs ys : List Call). xs ++ ys) (as_calls_on ks i place (deed (D n))) (as_calls_tagged ks i D (place + 1) ns)
     ∙ sym (calls_on-append i (deed (D n)) (deeds D ns))
 
--- ---- behind one another
+-- ---- after one another
 
--- each of them takes effect behind the call
-abbrev AllBehind : MadeCall → List MadeCall → Type 0
-AllBehind c ms = AllByRecursion (λ d. is_behind d c ≡ true) ms
+-- each of them takes effect after the call
+abbrev AllAfter : MadeCall → List MadeCall → Type 0
+AllAfter c ms = AllByRecursion (λ d. is_later d c ≡ true) ms
 
 -- none of them does
-abbrev NoneBehind : MadeCall → List MadeCall → Type 0
-NoneBehind c ms = AllByRecursion (λ d. is_behind d c ≡ false) ms
+abbrev NoneAfter : MadeCall → List MadeCall → Type 0
+NoneAfter c ms = AllByRecursion (λ d. is_later d c ≡ false) ms
 
-added_front : (c : MadeCall) (xs ys : List MadeCall) → NoneBehind c xs → added c (xs ++ ys) ≡ xs ++ added c ys
+added_front : (c : MadeCall) (xs ys : List MadeCall) → NoneAfter c xs → added c (xs ++ ys) ≡ xs ++ added c ys
 unfolding added
 added_front c [] ys h = refl
 added_front c (x ∷ xs) ys h =
     ap (λ (b : Bool). if b then c ∷ x ∷ (xs ++ ys) else x ∷ added c (xs ++ ys)) h.0
     ∙ ap (λ (zs : List MadeCall). x ∷ zs) (added_front c xs ys h.1)
 
-added_here : (c : MadeCall) (ys : List MadeCall) → AllBehind c ys → added c ys ≡ c ∷ ys
+added_here : (c : MadeCall) (ys : List MadeCall) → AllAfter c ys → added c ys ≡ c ∷ ys
 unfolding added
 added_here c [] h = refl
 added_here c (y ∷ ys) h = ap (λ (b : Bool). if b then c ∷ y ∷ ys else y ∷ added c ys) h.0
 
--- in front of calls that all take effect behind it
-added_within : (c : MadeCall) (xs ys : List MadeCall) → AllBehind c ys → added c (xs ++ ys) ≡ added c xs ++ ys
+-- in front of calls that all take effect after it
+added_within : (c : MadeCall) (xs ys : List MadeCall) → AllAfter c ys → added c (xs ++ ys) ≡ added c xs ++ ys
 unfolding added
 added_within c [] ys h = added_here c ys h
-added_within c (x ∷ xs) ys h = cases (is_behind x c) (added_within c xs ys h)
+added_within c (x ∷ xs) ys h = cases (is_later x c) (added_within c xs ys h)
   where
     cases : (b : Bool) → added c (xs ++ ys) ≡ added c xs ++ ys
         → (if b then c ∷ x ∷ (xs ++ ys) else x ∷ added c (xs ++ ys)) ≡ (if b then c ∷ x ∷ xs else x ∷ added c xs) ++ ys
@@ -98,18 +98,18 @@ AllBelow place ms = AllByRecursion (λ d. d.place < place) ms
 abbrev AllAbove : ℕ → List MadeCall → Type 0
 AllAbove place ms = AllByRecursion (λ d. place < d.place) ms
 
-below_not_behind : (c : MadeCall) (ms : List MadeCall) → AllBelow c.place ms → NoneBehind c ms
-below_not_behind c [] h = tt
-below_not_behind c (d ∷ ms) h = (one d h.0, below_not_behind c ms h.1)
+below_not_after : (c : MadeCall) (ms : List MadeCall) → AllBelow c.place ms → NoneAfter c ms
+below_not_after c [] h = tt
+below_not_after c (d ∷ ms) h = (one d h.0, below_not_after c ms h.1)
   where
-    one : (d : MadeCall) → d.place < c.place → is_behind d c ≡ false
+    one : (d : MadeCall) → d.place < c.place → is_later d c ≡ false
     one d l = grind (arith, nat_tests)
 
-above_behind : (c : MadeCall) (ms : List MadeCall) → AllAbove c.place ms → AllBehind c ms
-above_behind c [] h = tt
-above_behind c (d ∷ ms) h = (one d h.0, above_behind c ms h.1)
+above_after : (c : MadeCall) (ms : List MadeCall) → AllAbove c.place ms → AllAfter c ms
+above_after c [] h = tt
+above_after c (d ∷ ms) h = (one d h.0, above_after c ms h.1)
   where
-    one : (d : MadeCall) → c.place < d.place → is_behind d c ≡ true
+    one : (d : MadeCall) → c.place < d.place → is_later d c ≡ true
     one d l = grind (arith, nat_tests)
 
 placed_on : (ks : List Kind) (P : MadeCall → Type 0) (i place : ℕ) → ((c : Called) → P (made_at ks place c)) → (cs : List Called) → AllByRecursion P (tagged_on ks i place cs)
@@ -139,7 +139,7 @@ on_front ks i place xs h (c ∷ cs) ys = cases (c.target.part == i) (on_front ks
   where
     cases : (b : Bool) → ((zs : List MadeCall) → added_on ks i place cs (xs ++ zs) ≡ xs ++ added_on ks i place cs zs)
         → added_on ks i place cs (cond b (added (made_at ks place c) (xs ++ ys)) (xs ++ ys)) ≡ xs ++ added_on ks i place cs (cond b (added (made_at ks place c) ys) ys)
-    cases true on = ap (added_on ks i place cs) (added_front (made_at ks place c) xs ys (below_not_behind (made_at ks place c) xs h)) ∙ on (added (made_at ks place c) ys)
+    cases true on = ap (added_on ks i place cs) (added_front (made_at ks place c) xs ys (below_not_after (made_at ks place c) xs h)) ∙ on (added (made_at ks place c) ys)
     cases false on = on ys
 
 on_back : (ks : List Kind) (i place : ℕ) (ys : List MadeCall) → AllAbove place ys → (cs : List Called) (xs : List MadeCall) → added_on ks i place cs (xs ++ ys) ≡ added_on ks i place cs xs ++ ys
@@ -148,16 +148,16 @@ on_back ks i place ys h (c ∷ cs) xs = cases (c.target.part == i) (on_back ks i
   where
     cases : (b : Bool) → ((zs : List MadeCall) → added_on ks i place cs (zs ++ ys) ≡ added_on ks i place cs zs ++ ys)
         → added_on ks i place cs (cond b (added (made_at ks place c) (xs ++ ys)) (xs ++ ys)) ≡ added_on ks i place cs (cond b (added (made_at ks place c) xs) xs) ++ ys
-    cases true on = ap (added_on ks i place cs) (added_within (made_at ks place c) xs ys (above_behind (made_at ks place c) ys h)) ∙ on (added (made_at ks place c) xs)
+    cases true on = ap (added_on ks i place cs) (added_within (made_at ks place c) xs ys (above_after (made_at ks place c) ys h)) ∙ on (added (made_at ks place c) xs)
     cases false on = on xs
 
 -- ---- by rank
 
 module _ (ks : List Kind) where
   -- in front of the first call of a higher rank
-  abbrev put_behind : Called → List Called → List Called
-  put_behind c [] = c ∷ []
-  put_behind c (d ∷ ds) = if nat_lt (rank ks c) (rank ks d) then c ∷ d ∷ ds else d ∷ put_behind c ds
+  abbrev put_after : Called → List Called → List Called
+  put_after c [] = c ∷ []
+  put_after c (d ∷ ds) = if nat_lt (rank ks c) (rank ks d) then c ∷ d ∷ ds else d ∷ put_after c ds
 
   abbrev test_lt : Called → Called → Bool
   test_lt c d = nat_lt (rank ks c) (rank ks d)
@@ -168,8 +168,8 @@ module _ (ks : List Kind) where
   put_cons : (d x : Called) (xs : List Called) (b : Bool) → test_le d x ≡ b → put_by_rank ks d (x ∷ xs) ≡ (if b then d ∷ x ∷ xs else x ∷ put_by_rank ks d xs)
   put_cons d x xs b h = ap (λ (t : Bool). if t then d ∷ x ∷ xs else x ∷ put_by_rank ks d xs) h
 
-  behind_cons : (c x : Called) (xs : List Called) (b : Bool) → test_lt c x ≡ b → put_behind c (x ∷ xs) ≡ (if b then c ∷ x ∷ xs else x ∷ put_behind c xs)
-  behind_cons c x xs b h = ap (λ (t : Bool). if t then c ∷ x ∷ xs else x ∷ put_behind c xs) h
+  after_cons : (c x : Called) (xs : List Called) (b : Bool) → test_lt c x ≡ b → put_after c (x ∷ xs) ≡ (if b then c ∷ x ∷ xs else x ∷ put_after c xs)
+  after_cons c x xs b h = ap (λ (t : Bool). if t then c ∷ x ∷ xs else x ∷ put_after c xs) h
 
   le_from_lt : (c d : Called) (b : Bool) → test_lt c d ≡ b → test_le d c ≡ not b
   le_from_lt c d true h = grind (arith, nat_tests, h)
@@ -181,44 +181,44 @@ module _ (ks : List Kind) where
   not_lt : (c x d : Called) → test_lt c x ≡ false → test_le d x ≡ true → test_lt c d ≡ false
   not_lt c x d h k = grind (arith, nat_tests, h, k)
 
-  -- to put one in front of its equals and one behind its equals may come in either order
+  -- to put one in front of its equals and one after its equals may come in either order
   abbrev Swaps : Called → Called → List Called → Type 0
-  Swaps d c xs = put_by_rank ks d (put_behind c xs) ≡ put_behind c (put_by_rank ks d xs)
+  Swaps d c xs = put_by_rank ks d (put_after c xs) ≡ put_after c (put_by_rank ks d xs)
 
   swaps_none : (d c : Called) (b : Bool) → test_lt c d ≡ b → Swaps d c []
-  swaps_none d c true h = put_cons d c [] false (le_from_lt c d true h) ∙ sym (behind_cons c d [] true h)
-  swaps_none d c false h = put_cons d c [] true (le_from_lt c d false h) ∙ sym (behind_cons c d [] false h)
+  swaps_none d c true h = put_cons d c [] false (le_from_lt c d true h) ∙ sym (after_cons c d [] true h)
+  swaps_none d c false h = put_cons d c [] true (le_from_lt c d false h) ∙ sym (after_cons c d [] false h)
 
   swaps_first : (d c x : Called) (xs : List Called) → test_lt c x ≡ true → test_le d x ≡ true → (b : Bool) → test_lt c d ≡ b
-      → put_by_rank ks d (c ∷ x ∷ xs) ≡ put_behind c (d ∷ x ∷ xs)
+      → put_by_rank ks d (c ∷ x ∷ xs) ≡ put_after c (d ∷ x ∷ xs)
   swaps_first d c x xs h k true l =
-      put_cons d c (x ∷ xs) false (le_from_lt c d true l) ∙ ap (λ (ys : List Called). c ∷ ys) (put_cons d x xs true k) ∙ sym (behind_cons c d (x ∷ xs) true l)
+      put_cons d c (x ∷ xs) false (le_from_lt c d true l) ∙ ap (λ (ys : List Called). c ∷ ys) (put_cons d x xs true k) ∙ sym (after_cons c d (x ∷ xs) true l)
   swaps_first d c x xs h k false l =
-      put_cons d c (x ∷ xs) true (le_from_lt c d false l) ∙ sym (behind_cons c d (x ∷ xs) false l ∙ ap (λ (ys : List Called). d ∷ ys) (behind_cons c x xs true h))
+      put_cons d c (x ∷ xs) true (le_from_lt c d false l) ∙ sym (after_cons c d (x ∷ xs) false l ∙ ap (λ (ys : List Called). d ∷ ys) (after_cons c x xs true h))
 
   swaps_some : (d c x : Called) (xs : List Called) → Swaps d c xs → (a : Bool) → test_lt c x ≡ a → (b : Bool) → test_le d x ≡ b → Swaps d c (x ∷ xs)
   swaps_some d c x xs ih true h true k =
-      ap (put_by_rank ks d) (behind_cons c x xs true h) ∙ swaps_first d c x xs h k (test_lt c d) refl
-      ∙ sym (ap (λ (ys : List Called). put_behind c ys) (put_cons d x xs true k))
+      ap (put_by_rank ks d) (after_cons c x xs true h) ∙ swaps_first d c x xs h k (test_lt c d) refl
+      ∙ sym (ap (λ (ys : List Called). put_after c ys) (put_cons d x xs true k))
   swaps_some d c x xs ih true h false k =
-      ap (put_by_rank ks d) (behind_cons c x xs true h) ∙ put_cons d c (x ∷ xs) false (lt_from_lt_le c x d h k)
+      ap (put_by_rank ks d) (after_cons c x xs true h) ∙ put_cons d c (x ∷ xs) false (lt_from_lt_le c x d h k)
       ∙ ap (λ (ys : List Called). c ∷ ys) (put_cons d x xs false k)
-      ∙ sym (ap (λ (ys : List Called). put_behind c ys) (put_cons d x xs false k) ∙ behind_cons c x (put_by_rank ks d xs) true h)
+      ∙ sym (ap (λ (ys : List Called). put_after c ys) (put_cons d x xs false k) ∙ after_cons c x (put_by_rank ks d xs) true h)
   swaps_some d c x xs ih false h true k =
-      ap (put_by_rank ks d) (behind_cons c x xs false h) ∙ put_cons d x (put_behind c xs) true k
-      ∙ sym (ap (λ (ys : List Called). put_behind c ys) (put_cons d x xs true k) ∙ behind_cons c d (x ∷ xs) false (not_lt c x d h k)
-      ∙ ap (λ (ys : List Called). d ∷ ys) (behind_cons c x xs false h))
+      ap (put_by_rank ks d) (after_cons c x xs false h) ∙ put_cons d x (put_after c xs) true k
+      ∙ sym (ap (λ (ys : List Called). put_after c ys) (put_cons d x xs true k) ∙ after_cons c d (x ∷ xs) false (not_lt c x d h k)
+      ∙ ap (λ (ys : List Called). d ∷ ys) (after_cons c x xs false h))
   swaps_some d c x xs ih false h false k =
-      ap (put_by_rank ks d) (behind_cons c x xs false h) ∙ put_cons d x (put_behind c xs) false k
+      ap (put_by_rank ks d) (after_cons c x xs false h) ∙ put_cons d x (put_after c xs) false k
       ∙ ap (λ (ys : List Called). x ∷ ys) ih
-      ∙ sym (ap (λ (ys : List Called). put_behind c ys) (put_cons d x xs false k) ∙ behind_cons c x (put_by_rank ks d xs) false h)
+      ∙ sym (ap (λ (ys : List Called). put_after c ys) (put_cons d x xs false k) ∙ after_cons c x (put_by_rank ks d xs) false h)
 
   swaps : (d c : Called) (xs : List Called) → Swaps d c xs
   swaps d c [] = swaps_none d c (test_lt c d) refl
   swaps d c (x ∷ xs) = swaps_some d c x xs (swaps d c xs) (test_lt c x) refl (test_le d x) refl
 
-  -- the last call by rank stands behind its equals
-  last_by_rank : (cs : List Called) (c : Called) → by_rank ks (cs ++ c ∷ []) ≡ put_behind c (by_rank ks cs)
+  -- the last call by rank comes after its equals
+  last_by_rank : (cs : List Called) (c : Called) → by_rank ks (cs ++ c ∷ []) ≡ put_after c (by_rank ks cs)
   unfolding by_rank
   last_by_rank [] c = refl
   last_by_rank (d ∷ cs) c = ap (put_by_rank ks d) (last_by_rank cs c) ∙ swaps d c (by_rank ks cs)
@@ -269,15 +269,15 @@ module _ (ks : List Kind) where
     abbrev on : List Called → List MadeCall
     on cs = tagged_on ks i place cs
 
-    -- behind all those of a higher rank
-    on_higher : (c : Called) (xs : List Called) → AllByRecursion (λ d. rank ks c < rank ks d) xs → AllBehind (made_at ks place c) (on xs)
+    -- after all those of a higher rank
+    on_higher : (c : Called) (xs : List Called) → AllByRecursion (λ d. rank ks c < rank ks d) xs → AllAfter (made_at ks place c) (on xs)
     on_higher c [] h = tt
     on_higher c (d ∷ xs) h = cases (d.target.part == i) (on_higher c xs h.1)
       where
-        here : is_behind (made_at ks place d) (made_at ks place c) ≡ true
+        here : is_later (made_at ks place d) (made_at ks place c) ≡ true
         here = grind (arith, nat_tests, h.0)
 
-        cases : (b : Bool) → AllBehind (made_at ks place c) (on xs) → AllBehind (made_at ks place c) (cond b (made_at ks place d ∷ on xs) (on xs))
+        cases : (b : Bool) → AllAfter (made_at ks place c) (on xs) → AllAfter (made_at ks place c) (cond b (made_at ks place d ∷ on xs) (on xs))
         cases true e = (here, e)
         cases false e = e
 
@@ -285,8 +285,8 @@ module _ (ks : List Kind) where
     higher c d [] l h = tt
     higher c d (x ∷ xs) l h = (omega (arith, l, h.0), higher c d xs l h.1)
 
-    -- put behind its equals, a call of the part is added to those on it
-    put_on : (c : Called) → (c.target.part == i) ≡ true → (xs : List Called) → Rises xs → on (put_behind c xs) ≡ added (made_at ks place c) (on xs)
+    -- put after its equals, a call of the part is added to those on it
+    put_on : (c : Called) → (c.target.part == i) ≡ true → (xs : List Called) → Rises xs → on (put_after c xs) ≡ added (made_at ks place c) (on xs)
     unfolding added
     put_on c p [] r = ap (λ (b : Bool). cond b (made_at ks place c ∷ []) []) p
     put_on c p (d ∷ xs) r = cases (test_lt c d) refl (put_on c p xs r.1)
@@ -294,36 +294,36 @@ module _ (ks : List Kind) where
         lt : test_lt c d ≡ true → rank ks c < rank ks d
         lt e = grind (arith, nat_tests, e)
 
-        level : test_lt c d ≡ false → is_behind (made_at ks place d) (made_at ks place c) ≡ false
+        level : test_lt c d ≡ false → is_later (made_at ks place d) (made_at ks place c) ≡ false
         level e = grind (arith, nat_tests, e)
 
-        first : test_lt c d ≡ true → AllBehind (made_at ks place c) (on (d ∷ xs))
+        first : test_lt c d ≡ true → AllAfter (made_at ks place c) (on (d ∷ xs))
         first e = on_higher c (d ∷ xs) (lt e, higher c d xs (lt e) r.0)
 
-        kept : test_lt c d ≡ false → (b : Bool) → on (put_behind c xs) ≡ added (made_at ks place c) (on xs)
-            → cond b (made_at ks place d ∷ on (put_behind c xs)) (on (put_behind c xs)) ≡ added (made_at ks place c) (cond b (made_at ks place d ∷ on xs) (on xs))
+        kept : test_lt c d ≡ false → (b : Bool) → on (put_after c xs) ≡ added (made_at ks place c) (on xs)
+            → cond b (made_at ks place d ∷ on (put_after c xs)) (on (put_after c xs)) ≡ added (made_at ks place c) (cond b (made_at ks place d ∷ on xs) (on xs))
         kept e true ih =
             ap (λ (ys : List MadeCall). made_at ks place d ∷ ys) ih
             ∙ sym (ap (λ (b : Bool). if b then made_at ks place c ∷ made_at ks place d ∷ on xs else made_at ks place d ∷ added (made_at ks place c) (on xs)) (level e))
         kept e false ih = ih
 
-        cases : (b : Bool) → test_lt c d ≡ b → on (put_behind c xs) ≡ added (made_at ks place c) (on xs)
-            → on (if b then c ∷ d ∷ xs else d ∷ put_behind c xs) ≡ added (made_at ks place c) (on (d ∷ xs))
+        cases : (b : Bool) → test_lt c d ≡ b → on (put_after c xs) ≡ added (made_at ks place c) (on xs)
+            → on (if b then c ∷ d ∷ xs else d ∷ put_after c xs) ≡ added (made_at ks place c) (on (d ∷ xs))
         cases true e ih = ap (λ (b : Bool). cond b (made_at ks place c ∷ on (d ∷ xs)) (on (d ∷ xs))) p ∙ sym (added_here (made_at ks place c) (on (d ∷ xs)) (first e))
         cases false e ih = kept e (d.target.part == i) ih
 
-    put_off : (c : Called) → (c.target.part == i) ≡ false → (xs : List Called) → on (put_behind c xs) ≡ on xs
+    put_off : (c : Called) → (c.target.part == i) ≡ false → (xs : List Called) → on (put_after c xs) ≡ on xs
     put_off c p [] = ap (λ (b : Bool). cond b (made_at ks place c ∷ []) []) p
     put_off c p (d ∷ xs) = cases (test_lt c d) (put_off c p xs)
       where
-        cases : (b : Bool) → on (put_behind c xs) ≡ on xs → on (if b then c ∷ d ∷ xs else d ∷ put_behind c xs) ≡ on (d ∷ xs)
+        cases : (b : Bool) → on (put_after c xs) ≡ on xs → on (if b then c ∷ d ∷ xs else d ∷ put_after c xs) ≡ on (d ∷ xs)
         cases true ih = ap (λ (b : Bool). cond b (made_at ks place c ∷ on (d ∷ xs)) (on (d ∷ xs))) p
         cases false ih = ap (λ (ys : List MadeCall). cond (d.target.part == i) (made_at ks place d ∷ ys) ys) ih
 
     added_one : (before : List Called) (c : Called) → on (by_rank ks (before ++ c ∷ [])) ≡ cond (c.target.part == i) (added (made_at ks place c) (on (by_rank ks before))) (on (by_rank ks before))
     added_one before c = ap (λ (ys : List Called). on ys) (last_by_rank before c) ∙ cases (c.target.part == i) refl
       where
-        cases : (b : Bool) → (c.target.part == i) ≡ b → on (put_behind c (by_rank ks before)) ≡ cond b (added (made_at ks place c) (on (by_rank ks before))) (on (by_rank ks before))
+        cases : (b : Bool) → (c.target.part == i) ≡ b → on (put_after c (by_rank ks before)) ≡ cond b (added (made_at ks place c) (on (by_rank ks before))) (on (by_rank ks before))
         cases true e = put_on c e (by_rank ks before) (by_rank_rises before)
         cases false e = put_off c e (by_rank ks before)
 

@@ -1,4 +1,4 @@
--- An element that is run on its own: where no calls are made yet, it looks at the parts as they are, and what it makes of them
+-- An element that is run on its own: where no calls are calls_made yet, it looks at the parts as they are, and what it makes of them
 -- is its run.
 use Rattle.std.proofs.Common.{◌≡◌, ◌∙◌, ℕ, zero, suc, ◌<◌, Bool, true, false, List, [], Option, Some, None, refl, sym, ap, ap₂, subst, length, replicate}
 use Rattle.std.proofs.Math.Logic.{∥∥₁_elim}
@@ -15,15 +15,15 @@ use Rattle.bsv_design.specs.declared.design.NamedPart.{NamedPart}
 use Rattle.bsv_design.specs.declared.element.Element.{Element}
 use Rattle.bsv_design.specs.declared.kind.Kind.{Kind}
 use Rattle.bsv_design.specs.declared.schedule.Need.{Need}
-use Rattle.bsv_design.specs.Bodies.{Target, target}
-use Rattle.bsv_design.specs.Designs.{IsDesign}
-use Rattle.bsv_design.specs.Guards.{needs_from}
-use Rattle.bsv_design.specs.Kinds.{kind_table}
-use Rattle.bsv_design.specs.Schemes.{Scheme, Outline, Asking, Called, Look, calls, design_scheme, filled, given, if_asked, kinds_of, ports_of, ready, taken_actions, value}
-use Rattle.bsv_design.specs.Seen.{blueprint}
-use Rattle.bsv_design.specs.Serial.{by_rank, made, run_whole}
-use Rattle.bsv_design.specs.States.{AreWordsOf, FitsKinds, part_at, plain}
-use Rattle.bsv_design.specs.Traces.{acts, kind_at}
+use Rattle.bsv_design.specs.design.Bodies.{Target, target}
+use Rattle.bsv_design.specs.design.Designs.{IsDesign}
+use Rattle.bsv_design.specs.design.Guards.{needs_from}
+use Rattle.bsv_design.specs.tree.Kinds.{kind_table}
+use Rattle.bsv_design.specs.scheme.Schemes.{Scheme, Outline, Asking, Called, Look, calls, design_scheme, filled, given, if_asked, kinds_of, ports_of, ready, taken_actions, value}
+use Rattle.bsv_design.specs.tree.Seen.{design_data}
+use Rattle.bsv_design.specs.scheme.Serial.{by_rank, calls_made, run_whole}
+use Rattle.bsv_design.specs.scheme.States.{AreWordsOf, FitsKinds, part_at, plain}
+use Rattle.bsv_design.specs.scheme.Traces.{acts, kind_at}
 use Rattle.bsv_guard.specs.ElementLaws.{ActsAlike, IsUse}
 use Rattle.bsv_guard.specs.Fitting.{IsMethodOf, RequestFits}
 use Rattle.bsv_guard.specs.Turns.{IsTurn, TurnLaws, calls_on}
@@ -36,16 +36,16 @@ use Rattle.bsv_clock.specs.Grounds.{IsLawful}
 use Rattle.bsv_clock.proofs.Belonging.{lawful_design}
 use Rattle.bsv_clock.proofs.CallLists.{all_map}
 use Rattle.bsv_clock.proofs.Steadily.{looks_decide}
-use Rattle.bsv_serial.specs.declared.made.MadeCall.{MadeCall}
-use Rattle.bsv_serial.specs.Applying.{AllCanTake, CanTake, all_behind, behind}
+use Rattle.bsv_serial.specs.declared.calls_made.MadeCall.{MadeCall}
+use Rattle.bsv_serial.specs.Applying.{AllCanTake, CanTake, all_after, behind}
 use Rattle.bsv_serial.specs.AtHand.{kinds}
 use Rattle.bsv_serial.specs.Bodies.{CanBeComputed, holds, words_under}
-use Rattle.bsv_serial.specs.Made.{as_calls}
+use Rattle.bsv_serial.specs.CallsMade.{as_calls}
 use Rattle.bsv_serial.specs.Making.{with_sites}
-use Rattle.bsv_serial.specs.Settings.{Ground, CanRun, is_ready, sites_of, value_of, words_at}
-use Rattle.bsv_serial.specs.Sights.{CanBeApplied, CanLook, CanLookAt, MayLook, behind_seen, look_behind, or_none, part_behind}
+use Rattle.bsv_serial.specs.Settings.{Setting, CanRun, is_ready, sites_of, value_of, words_at}
+use Rattle.bsv_serial.specs.Sights.{CanBeApplied, CanLook, CanLookAt, MayLook, after_seen, look_with, or_none, part_after}
 use Rattle.bsv_serial.specs.Turning.{CanTurn}
-use Rattle.bsv_serial.proofs.AppliedClock.{behind_all, take_all}
+use Rattle.bsv_serial.proofs.AppliedClock.{after_all, take_all}
 use Rattle.bsv_serial.proofs.CanRunHere.{has_widths}
 use Rattle.bsv_serial.proofs.Joining.{length-sites, made_on, sites_on}
 use Rattle.bsv_serial.proofs.LookingSoFar.{orderly_applied}
@@ -68,12 +68,12 @@ module _ (d : Design) (guards : List (List Need)) (n : ℕ) (s : List Part) (q :
     (lists : List (List MadeCall)) (none : lists ≡ replicate (length d.parts) [])
     (e : Element) (is : slice_get d.elements n ≡ Some e) where
   abbrev ks : List Kind
-  ks = kinds_of (blueprint d)
+  ks = kinds_of (design_data d)
 
   abbrev S : Scheme
-  S = design_scheme (blueprint d)
+  S = design_scheme (design_data d)
 
-  abbrev pub ground : Ground
+  abbrev pub ground : Setting
   ground = record { kinds = ks; elements = d.elements; needs = guards; asking = q; state = s }
 
   lawful : IsLawful S
@@ -93,7 +93,7 @@ module _ (d : Design) (guards : List (List Need)) (n : ℕ) (s : List Part) (q :
   count = ap (λ (ms : List (List MadeCall)). length ms) none ∙ length-replicate (length d.parts) [] ∙ sym (length-map d.parts (λ (p : NamedPart). p.kind))
 
   request : RequestFits S q n
-  request = ∥∥₁_elim d.right (words_prop (ports_of (slice_get S.elements n)) (given S q n)) (λ (right : IsDesign (blueprint d)). request_fits (blueprint d) right q can.requests n)
+  request = ∥∥₁_elim d.right (words_prop (ports_of (slice_get S.elements n)) (given S q n)) (λ (right : IsDesign (design_data d)). request_fits (design_data d) right q can.requests n)
 
   -- ---- its looks
 
@@ -101,13 +101,13 @@ module _ (d : Design) (guards : List (List Need)) (n : ℕ) (s : List Part) (q :
   none_on i = ap (λ (ms : List (List MadeCall)). made_on ms i) none ∙ none_there (length d.parts) i
 
   abbrev here : Look
-  here = look_behind ks s lists
+  here = look_with ks s lists
 
   same_look : (t : Target) → here t ≡ plain s t
-  unfolding look_behind behind_seen
-  same_look t = ap (part_behind (kind_at ks t) t.method (part_at s t.part)) (none_on t.part) ∙ unmoved (kind_at ks t)
+  unfolding look_with after_seen
+  same_look t = ap (part_after (kind_at ks t) t.method (part_at s t.part)) (none_on t.part) ∙ unmoved (kind_at ks t)
     where
-      unmoved : (o : Option Kind) → part_behind o t.method (part_at s t.part) [] ≡ part_at s t.part
+      unmoved : (o : Option Kind) → part_after o t.method (part_at s t.part) [] ≡ part_at s t.part
       unmoved None = refl
       unmoved (Some k) = refl
 
@@ -190,9 +190,9 @@ module _ (d : Design) (guards : List (List Need)) (n : ℕ) (s : List Part) (q :
     is_turn : IsTurn false S q n s
     is_turn = record { rule = can.rules n; request = request; parts = parts; is_ready = is_open }
 
-    pub fits_behind : FitsKinds ks (run_whole S q n s)
+    pub fits_after : FitsKinds ks (run_whole S q n s)
     unfolding design_scheme
-    fits_behind = turns.still_fits false q n s is_turn
+    fits_after = turns.still_fits false q n s is_turn
 
   module _ (ws : List Bits) (words : ws ≡ words_at ground lists n) where
     pub value_now : value_of ws (slice_get d.elements n) ≡ value S q n (plain s)
@@ -211,7 +211,7 @@ module _ (d : Design) (guards : List (List Need)) (n : ℕ) (s : List Part) (q :
     next_long : length next ≡ length ks
     next_long = length-sites ks 0 0 (sites_of ks ws (slice_get d.elements n)) lists ∙ count
 
-    next_on : (i : ℕ) → i < length ks → as_calls (made_on next i) ≡ calls_on i (made S q n s)
+    next_on : (i : ℕ) → i < length ks → as_calls (made_on next i) ≡ calls_on i (calls_made S q n s)
     unfolding design_scheme
     next_on i l =
         ap (λ (ms : List MadeCall). as_calls ms)
@@ -221,21 +221,21 @@ module _ (d : Design) (guards : List (List Need)) (n : ℕ) (s : List Part) (q :
         ∙ as_calls_on ks i 0 (by_rank ks (calls S q n (plain s)))
 
     module _ (i : ℕ) (kind : Kind) (at_i : slice_get ks i ≡ Some kind) where
-      acting : AllByRecursion (λ c. (kind_table kind).is_action c.method ≡ true) (calls_on i (made S q n s))
+      acting : AllByRecursion (λ c. (kind_table kind).is_action c.method ≡ true) (calls_on i (calls_made S q n s))
       unfolding design_scheme
       acting =
-          all_on (λ c. (kind_table kind).is_action c.method ≡ true) i (made S q n s)
+          all_on (λ c. (kind_table kind).is_action c.method ≡ true) i (calls_made S q n s)
           (all_by_rank ks (λ c. c.target.part ≡ i → (kind_table kind).is_action c.target.method ≡ true) (calls S q n (plain s))
           (all_map (λ c. acts (kind_at ks c.target) c.target.method ≡ true) (λ c. c.target.part ≡ i → (kind_table kind).is_action c.target.method ≡ true)
           (λ c a p. sym (ap (λ (o : Option Kind). acts o c.target.method) (ap (slice_get ks) p ∙ at_i)) ∙ a) (calls S q n (plain s))
           (all_from (λ c. acts (kind_at ks c.target) c.target.method ≡ true) (calls S q n (plain s))
           (λ k c x. ((sound_keeps S lawful.sound).within q n (plain s) k c x).1))))
 
-      one_behind : behind kind (part_at s i) (made_on next i) ≡ part_at (run_whole S q n s) i
+      one_after : behind kind (part_at s i) (made_on next i) ≡ part_at (run_whole S q n s) i
       unfolding design_scheme run_whole
-      one_behind =
+      one_after =
           ap (prim.after_calls (kind_table kind) (part_at s i)) (next_on i (slice_get_within ks i kind at_i))
-          ∙ sym (turns.each_part s parts (made S q n s) i kind at_i)
+          ∙ sym (turns.each_part s parts (calls_made S q n s) i kind at_i)
 
     module _ (is_open : ready false S q n (plain s) ≡ true) where
       one_takes : (i : ℕ) (kind : Kind) → slice_get ks i ≡ Some kind → CanTake kind (part_at s i) (made_on next i)
@@ -243,14 +243,14 @@ module _ (d : Design) (guards : List (List Need)) (n : ℕ) (s : List Part) (q :
       one_takes i kind at_i = record {
         part = fits_at ks s can.parts i kind at_i;
         calls = subst (CanBeApplied (kind_table kind) (part_at s i)) (sym (next_on i (slice_get_within ks i kind at_i)))
-            (orderly_applied (kind_table kind) (part_at s i) (calls_on i (made S q n s)) (turns.in_turn false q n s (is_turn is_open) i kind at_i) (acting i kind at_i));
+            (orderly_applied (kind_table kind) (part_at s i) (calls_on i (calls_made S q n s)) (turns.in_turn false q n s (is_turn is_open) i kind at_i) (acting i kind at_i));
       }
 
       pub takes : AllCanTake ks s next
       takes = take_all ks s next long next_long one_takes
 
-      pub behind_is : all_behind ks s next ≡ run_whole S q n s
-      behind_is = behind_all ks s (run_whole S q n s) next long (length-parts ks (run_whole S q n s) (fits_behind is_open)) next_long one_behind
+      pub after_is : all_after ks s next ≡ run_whole S q n s
+      after_is = after_all ks s (run_whole S q n s) next long (length-parts ks (run_whole S q n s) (fits_after is_open)) next_long one_after
 
 -- ---- as the code has it: the element is found, and these are the parts
 
@@ -259,36 +259,36 @@ module _ (d : Design) (guards : List (List Need)) (n : ℕ) (s : List Part) (q :
   found : (e : Element) × (slice_get d.elements n ≡ Some e)
   found = item_there d.elements n can.element
 
-  abbrev on : List Part → Ground
-  on xs = record { kinds = kinds_of (blueprint d); elements = d.elements; needs = guards; asking = q; state = xs }
+  abbrev on : List Part → Setting
+  on xs = record { kinds = kinds_of (design_data d); elements = d.elements; needs = guards; asking = q; state = xs }
 
   pub can_run_on : CanRun (on ps) lists n
   can_run_on = subst (λ (xs : List Part). CanRun (on xs) lists n) (sym same) (can_run d guards n s q can lists none found.0 found.1)
 
-  pub ready_on : is_ready (on ps) lists n ≡ ready false (design_scheme (blueprint d)) q n (plain s)
+  pub ready_on : is_ready (on ps) lists n ≡ ready false (design_scheme (design_data d)) q n (plain s)
   ready_on = ap (λ (xs : List Part). is_ready (on xs) lists n) same ∙ ready_now d guards n s q can lists none found.0 found.1
 
-  pub fits_on : ready false (design_scheme (blueprint d)) q n (plain s) ≡ true → FitsKinds (kinds_of (blueprint d)) (run_whole (design_scheme (blueprint d)) q n s)
-  fits_on is_open = fits_behind d guards n s q can lists none found.0 found.1 is_open
+  pub fits_on : ready false (design_scheme (design_data d)) q n (plain s) ≡ true → FitsKinds (kinds_of (design_data d)) (run_whole (design_scheme (design_data d)) q n s)
+  fits_on is_open = fits_after d guards n s q can lists none found.0 found.1 is_open
 
   module _ (ws : List Bits) (words : ws ≡ words_at (on ps) lists n) where
     words_on : ws ≡ words_at (on s) lists n
     words_on = words ∙ ap (λ (xs : List Part). words_at (on xs) lists n) same
 
-    pub value_on : value_of ws (slice_get d.elements n) ≡ value (design_scheme (blueprint d)) q n (plain s)
+    pub value_on : value_of ws (slice_get d.elements n) ≡ value (design_scheme (design_data d)) q n (plain s)
     value_on = value_now d guards n s q can lists none found.0 found.1 ws words_on
 
-    module _ (is_open : ready false (design_scheme (blueprint d)) q n (plain s) ≡ true) (parts : List Part) (are : parts ≡ s)
-        (named : List NamedPart) (are_named : named ≡ d.parts) (made : List (List MadeCall))
-        (are_made : made ≡ with_sites (kinds_of (blueprint d)) 0 lists (sites_of (kinds_of (blueprint d)) ws (slice_get d.elements n))) where
-      pub takes_on : AllCanTake (kinds named) parts made
+    module _ (is_open : ready false (design_scheme (design_data d)) q n (plain s) ≡ true) (parts : List Part) (are : parts ≡ s)
+        (named : List NamedPart) (are_named : named ≡ d.parts) (calls_made : List (List MadeCall))
+        (are_made : calls_made ≡ with_sites (kinds_of (design_data d)) 0 lists (sites_of (kinds_of (design_data d)) ws (slice_get d.elements n))) where
+      pub takes_on : AllCanTake (kinds named) parts calls_made
       takes_on =
-          subst (λ (xs : List NamedPart). AllCanTake (kinds xs) parts made) (sym are_named)
-          (subst (λ (xs : List Part). AllCanTake (kinds d.parts) xs made) (sym are)
+          subst (λ (xs : List NamedPart). AllCanTake (kinds xs) parts calls_made) (sym are_named)
+          (subst (λ (xs : List Part). AllCanTake (kinds d.parts) xs calls_made) (sym are)
           (subst (AllCanTake (kinds d.parts) s) (sym are_made) (takes d guards n s q can lists none found.0 found.1 ws words_on is_open)))
 
-      pub behind_on : all_behind (kinds named) parts made ≡ run_whole (design_scheme (blueprint d)) q n s
-      behind_on =
-          ap (λ (xs : List NamedPart). all_behind (kinds xs) parts made) are_named
-          ∙ ap₂ (λ (xs : List Part) (ms : List (List MadeCall)). all_behind (kinds d.parts) xs ms) are are_made
-          ∙ behind_is d guards n s q can lists none found.0 found.1 ws words_on is_open
+      pub after_on : all_after (kinds named) parts calls_made ≡ run_whole (design_scheme (design_data d)) q n s
+      after_on =
+          ap (λ (xs : List NamedPart). all_after (kinds xs) parts calls_made) are_named
+          ∙ ap₂ (λ (xs : List Part) (ms : List (List MadeCall)). all_after (kinds d.parts) xs ms) are are_made
+          ∙ after_is d guards n s q can lists none found.0 found.1 ws words_on is_open

@@ -10,26 +10,26 @@ use Rattle.bsv_design.specs.declared.kind.Kind.{Kind}
 use Rattle.bsv_design.specs.declared.node.Node.{Node}
 use Rattle.bsv_design.specs.declared.schedule.Need.{Need}
 use Rattle.bsv_design.specs.declared.schedule.Schedule.{Schedule}
-use Rattle.bsv_design.specs.Bodies.{Answers}
-use Rattle.bsv_design.specs.Guards.{needs_from}
-use Rattle.bsv_design.specs.Schemes.{Asking, Look, filled, answers}
-use Rattle.bsv_design.specs.Seen.{asking}
-use Rattle.bsv_design.specs.Widths.{call_named}
+use Rattle.bsv_design.specs.design.Bodies.{Answers}
+use Rattle.bsv_design.specs.design.Guards.{needs_from}
+use Rattle.bsv_design.specs.scheme.Schemes.{Asking, Look, filled, answers}
+use Rattle.bsv_design.specs.tree.Seen.{asking}
+use Rattle.bsv_design.specs.design.Widths.{call_named}
 use Rattle.bsv_serial.specs.declared.body.Body.{Body}
-use Rattle.bsv_serial.specs.declared.deciding.Deciding.{Deciding}
+use Rattle.bsv_serial.specs.declared.decider.Decider.{Decider}
 use Rattle.bsv_serial.specs.declared.fates.Fates.{Fates}
 use Rattle.bsv_serial.specs.declared.looks.Looks.{Looks}
 use Rattle.bsv_serial.specs.declared.setting.Setting.{Setting}
 use Rattle.bsv_serial.specs.Bodies.{CanBeComputed, AreOpen, HasOperands, words_under}
-use Rattle.bsv_serial.specs.Deciding.{Course, SoFar}
-use Rattle.bsv_serial.specs.Settings.{Ground}
-use Rattle.bsv_serial.specs.Sights.{look_behind}
+use Rattle.bsv_serial.specs.Decider.{Course, SoFar}
+use Rattle.bsv_serial.specs.Settings.{Setting}
+use Rattle.bsv_serial.specs.Sights.{look_with}
 
 abbrev pub kinds : List NamedPart → List Kind
 kinds ps = map (λ p. p.kind) ps
 
 abbrev pub look : Looks → Look
-look l = look_behind (kinds l.parts.now) l.state.now l.made.now
+look l = look_with (kinds l.parts.now) l.state.now l.calls_made.now
 
 -- ---- an element
 
@@ -44,7 +44,7 @@ abbrev pub arguments : Body → List Bits
 arguments b = filled b.element.now.arguments b.given.now
 
 abbrev pub IsComputable : Body → Type 0
-IsComputable b = CanBeComputed (body_kinds b) b.looks.state.now b.looks.made.now b.element.now (arguments b)
+IsComputable b = CanBeComputed (body_kinds b) b.looks.state.now b.looks.calls_made.now b.element.now (arguments b)
 
 abbrev pub AllOpen : Body → Type 0
 AllOpen b = AreOpen (body_kinds b) (look b.looks) b.element.now.calls
@@ -61,7 +61,7 @@ AreNeedsOf b needs = needs ≡ needs_from (body_kinds b) 0 b.element.now.calls
 
 -- ---- all elements
 
-abbrev pub ground : Setting → Ground
+abbrev pub ground : Setting → Setting
 ground s = record {
   kinds = kinds s.design.now.parts;
   elements = s.design.now.elements;
@@ -78,9 +78,9 @@ AreNamed s n =
 -- ---- a clock
 
 abbrev pub so_far : Fates → SoFar
-so_far f = record { made = f.made.items; stoppers = f.stoppers.items; fates = f.fates.items }
+so_far f = record { calls_made = f.calls_made.items; stoppers = f.stoppers.items; fates = f.fates.items }
 
-abbrev pub course : Deciding → Course
+abbrev pub course : Decider → Course
 course d = record { ground = ground d.setting; stops = d.schedule.now.stops; places = d.places.now }
 
 -- what a clock is decided from: a design, the guards that its elements need, its schedule, what is asked, the parts at the

@@ -8,16 +8,16 @@ use Rattle.bsv_design.specs.declared.element.Port.{Port}
 use Rattle.bsv_design.specs.declared.kind.Kind.{Kind}
 use Rattle.bsv_design.specs.declared.node.Node.{Node}
 use Rattle.bsv_design.specs.declared.schedule.Need.{Need}
-use Rattle.bsv_design.specs.Bodies.{target, words}
-use Rattle.bsv_design.specs.Designs.{HasWidths}
-use Rattle.bsv_design.specs.Guards.{holds_at}
-use Rattle.bsv_design.specs.Schemes.{Look, answers, is_open, all_hold}
-use Rattle.bsv_design.specs.States.{FitLook, AreWordsOf}
-use Rattle.bsv_design.specs.Traces.{demand_at}
-use Rattle.bsv_design.specs.Widths.{node_width}
+use Rattle.bsv_design.specs.design.Bodies.{target, words}
+use Rattle.bsv_design.specs.design.Designs.{HasWidths}
+use Rattle.bsv_design.specs.design.Guards.{holds_at}
+use Rattle.bsv_design.specs.scheme.Schemes.{Look, answers, is_open, all_hold}
+use Rattle.bsv_design.specs.scheme.States.{FitLook, AreWordsOf}
+use Rattle.bsv_design.specs.scheme.Traces.{demand_at}
+use Rattle.bsv_design.specs.design.Widths.{node_width}
 use Rattle.bsv_guard.specs.Fitting.{HaveWidths}
-use Rattle.bsv_serial.specs.declared.made.MadeCall.{MadeCall}
-use Rattle.bsv_serial.specs.Sights.{CanLookAt, look_behind}
+use Rattle.bsv_serial.specs.declared.calls_made.MadeCall.{MadeCall}
+use Rattle.bsv_serial.specs.Sights.{CanLookAt, look_with}
 
 -- the guards hold that are needed
 unfoldable pub guards_hold : List Kind → Look → List Call → List Need → Bool
@@ -45,10 +45,10 @@ pub record HasOperands (ks : List Kind) (ports : List Port) (cs : List Call) (ws
   pub is : node_width ports ks cs widths x ≡ Some width
 
 -- the words have their widths, each method can look at its part, and at one that fits
-pub record CanBeComputed (ks : List Kind) (ps : List Part) (made : List (List MadeCall)) (e : Element) (arguments : List Bits) : Type 0 where
+pub record CanBeComputed (ks : List Kind) (ps : List Part) (calls_made : List (List MadeCall)) (e : Element) (arguments : List Bits) : Type 0 where
   pub widths : HasWidths ks e
   pub given : AreWordsOf e.arguments arguments
-  pub looks : (k : ℕ) (c : Call) → slice_get e.calls k ≡ Some c → CanLookAt ks ps made (target c)
+  pub looks : (k : ℕ) (c : Call) → slice_get e.calls k ≡ Some c → CanLookAt ks ps calls_made (target c)
   pub seen : Look
   pub fits : FitLook ks seen
-  pub same : (k : ℕ) (c : Call) → slice_get e.calls k ≡ Some c → look_behind ks ps made (target c) ≡ seen (target c)
+  pub same : (k : ℕ) (c : Call) → slice_get e.calls k ≡ Some c → look_with ks ps calls_made (target c) ≡ seen (target c)

@@ -1,11 +1,11 @@
-pub mod Made
+pub mod CallsMade
 pub mod Sights
 pub mod Bodies
 pub mod Making
 pub mod Settings
 pub mod Applying
-pub mod Deciding
+pub mod Decider
 pub mod AtHand
-pub mod Telling
+pub mod ToldEvents
 pub mod Placing
 pub mod Turning

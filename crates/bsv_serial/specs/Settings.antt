@@ -7,37 +7,37 @@ use Rattle.bsv_prim.specs.declared.part.Part.{Part}
 use Rattle.bsv_design.specs.declared.element.Element.{Element}
 use Rattle.bsv_design.specs.declared.kind.Kind.{Kind}
 use Rattle.bsv_design.specs.declared.schedule.Need.{Need}
-use Rattle.bsv_design.specs.Bodies.{at}
-use Rattle.bsv_design.specs.Guards.{needs_from}
-use Rattle.bsv_design.specs.Schemes.{Asking, filled, if_asked}
-use Rattle.bsv_design.specs.Traces.{Site, site_at}
-use Rattle.bsv_design.specs.Widths.{call_named}
-use Rattle.bsv_serial.specs.declared.made.MadeCall.{MadeCall}
+use Rattle.bsv_design.specs.design.Bodies.{at}
+use Rattle.bsv_design.specs.design.Guards.{needs_from}
+use Rattle.bsv_design.specs.scheme.Schemes.{Asking, filled, if_asked}
+use Rattle.bsv_design.specs.scheme.Traces.{Site, site_at}
+use Rattle.bsv_design.specs.design.Widths.{call_named}
+use Rattle.bsv_serial.specs.declared.calls_made.MadeCall.{MadeCall}
 use Rattle.bsv_serial.specs.Bodies.{CanBeComputed, holds, words_under}
-use Rattle.bsv_serial.specs.Sights.{look_behind, or_none}
+use Rattle.bsv_serial.specs.Sights.{look_with, or_none}
 
 -- what elements are computed from
-pub record Ground : Type 0 where
+pub record Setting : Type 0 where
   pub kinds : List Kind
   pub elements : List Element
   -- the guards that have to hold
   pub needs : List (List Need)
   pub asking : Asking
-  -- the parts that methods look at behind the calls that they see
+  -- the parts that methods look at after the calls that they see
   pub state : List Part
 
 -- the words that the element is asked with, and 0 where it is not asked
-abbrev pub given_to : Ground → Element → ℕ → List Bits
+abbrev pub given_to : Setting → Element → ℕ → List Bits
 given_to g e n = filled e.arguments (if_asked (slice_get g.asking.asked n) (slice_get g.asking.args n))
 
-module _ (g : Ground) (made : List (List MadeCall)) (n : ℕ) where
+module _ (g : Setting) (calls_made : List (List MadeCall)) (n : ℕ) where
   abbrev ready_of : Option Element → Bool
   ready_of None = false
-  ready_of (Some e) = holds g.kinds (look_behind g.kinds g.state made) e (or_none (slice_get g.needs n)) (given_to g e n)
+  ready_of (Some e) = holds g.kinds (look_with g.kinds g.state calls_made) e (or_none (slice_get g.needs n)) (given_to g e n)
 
   abbrev words_of : Option Element → List Bits
   words_of None = []
-  words_of (Some e) = words_under g.kinds (look_behind g.kinds g.state made) e (given_to g e n)
+  words_of (Some e) = words_under g.kinds (look_with g.kinds g.state calls_made) e (given_to g e n)
 
   -- every guard and every condition holds
   unfoldable pub is_ready : Bool
@@ -51,7 +51,7 @@ module _ (g : Ground) (made : List (List MadeCall)) (n : ℕ) where
   pub record CanRun : Type 0 where
     pub element : Element
     pub is : slice_get g.elements n ≡ Some element
-    pub body : CanBeComputed g.kinds g.state made element (given_to g element n)
+    pub body : CanBeComputed g.kinds g.state calls_made element (given_to g element n)
     pub needs : slice_get g.needs n ≡ Some (needs_from g.kinds 0 element.calls)
     pub named : IsTrue (list_all (call_named g.kinds) element.calls)
 

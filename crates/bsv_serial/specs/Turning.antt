@@ -4,11 +4,11 @@ use Rattle.bsv_bits.specs.Words.{Bits}
 use Rattle.bsv_prim.specs.declared.part.Part.{Part}
 use Rattle.bsv_design.specs.declared.design.Design.{Design}
 use Rattle.bsv_design.specs.declared.schedule.Need.{Need}
-use Rattle.bsv_design.specs.Guards.{needs_of}
-use Rattle.bsv_design.specs.Schemes.{Scheme, Asking, design_scheme, kinds_of, ready, value}
-use Rattle.bsv_design.specs.Seen.{blueprint}
-use Rattle.bsv_design.specs.Serial.{run_whole}
-use Rattle.bsv_design.specs.States.{AskingFits, FitsKinds, plain}
+use Rattle.bsv_design.specs.design.Guards.{needs_of}
+use Rattle.bsv_design.specs.scheme.Schemes.{Scheme, Asking, design_scheme, kinds_of, ready, value}
+use Rattle.bsv_design.specs.tree.Seen.{design_data}
+use Rattle.bsv_design.specs.scheme.Serial.{run_whole}
+use Rattle.bsv_design.specs.scheme.States.{AskingFits, FitsKinds, plain}
 use Rattle.bsv_clock.specs.Grounds.{KeepsRules}
 use Rattle.bsv_serial.specs.declared.outcome.Turn.{Turn}
 use Rattle.bsv_serial.specs.declared.outcome.Turn.TheVariants as turn
@@ -16,9 +16,9 @@ use Rattle.bsv_serial.specs.declared.outcome.Turn.TheVariants as turn
 -- the design has the element and keeps the rule of one element, the guards are those that its calls
 -- need, and the parts and the requests fit it
 pub record CanTurn (d : Design) (guards : List (List Need)) (n : ℕ) (s : List Part) (q : Asking) : Type 0 where
-  pub rules : KeepsRules (design_scheme (blueprint d))
-  pub needs : guards ≡ needs_of (kinds_of (blueprint d)) d.elements
-  pub parts : FitsKinds (kinds_of (blueprint d)) s
+  pub rules : KeepsRules (design_scheme (design_data d))
+  pub needs : guards ≡ needs_of (kinds_of (design_data d)) d.elements
+  pub parts : FitsKinds (kinds_of (design_data d)) s
   pub requests : AskingFits d.elements q
   pub element : n < length d.elements
 
@@ -28,7 +28,7 @@ module _ (S : Scheme) (q : Asking) (n : ℕ) (before after : List Part) where
     pub not_ready : ready false S q n (plain before) ≡ false
     pub kept : after ≡ before
 
-  -- it is ready, and the parts are those behind it; this is what it gives
+  -- it is ready, and the parts are those after it; this is what it gives
   pub record RunsWhole (word : Option Bits) : Type 0 where
     pub is_ready : ready false S q n (plain before) ≡ true
     pub behind : after ≡ run_whole S q n before

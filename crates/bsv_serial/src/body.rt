@@ -1,10 +1,10 @@
 ghost use Rattle.std.specs.Prelude.{◌≡◌, false, IfOk, OnOk, length, ◌<◌, map, option_map, slice_get};
 ghost use Rattle.std.specs.Bool.{OnTrue};
-ghost use Rattle.bsv_design.specs.Bodies.{at, answer, node_word};
-ghost use Rattle.bsv_design.specs.Guards.{holds_at};
-ghost use Rattle.bsv_design.specs.Running.{or_zero};
-ghost use Rattle.bsv_design.specs.Schemes.{all_hold};
-ghost use Rattle.bsv_design.specs.Traces.{demand_at};
+ghost use Rattle.bsv_design.specs.design.Bodies.{at, answer, node_word};
+ghost use Rattle.bsv_design.specs.design.Guards.{holds_at};
+ghost use Rattle.bsv_design.specs.carrying.Running.{or_zero};
+ghost use Rattle.bsv_design.specs.scheme.Schemes.{all_hold};
+ghost use Rattle.bsv_design.specs.scheme.Traces.{demand_at};
 ghost use Rattle.bsv_design.specs.declared.node.Node.TheVariants as node;
 ghost use Rattle.bsv_serial.specs.Bodies as spec;
 
@@ -51,7 +51,7 @@ impl Body<'_> {
         self.looks.result(call.part, call.method, args.as_slice())
     }
 
-    /// The word of a node behind nodes of these words.
+    /// The word of a node after nodes of these words.
     fn word(self, node: Node, words: &[Word]) -> Result<Word, OutOfMemory>
         requires body { hand.IsComputable self }
         requires are_open { hand.AllOpen self }
@@ -79,7 +79,7 @@ impl Body<'_> {
         }
     }
 
-    /// The words of all nodes, in the place of those that stood there.
+    /// The words of all nodes, in the place of those that was there.
     fn compute(self, words: &mut Vec<Word>) -> Result<(), OutOfMemory>
         requires body { hand.IsComputable self }
         requires are_open { hand.AllOpen self }

@@ -1,20 +1,20 @@
 ghost use Rattle.std.specs.Prelude.{◌≡◌, ℕ, false, length, IfOk, OnOk, OnErr};
 ghost use Rattle.bsv_clock.specs.Events.{Happens};
 ghost use Rattle.bsv_clock.specs.Grounds.{IsScheduleOf, KeepsRules};
-ghost use Rattle.bsv_design.specs.Guards.{needs_of};
-ghost use Rattle.bsv_design.specs.Schemes.{design_scheme, kinds_of};
-ghost use Rattle.bsv_design.specs.Seen.{asking, blueprint};
-ghost use Rattle.bsv_design.specs.States.{AskingFits, FitsKinds};
+ghost use Rattle.bsv_design.specs.design.Guards.{needs_of};
+ghost use Rattle.bsv_design.specs.scheme.Schemes.{design_scheme, kinds_of};
+ghost use Rattle.bsv_design.specs.tree.Seen.{asking, design_data};
+ghost use Rattle.bsv_design.specs.scheme.States.{AskingFits, FitsKinds};
 ghost use Rattle.bsv_serial.specs.AtHand.{clock_course, so_far};
-ghost use Rattle.bsv_serial.specs.Deciding as spec;
-ghost use Rattle.bsv_design.specs.Rooms.{HasRoom};
+ghost use Rattle.bsv_serial.specs.Decider as spec;
+ghost use Rattle.bsv_design.specs.scheme.Rooms.{HasRoom};
 
-use crate::deciding::Deciding;
+use crate::decider::Decider;
 use crate::fates::Fates;
 use crate::parts::{apply_all, emptied};
 use crate::placing::places_in;
 use crate::setting::Setting;
-use crate::telling::tell;
+use crate::told_events::tell;
 use bsv_bits::OutOfMemory;
 use bsv_design::{Design, Fired, Guards, Requests, Schedule, State};
 use bsv_prim::Part;
@@ -42,7 +42,7 @@ fn decide<'a>(
         (asking requests.now) state.now places.now))
         schedule.now.urgency) }
 {
-    let deciding = Deciding {
+    let decider = Decider {
         setting: Setting {
             alloc,
             design,
@@ -53,10 +53,10 @@ fn decide<'a>(
         schedule,
         places,
     };
-    deciding.decide_all()
+    decider.decide_all()
 }
 
-/// One clock of a design: many rules fire, and the state behind it is that of running them one at a time in the
+/// One clock of a design: many rules fire, and the state after it is that of running them one at a time in the
 /// printed order (Hoe and Arvind 2004). `fired` says what happened. It has room for every element, as has
 /// `Fired::new`, and a clock keeps it. Where memory does not suffice, nothing is changed.
 pub fn clock(
@@ -68,17 +68,17 @@ pub fn clock(
     requests: &Requests,
     fired: &mut Fired,
 ) -> Result<(), OutOfMemory>
-    requires rules { KeepsRules (design_scheme (blueprint design.now)) }
+    requires rules { KeepsRules (design_scheme (design_data design.now)) }
     requires needs { guards.now.needs
-        ≡ needs_of (kinds_of (blueprint design.now)) design.now.elements }
-    requires schedule { IsScheduleOf (design_scheme (blueprint design.now)) schedule.now }
-    requires parts { FitsKinds (kinds_of (blueprint design.now)) state.old.parts.items }
+        ≡ needs_of (kinds_of (design_data design.now)) design.now.elements }
+    requires schedule { IsScheduleOf (design_scheme (design_data design.now)) schedule.now }
+    requires parts { FitsKinds (kinds_of (design_data design.now)) state.old.parts.items }
     requires requests { AskingFits design.now.elements (asking requests.now) }
     requires room { HasRoom (length design.now.elements) fired.old }
-    ensures happens { OnOk result (Happens false (design_scheme (blueprint design.now))
+    ensures happens { OnOk result (Happens false (design_scheme (design_data design.now))
         schedule.now (asking requests.now) state.old.parts.items fired.new
         state.new.parts.items) }
-    ensures fits { FitsKinds (kinds_of (blueprint design.now)) state.new.parts.items }
+    ensures fits { FitsKinds (kinds_of (design_data design.now)) state.new.parts.items }
     ensures state_unchanged { OnErr result (state.new ≡ state.old) }
     ensures fired_unchanged { OnErr result (fired.new ≡ fired.old) }
     ensures room { HasRoom (length design.now.elements) fired.new }
@@ -87,7 +87,7 @@ pub fn clock(
     let mut behind = emptied(alloc, parts, state.parts.as_slice())?;
     let places = places_in(alloc, schedule.execution.as_slice(), design.elements.len())?;
     let decided = decide(alloc, design, guards, schedule, requests, &behind, &places)?;
-    apply_all(parts, &mut behind, decided.made.as_slice());
+    apply_all(parts, &mut behind, decided.calls_made.as_slice());
     tell(schedule, decided.fates.as_slice(), fired);
     state.parts = behind;
     Ok(())

@@ -1,7 +1,7 @@
 ghost use Rattle.std.specs.Prelude.{◌≡◌, ◌<◌, [], All, IfOk, length, replicate};
 ghost use Rattle.bsv_serial.specs.declared.fates.Fate.TheVariants as fate;
 
-use crate::made::{MadeCalls, none_made};
+use crate::calls_made::{MadeCalls, none_made};
 use bsv_bits::{OutOfMemory, Word};
 use std::alloc::Global;
 
@@ -22,7 +22,7 @@ pub enum Fate {
 #[derive(Drop)]
 pub struct Fates {
     /// The calls that are made on each part.
-    pub made: Vec<MadeCalls>,
+    pub calls_made: Vec<MadeCalls>,
     /// Of each element the first one that fires and stops it.
     pub stoppers: Vec<Option<u32>>,
     pub fates: Vec<Fate>,
@@ -31,14 +31,14 @@ pub struct Fates {
 impl Fates {
     /// Nothing is decided.
     pub fn new(alloc: Global, parts: usize, elements: usize) -> Result<Fates, OutOfMemory>
-        ensures made { IfOk result (λ found. found.made.items ≡ replicate parts []) }
+        ensures calls_made { IfOk result (λ found. found.calls_made.items ≡ replicate parts []) }
         ensures stoppers { IfOk result (λ found. found.stoppers.items ≡ replicate elements None) }
         ensures fates { IfOk result (λ found. found.fates.items ≡ replicate elements fate.Idle) }
     {
         // Where a local has the type of what a fate may hold, the checker finds its drop.
         let _none: Option<Word> = None;
         Ok(Fates {
-            made: none_made(alloc, parts)?,
+            calls_made: none_made(alloc, parts)?,
             stoppers: vec![in alloc; None; elements]?,
             fates: vec![in alloc; Fate::Idle; elements]?,
         })

@@ -1,11 +1,11 @@
 ghost use Rattle.std.specs.Prelude.{◌≡◌, IsTrue, OnOk, length, map, vec_len};
 ghost use Rattle.std.specs.List.{list_all};
-ghost use Rattle.bsv_design.specs.Traces.{site_at};
-ghost use Rattle.bsv_design.specs.Widths.{call_named};
+ghost use Rattle.bsv_design.specs.scheme.Traces.{site_at};
+ghost use Rattle.bsv_design.specs.design.Widths.{call_named};
 ghost use Rattle.bsv_serial.specs.AtHand.{kinds};
 ghost use Rattle.bsv_serial.specs.Making as spec;
 
-use crate::made::{MadeCall, MadeCalls};
+use crate::calls_made::{MadeCall, MadeCalls};
 use crate::words::{is_one, words_at};
 use bsv_bits::{OutOfMemory, Word};
 use bsv_design::{Call, NamedPart, word_at};
@@ -20,18 +20,18 @@ fn make_call(
     call: &Call,
     place: u32,
     words: &[Word],
-    made: &mut Vec<MadeCalls>,
+    calls_made: &mut Vec<MadeCalls>,
 ) -> Result<(), OutOfMemory>
     requires named { IsTrue (call_named (kinds parts.now) call.now) }
-    requires count { length made.old.items ≡ length parts.now }
-    ensures makes { OnOk result (made.new.items ≡ spec.with_site (kinds parts.now) place made.old.items
+    requires count { length calls_made.old.items ≡ length parts.now }
+    ensures makes { OnOk result (calls_made.new.items ≡ spec.with_site (kinds parts.now) place calls_made.old.items
         (site_at (kinds parts.now) words.now call.now)) }
-    ensures count { OnOk result (length made.new.items ≡ length made.old.items) }
+    ensures count { OnOk result (length calls_made.new.items ≡ length calls_made.old.items) }
 {
     let kind = &parts[call.part as usize].kind;
     if kind.is_action(call.method) && is_one(word_at(words, call.taken)) {
         let args = words_at(alloc, words, call.args.as_slice())?;
-        made[call.part as usize].add(MadeCall {
+        calls_made[call.part as usize].add(MadeCall {
             place,
             rank: kind.rank(call.method),
             method: call.method,
@@ -50,16 +50,16 @@ pub fn make_calls(
     calls: &[Call],
     place: u32,
     words: &[Word],
-    made: &mut Vec<MadeCalls>,
+    calls_made: &mut Vec<MadeCalls>,
 ) -> Result<(), OutOfMemory>
     requires named { IsTrue (list_all (call_named (kinds parts.now)) calls.now) }
-    requires count { length made.old.items ≡ length parts.now }
-    ensures { OnOk result (made.new.items ≡ spec.with_sites (kinds parts.now) place made.old.items
+    requires count { length calls_made.old.items ≡ length parts.now }
+    ensures { OnOk result (calls_made.new.items ≡ spec.with_sites (kinds parts.now) place calls_made.old.items
         (map (site_at (kinds parts.now) words.now) calls.now)) }
 {
     let mut rest = calls;
     while let Some((call, after)) = rest.split_first() {
-        make_call(alloc, parts, call, place, words, made)?;
+        make_call(alloc, parts, call, place, words, calls_made)?;
         rest = after;
     }
     Ok(())

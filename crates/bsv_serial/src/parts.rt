@@ -1,10 +1,10 @@
 ghost use Rattle.std.specs.Prelude.{◌≡◌, IfOk};
-ghost use Rattle.bsv_design.specs.Kinds.{kind_table};
-ghost use Rattle.bsv_design.specs.States as states;
+ghost use Rattle.bsv_design.specs.tree.Kinds.{kind_table};
+ghost use Rattle.bsv_design.specs.scheme.States as states;
 ghost use Rattle.bsv_serial.specs.Applying as spec;
 ghost use Rattle.bsv_serial.specs.AtHand.{kinds};
 
-use crate::made::{MadeCall, MadeCalls};
+use crate::calls_made::{MadeCall, MadeCalls};
 use bsv_bits::OutOfMemory;
 use bsv_design::{Kind, NamedPart};
 use bsv_prim::{Part, Primitive};
@@ -52,11 +52,11 @@ fn apply(kind: &Kind, part: &mut Part, calls: &[MadeCall])
 }
 
 /// The calls take effect that are made on each part.
-pub fn apply_all(parts: &[NamedPart], state: &mut [Part], made: &[MadeCalls])
-    requires { spec.AllCanTake (kinds parts.now) state.old made.now }
-    ensures { state.new ≡ spec.all_behind (kinds parts.now) state.old made.now }
+pub fn apply_all(parts: &[NamedPart], state: &mut [Part], calls_made: &[MadeCalls])
+    requires { spec.AllCanTake (kinds parts.now) state.old calls_made.now }
+    ensures { state.new ≡ spec.all_after (kinds parts.now) state.old calls_made.now }
 {
     for at in 0..state.len() {
-        apply(&parts[at].kind, &mut state[at], made[at].as_slice());
+        apply(&parts[at].kind, &mut state[at], calls_made[at].as_slice());
     }
 }

@@ -2,16 +2,16 @@ ghost use Rattle.std.specs.Prelude.{◌≡◌, ◌<◌, Some, IsTrue, IfOk, OnOk
 ghost use Rattle.std.specs.Bool.{OnTrue};
 ghost use Rattle.std.specs.List.{list_all};
 ghost use Rattle.bsv_clock.specs.Clocks as clocks;
-ghost use Rattle.bsv_design.specs.Schemes.{if_asked};
-ghost use Rattle.bsv_design.specs.Seen.{asking};
-ghost use Rattle.bsv_design.specs.Widths.{call_named};
+ghost use Rattle.bsv_design.specs.scheme.Schemes.{if_asked};
+ghost use Rattle.bsv_design.specs.tree.Seen.{asking};
+ghost use Rattle.bsv_design.specs.design.Widths.{call_named};
 ghost use Rattle.bsv_serial.specs.Making.{with_sites};
 ghost use Rattle.bsv_serial.specs.Settings as spec;
 ghost use Rattle.bsv_serial.specs.Sights.{or_none};
 
 use crate::body::{Body, value_of};
 use crate::looks::Looks;
-use crate::made::MadeCalls;
+use crate::calls_made::MadeCalls;
 use crate::making::make_calls;
 use bsv_bits::{OutOfMemory, Word};
 use bsv_design::{Design, Element, Guards, Need, Requests};
@@ -25,7 +25,7 @@ pub struct Setting<'a> {
     pub design: &'a Design,
     pub guards: &'a Guards,
     pub requests: &'a Requests,
-    /// The parts at which methods look, behind the calls that they see.
+    /// The parts at which methods look, after the calls that they see.
     pub state: &'a [Part],
 }
 
@@ -78,21 +78,21 @@ impl<'a> Setting<'a> {
     pub fn is_ready(
         self,
         number: u32,
-        made: &'a [MadeCalls],
+        calls_made: &'a [MadeCalls],
         words: &mut Vec<Word>,
     ) -> Result<bool, OutOfMemory>
-        requires { spec.CanRun (hand.ground self) made.now number }
+        requires { spec.CanRun (hand.ground self) calls_made.now number }
         ensures truth { IfOk result (λ truth. truth
-            ≡ spec.is_ready (hand.ground self.entry) made.now number) }
+            ≡ spec.is_ready (hand.ground self.entry) calls_made.now number) }
         ensures words { IfOk result (λ truth. OnTrue truth
-            (words.new.items ≡ spec.words_at (hand.ground self.entry) made.now number)) }
+            (words.new.items ≡ spec.words_at (hand.ground self.entry) calls_made.now number)) }
     {
         let body = Body {
             looks: Looks {
                 alloc: self.alloc,
                 parts: self.design.parts.as_slice(),
                 state: self.state,
-                made,
+                calls_made,
             },
             element: self.element(number),
             given: given(self.requests, number),
@@ -106,13 +106,13 @@ impl<'a> Setting<'a> {
         number: u32,
         place: u32,
         words: &[Word],
-        made: &mut Vec<MadeCalls>,
+        calls_made: &mut Vec<MadeCalls>,
     ) -> Result<(), OutOfMemory>
         requires element { number < length self.design.now.elements }
         requires named { hand.AreNamed self number }
-        requires count { length made.old.items ≡ length self.design.now.parts }
-        ensures { OnOk result (made.new.items
-            ≡ with_sites (hand.ground self.entry).kinds place made.old.items
+        requires count { length calls_made.old.items ≡ length self.design.now.parts }
+        ensures { OnOk result (calls_made.new.items
+            ≡ with_sites (hand.ground self.entry).kinds place calls_made.old.items
             (spec.sites_of (hand.ground self.entry).kinds words.now
             (slice_get self.entry.design.now.elements number))) }
     {
@@ -123,7 +123,7 @@ impl<'a> Setting<'a> {
             calls,
             place,
             words,
-            made,
+            calls_made,
         )
     }
 

@@ -1,10 +1,10 @@
 ghost use Rattle.std.specs.Prelude.{◌≡◌, IfOk, OnOk, OnErr};
-ghost use Rattle.bsv_design.specs.Schemes.{design_scheme, kinds_of};
-ghost use Rattle.bsv_design.specs.Seen.{asking, blueprint};
-ghost use Rattle.bsv_design.specs.States.{FitsKinds};
+ghost use Rattle.bsv_design.specs.scheme.Schemes.{design_scheme, kinds_of};
+ghost use Rattle.bsv_design.specs.tree.Seen.{asking, design_data};
+ghost use Rattle.bsv_design.specs.scheme.States.{FitsKinds};
 ghost use Rattle.bsv_serial.specs.Turning as spec;
 
-use crate::made::none_made;
+use crate::calls_made::none_made;
 use crate::outcome::Turn;
 use crate::parts::apply_all;
 use crate::setting::Setting;
@@ -25,15 +25,15 @@ pub fn turn(
     requires { spec.CanTurn design.now guards.now.needs element state.old.parts.items
         (asking requests.now) }
     ensures closed { IfOk result (λ turn. spec.IfClosed turn (spec.StaysClosed
-        (design_scheme (blueprint design.now)) (asking requests.now) element
+        (design_scheme (design_data design.now)) (asking requests.now) element
         state.old.parts.items state.new.parts.items)) }
     ensures ran { IfOk result (λ turn. spec.IfRan turn (spec.RunsWhole
-        (design_scheme (blueprint design.now)) (asking requests.now) element
+        (design_scheme (design_data design.now)) (asking requests.now) element
         state.old.parts.items state.new.parts.items)) }
-    ensures fits { OnOk result (FitsKinds (kinds_of (blueprint design.now)) state.new.parts.items) }
+    ensures fits { OnOk result (FitsKinds (kinds_of (design_data design.now)) state.new.parts.items) }
     ensures unchanged { OnErr result (state.new.parts.items ≡ state.old.parts.items) }
 {
-    let mut made = none_made(alloc, design.parts.len())?;
+    let mut calls_made = none_made(alloc, design.parts.len())?;
     let setting = Setting {
         alloc,
         design,
@@ -42,11 +42,11 @@ pub fn turn(
         state: state.parts.as_slice(),
     };
     let mut words = Vec::new(alloc);
-    if !setting.is_ready(element, made.as_slice(), &mut words)? {
+    if !setting.is_ready(element, calls_made.as_slice(), &mut words)? {
         return Ok(Turn::Closed);
     }
-    setting.make_calls(element, 0, words.as_slice(), &mut made)?;
+    setting.make_calls(element, 0, words.as_slice(), &mut calls_made)?;
     let value = setting.value(element, words.as_slice());
-    apply_all(design.parts.as_slice(), &mut state.parts, made.as_slice());
+    apply_all(design.parts.as_slice(), &mut state.parts, calls_made.as_slice());
     Ok(Turn::Ran(value))
 }

@@ -1,6 +1,6 @@
 ghost use Rattle.std.specs.Prelude.{◌≡◌, map, IfOk};
-ghost use Rattle.bsv_design.specs.Bodies.{at};
-ghost use Rattle.bsv_design.specs.Running as running;
+ghost use Rattle.bsv_design.specs.design.Bodies.{at};
+ghost use Rattle.bsv_design.specs.carrying.Running as running;
 
 use bsv_bits::{OutOfMemory, Word};
 use bsv_design::word_at;

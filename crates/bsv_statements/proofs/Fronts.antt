@@ -1,4 +1,4 @@
--- Lists that are made item by item, where a fault has its place: alone, and with the scopes behind them.
+-- Lists that are made item by item, where a fault has its place: alone, and with the scopes after them.
 use Rattle.std.proofs.Common.{◌≡◌, sym, List, [], ◌∷◌, ◌++◌, Ok, Err, refl, ap, append_assoc, append-nil}
 use Rattle.bsv_statements.specs.Bodies.{Or, Scopes, ◌>=>◌}
 
@@ -22,7 +22,7 @@ module _ {A : Type 0} where
   list_turn (Err s) rest front = refl
   list_turn (Ok x) rest front = sym (list_more front x rest)
 
-  -- the same with the scopes behind the last one
+  -- the same with the scopes after the last one
   abbrev with : Scopes → List A → Or (Scopes × List A)
   with ss xs = Ok (ss, xs)
 

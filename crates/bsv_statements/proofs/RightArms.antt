@@ -103,13 +103,13 @@ module _ (t : Task) (w : World) (fits : FitsWorld t.env w) where
   abbrev loop_of : WrittenHead → Expr → Scopes → Expr × ℕ × Expr → Scopes × Head
   loop_of h first inner turn = (inner, record { variable = h.variable.name; first = first; condition = turn.0; stepped = turn.1; step = turn.2 })
 
-  -- the rest of a head, behind its variable
-  abbrev behind_variable : Span → WrittenHead → Expr → Scopes → Or (Scopes × Head)
-  behind_variable s h first inner = turn_of t inner s h >=> λ turn. Ok (loop_of h first inner turn)
+  -- the rest of a head, after its variable
+  abbrev after_variable : Span → WrittenHead → Expr → Scopes → Or (Scopes × Head)
+  after_variable s h first inner = turn_of t inner s h >=> λ turn. Ok (loop_of h first inner turn)
 
-  behind_right : (s : Span) (h : WrittenHead) (first : Expr) (ss inner : Scopes) (l : Scopes × Head) → is_lower h.variable.name ≡ true → typing w first (frame_of ss) ≡ Some integer → Defined w.shapes (one integer) (opened ss) inner →
-      behind_variable s h first inner ≡ Ok l → Heads ss l
-  behind_right s h first ss inner l lower first_typed d e =
+  after_right : (s : Span) (h : WrittenHead) (first : Expr) (ss inner : Scopes) (l : Scopes × Head) → is_lower h.variable.name ≡ true → typing w first (frame_of ss) ≡ Some integer → Defined w.shapes (one integer) (opened ss) inner →
+      after_variable s h first inner ≡ Ok l → Heads ss l
+  after_right s h first ss inner l lower first_typed d e =
       let turn = went (turn_of t inner s h) _ l e in
       let test = went (of_kind t inner s h.condition bool) _ turn.0 turn.1 in
       let next = went (step_of t inner s h) _ turn.0 test.2 in
@@ -131,13 +131,13 @@ module _ (t : Task) (w : World) (fits : FitsWorld t.env w) where
 
   pub head_right : (s : Span) (h : WrittenHead) (ss : Scopes) (l : Scopes × Head) → ScopesFit w.shapes ss → in_head t s h ss ≡ Ok l → Heads ss l
   head_right s h ss l fit e =
-      let start = went (start_of t s h ss) (λ v. behind_variable s h v.1 v.0) l e in
+      let start = went (start_of t s h ss) (λ v. after_variable s h v.1 v.0) l e in
       let lower = passed s (is_lower h.variable.name) true _ start.0 start.1 in
       let first = went (of_kind t ss s h.first integer) (λ x. at s (with_variable h.variable.name (one integer) (opened ss)) >=> λ inner. Ok (inner, x)) start.0 lower.1 in
       let inner = there_is s (with_variable h.variable.name (one integer) (opened ss)) (λ inner. Ok (inner, first.0)) start.0 first.2 in
       let d = defined_right w.shapes h.variable.name (one integer) (opened ss) inner.0 (opened_fit w.shapes ss fit) refl inner.1 in
-      behind_right s h first.0 ss inner.0 l lower.0 (kind_right t w fits ss fit s h.first integer first.0 first.1) d
-      (ap (λ v. behind_variable s h v.1 v.0) (ok_is (inner.0, first.0) start.0 inner.2) ∙ start.2)
+      after_right s h first.0 ss inner.0 l lower.0 (kind_right t w fits ss fit s h.first integer first.0 first.1) d
+      (ap (λ v. after_variable s h v.1 v.0) (ok_is (inner.0, first.0) start.0 inner.2) ∙ start.2)
 
   pub for_good : (s : Span) (h : WrittenHead) (x : Run) → GoodRun t w x → GoodRun t w (for_case t s h x)
   for_good s h x good ss r fit e =

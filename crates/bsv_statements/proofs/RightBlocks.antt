@@ -90,7 +90,7 @@ module _ (t : Task) (w : World) where
   pub arm_is : (ms : List Expr) (y : Stmt) → arm_run (labelled ms y) ≡ record { labels = ms; arm = typed_run t w y }
   arm_is ms y = fold-roll-CaseArm rules.Run rules.Run rules.Arm (rules.stmt_step w (typed_task t)) (rules.branch_step w) rules.case_step (record { labels = ms; arm = y })
 
-  -- ---- one behind the other, and in a scope of its own
+  -- ---- one after the other, and in a scope of its own
 
   abbrev pub EachRun : List Run → Type 0
   EachRun [] = Unit {0}

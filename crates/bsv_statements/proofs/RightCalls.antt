@@ -24,7 +24,7 @@ use Rattle.bsv_types.specs.Expressions.{Slot, one, many, World, Frame, typing, p
 use Rattle.bsv_types.specs.Statements.{calls, assigns}
 use Rattle.bsv_types.specs.Programs.{interface_right, method_header_right, effect_right, shapes_right, begins_empty}
 use Rattle.bsv_types.proofs.Same.{same_self}
-use Rattle.bsv_context.specs.Env.{Made, variable_in, is_typed_value}
+use Rattle.bsv_context.specs.Env.{TypedExpr, variable_in, is_typed_value}
 use Rattle.bsv_typing.specs.Forms.{arguments}
 use Rattle.bsv_context.specs.Methods.{method_named}
 use Rattle.bsv_typing.specs.Places.{Instance, place_of}
@@ -49,7 +49,7 @@ pub went : {A B : Type 0} (r : Or A) (f : A → Or B) (y : B) → (r >=> f) ≡ 
 went (Ok x) f y e = (x, refl, e)
 went (Err s) f y e = absurd cc
 
--- behind what is there, and behind a test that is passed
+-- after what is there, and after a test that is passed
 pub there_is : {A B : Type 0} (s : Span) (o : Option A) (f : A → Or B) (y : B) → (at s o >=> f) ≡ Ok y → (x : A) × (o ≡ Some x) × (f x ≡ Ok y)
 there_is s None f y e = absurd cc
 there_is s (Some x) f y e = (x, refl, e)
@@ -122,7 +122,7 @@ assigns_true w base frame level x k own here right h = rw here (and_from (nat_le
 module _ (t : Task) (w : World) (fits : FitsWorld t.env w) (ss : Scopes) (fit : ScopesFit w.shapes ss) where
   -- ---- expressions
 
-  pub check_right : (e : Written) (want : Option Kind) (m : Made) → check t ss e want ≡ Some m → Typed w (frame_of ss) m × HasKind want m.kind
+  pub check_right : (e : Written) (want : Option Kind) (m : TypedExpr) → check t ss e want ≡ Some m → Typed w (frame_of ss) m × HasKind want m.kind
   check_right e want m is = expressions_good (with_scopes t.env ss) w (frame_of ss) (scopes_fit t.env w ss fits fit) e want m is
 
   pub kind_right : (s : Span) (e : Written) (k : Kind) (x : Expr) → of_kind t ss s e k ≡ Ok x → typing w x (frame_of ss) ≡ Some k

@@ -53,7 +53,7 @@ module _ (t : Task) (w : World) where
   typed_run = rules.stmt_run w (typed_task t)
 
   -- what a statement is typed as is in order in the frame of the scopes before it, and gives that of the scopes
-  -- behind it
+  -- after it
   pub record Ran (ss : Scopes) (r : Scopes × Stmt) : Type 0 where
     pub typed : typed_run r.1 (frame_of ss) ≡ Some (frame_of r.0)
     pub fit : ScopesFit w.shapes r.0
@@ -62,7 +62,7 @@ module _ (t : Task) (w : World) where
   abbrev pub GoodRun : Run → Type 0
   GoodRun x = (ss : Scopes) (r : Scopes × Stmt) → ScopesFit w.shapes ss → x ss ≡ Ok r → Ran ss r
 
-  -- a statement behind which the scopes are what they were
+  -- a statement after which the scopes are what they were
   pub ended : (ss back : Scopes) (x : Stmt) (r : Scopes × Stmt) → ScopesFit w.shapes ss → back ≡ ss → typed_run x (frame_of ss) ≡ Some (frame_of ss) → ◌≡◌ {A = Or (Scopes × Stmt)} (Ok (back, x)) (Ok r) → Ran ss r
   ended ss back x r fit is h e =
       let same = ap (λ b. (b, x)) (sym is) ∙ ok_is (back, x) r e in

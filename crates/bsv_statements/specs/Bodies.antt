@@ -1,5 +1,5 @@
 -- The typing of the statements of rules, methods and functions (Bluespec reference guide, "Statements"). A fault
--- stands at the statement that it is in.
+-- is at the statement that it is in.
 use Rattle.std.specs.Prelude.{ℕ, nat_le, Bool, true, false, ◌&&◌, List, [], ◌∷◌, map, Option, Some, None, Result, Ok, Err, codes, if◌then◌else◌}
 use Rattle.bsv_ast.specs.Names.{is_lower}
 use Rattle.bsv_ast.specs.declared.text.Span.{Span}
@@ -30,7 +30,7 @@ use Rattle.bsv_types.specs.Kinds.{Kind, bool, integer, part, same_kind}
 use Rattle.bsv_types.specs.Methods.{Effect, value, action, action_value}
 use Rattle.bsv_types.specs.Expressions.{Slot, one, many}
 use Rattle.bsv_types.specs.Kinds.{type_of}
-use Rattle.bsv_context.specs.Env.{Made, Env, variable_in, is_typed_value}
+use Rattle.bsv_context.specs.Env.{TypedExpr, Env, variable_in, is_typed_value}
 use Rattle.bsv_typing.specs.Operands.{Operand}
 use Rattle.bsv_typing.specs.Forms.{arguments, payload}
 use Rattle.bsv_context.specs.Methods.{method_named}
@@ -75,14 +75,14 @@ with_scopes env ss = record env { variable = variable_in ss }
 pub record Task : Type 0 where
   pub env : Env
   pub types : TypeNames
-  -- action calls and binds may stand in it
+  -- action calls and binds may be in it
   pub acts : Bool
   -- what its `return` gives, where it has one
   pub result : Option Kind
   -- the level of its first variable
   pub base : ℕ
 
-abbrev pub check : Task → Scopes → Written → Option Kind → Option Made
+abbrev pub check : Task → Scopes → Written → Option Kind → Option TypedExpr
 check t ss e want = typed (with_scopes t.env ss) e want
 
 -- an expression of this type
@@ -216,7 +216,7 @@ pub record Arm : Type 0 where
   pub condition : Condition
   pub run : Run
 
--- the conditions of an `if` stand where it stands, so they come before what is in its arms
+-- the conditions of an `if` are where it stands, so they come before what is in its arms
 abbrev pub openings : Task → Scopes → Span → List Arm → Or (List Opening)
 openings t ss s [] = Ok []
 openings t ss s (x ∷ xs) = opening t ss s x.condition >=> λ o. openings t ss s xs >=> λ os. Ok (o ∷ os)
@@ -274,7 +274,7 @@ abbrev pub all_labels : Task → Scopes → Span → Kind → List Written → O
 all_labels t ss s k [] = Ok []
 all_labels t ss s k (e ∷ es) = of_kind t ss s e k >=> λ m. all_labels t ss s k es >=> λ ms. Ok (m ∷ ms)
 
--- the labels of a `case` stand where it stands, so they come before what is in its arms
+-- the labels of a `case` are where it stands, so they come before what is in its arms
 abbrev pub labels_of : Task → Scopes → Span → Kind → List Labelled → Or (List (List Expr))
 labels_of t ss s k [] = Ok []
 labels_of t ss s k (x ∷ xs) = all_labels t ss s k x.labels >=> λ ms. labels_of t ss s k xs >=> λ rest. Ok (ms ∷ rest)

@@ -9,7 +9,7 @@ ghost use Rattle.bsv_statements.specs.SeenBodies.{GivesAt, placed, task_of, call
 use crate::fail::BodyFail;
 use bsv_ast::{Call, DeclaredType, Expr, Place, Span};
 use bsv_bits::Name;
-use bsv_context::{Context, Fail, Made, Slot, Variable, method_named, written_type};
+use bsv_context::{Context, Fail, TypedExpr, Slot, Variable, method_named, written_type};
 use bsv_scopes::Scopes;
 use bsv_types::{Boxed, Expr as Typed, Items, MethodResult, Ty};
 use bsv_typing::{Instance, arguments, place_number, typing};
@@ -20,7 +20,7 @@ use std::alloc::Global;
 pub struct Task<'a> {
     /// What they may name beside variables.
     pub context: &'a Context,
-    /// Whether action calls and binds may stand in it.
+    /// Whether action calls and binds may be in it.
     pub acts: bool,
     /// What its `return` gives, where it has one.
     pub result: Option<&'a Ty>,
@@ -81,7 +81,7 @@ pub fn checked(
     span: Span,
     expr: &Expr,
     want: Option<&Ty>,
-) -> Result<Made, BodyFail>
+) -> Result<TypedExpr, BodyFail>
     ensures { GivesAt made result (spec.at span
         (spec.check (task_of task.now) (shown scopes.now) expr.now (expected want.entry))) }
 {

@@ -16,7 +16,7 @@ use bsv_types::{
 };
 use std::alloc::Global;
 
-/// The typed statement; the scopes are those behind it.
+/// The typed statement; the scopes are those after it.
 #[cycle(statement)]
 pub fn statement(
     alloc: Global,
@@ -114,7 +114,7 @@ fn inside(
     Ok(typed)
 }
 
-/// The arm behind a last `else` or `default`.
+/// The arm after a last `else` or `default`.
 #[cycle(statement)]
 fn last_arm(
     alloc: Global,
@@ -135,7 +135,7 @@ fn last_arm(
     }
 }
 
-/// An arm behind its condition.
+/// An arm after its condition.
 #[cycle(statement)]
 #[tactic(auto, using(bsv_context::proofs::Layers::closes))]
 fn arm(
@@ -159,7 +159,7 @@ fn arm(
     Ok(TypedBranch { condition, arm })
 }
 
-/// The arms of an `if` behind their conditions.
+/// The arms of an `if` after their conditions.
 #[cycle(statement)]
 #[tactic(auto, using(crate::proofs::Fronts::runs))]
 fn arms(
@@ -229,9 +229,9 @@ fn repeat(
     Ok(Typed::For(head.into_inner(), body))
 }
 
-/// The arm of a `case` behind its labels.
+/// The arm of a `case` after its labels.
 #[cycle(statement)]
-fn behind_labels(
+fn after_labels(
     alloc: Global,
     task: &Task<'_>,
     scopes: &mut Scopes<Variable>,
@@ -243,7 +243,7 @@ fn behind_labels(
     inside(alloc, task, scopes, &case.arm)
 }
 
-/// The arms of a `case` behind their labels.
+/// The arms of a `case` after their labels.
 #[cycle(statement)]
 #[tactic(auto, using(crate::proofs::Fronts::runs))]
 fn cases(
@@ -264,7 +264,7 @@ fn cases(
         let Some((case, after)) = rest.split_first() else {
             return Ok(found);
         };
-        let arm = behind_labels(alloc, task, scopes, case)?;
+        let arm = after_labels(alloc, task, scopes, case)?;
         found.push(TypedCaseArm { labels, arm })?;
         rest = after;
     }

@@ -8,7 +8,7 @@ use bsv_ast::{Branch, CaseArm, Stmt};
 /// How a path through statements ends.
 #[derive(Clone, Copy, Debug, PartialEq, Eq)]
 pub(crate) enum Ending {
-    /// It goes on behind them.
+    /// It goes on after them.
     GoesOn,
     /// It has returned.
     Returned,
@@ -25,7 +25,7 @@ fn agree(first: Option<Ending>, second: Option<Ending>) -> Option<Ending>
     }
 }
 
-/// How each path through a statement ends; None where paths differ, or something stands behind a
+/// How each path through a statement ends; None where paths differ, or something comes after a
 /// `return`.
 #[cycle(ends)]
 fn ends(stmt: &Stmt) -> Option<Ending>
@@ -43,7 +43,7 @@ fn ends(stmt: &Stmt) -> Option<Ending>
     }
 }
 
-/// How statements end, one behind the other.
+/// How statements end, one after the other.
 #[cycle(ends)]
 fn sequence(stmts: &[Stmt]) -> Option<Ending>
     ensures { ends_of result ≡ ending.sequence (map spec.stmt_ends stmts.now) }

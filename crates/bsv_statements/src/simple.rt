@@ -17,7 +17,7 @@ use bsv_ast::{
     Branch, Call, CaseArm, Condition, Declaration, DeclaredType, Expr, Head, Place, Span,
 };
 use bsv_bits::Name;
-use bsv_context::{Made, Slot, Variable, is_lower};
+use bsv_context::{TypedExpr, Slot, Variable, is_lower};
 use bsv_scopes::Scopes;
 use bsv_types::{
     Boxed, Condition as TypedCondition, Expr as TypedExpr, Head as TypedHead, Items, MethodResult,
@@ -179,7 +179,7 @@ pub(crate) fn declaration(
         (spec.declare_case (task_of task.now) span given.now (shown scopes.old)) }
 {
     let want = declared_type(alloc, task, span, &given.declared)?;
-    let Made { ty, expr } = checked(alloc, task, scopes, span, &given.value, want.as_ref())?;
+    let TypedExpr { ty, expr } = checked(alloc, task, scopes, span, &given.value, want.as_ref())?;
     let value = Boxed::new(alloc, expr)?;
     let own = ty.copy(alloc)?;
     declare(alloc, span, scopes, &given.name.name, Slot::One(ty))?;

@@ -1,6 +1,6 @@
 ghost use Rattle.std.specs.Prelude.{◌≡◌, [], IfOk, map};
 ghost use Rattle.bsv_fail.specs.Given.{Gives};
-ghost use Rattle.bsv_design.specs.Arms as spec;
+ghost use Rattle.bsv_design.specs.carrying.Arms as spec;
 
 use crate::count::fresh;
 use crate::fault::Got;
@@ -32,7 +32,7 @@ fn assigned(arms: &[Pending], last: &[Local], at: usize) -> bool
     touched_at(last, at)
 }
 
-/// The variable behind the arms, where one of them assigned it.
+/// The variable after the arms, where one of them assigned it.
 fn joined_as(old: Local, slot: u32) -> Local
     ensures { result ≡ spec.joined_as old slot }
 {
@@ -102,9 +102,9 @@ fn closed(alloc: Global, arms: Items<Pending>, numbers: &[usize]) -> Result<Item
     Ok(found)
 }
 
-/// The variables behind the arms, the numbers of those that the arms give values, and the count behind
+/// The variables after the arms, the numbers of those that the arms give values, and the count after
 /// these.
-#[tactic(auto, unfolding(bsv_design::specs::Arms::joined_from))]
+#[tactic(auto, unfolding(bsv_design::specs::carrying::Arms::joined_from))]
 fn joined(
     alloc: Global,
     arms: &[Pending],
@@ -136,9 +136,9 @@ fn joined(
     Ok((found, numbers, count))
 }
 
-/// The choice of the arms, one or more, with the last one; behind it each variable that one of them
+/// The choice of the arms, one or more, with the last one; after it each variable that one of them
 /// assigned has a value of its own.
-#[tactic(auto, unfolding(bsv_design::specs::Arms::close))]
+#[tactic(auto, unfolding(bsv_design::specs::carrying::Arms::close))]
 pub fn close(
     alloc: Global,
     locals: &[Local],

@@ -1,8 +1,8 @@
 ghost use Rattle.std.specs.Prelude.{◌≡◌, [], IfOk, take};
 ghost use Rattle.bsv_fail.specs.Given.{Gives};
 ghost use Rattle.bsv_types.specs.Kinds.{kind};
-ghost use Rattle.bsv_design.specs.Calls as calls;
-ghost use Rattle.bsv_design.specs.Carrying as carrying;
+ghost use Rattle.bsv_design.specs.carrying.Calls as calls;
+ghost use Rattle.bsv_design.specs.carrying.Carrying as carrying;
 
 use crate::count::fresh;
 use crate::fault::Counted;
@@ -83,7 +83,7 @@ pub fn arguments(alloc: Global, integer: bool, values: &[Value]) -> Result<Local
 }
 
 /// The first values, which are those of parameters.
-#[tactic(auto, unfolding(bsv_design::specs::Carrying::parameters_from))]
+#[tactic(auto, unfolding(bsv_design::specs::carrying::Carrying::parameters_from))]
 pub fn parameters(alloc: Global, params: &[Param], count: Count) -> Counted<Items<Value>>
     ensures { Gives result (carrying.parameters_from [] params.now count) }
 {

@@ -1,7 +1,7 @@
 ghost use Rattle.std.specs.Prelude.{◌≡◌, [], ◌∷◌, ◌++◌, IfOk};
 ghost use Rattle.bsv_fail.specs.Given.{Gives};
-ghost use Rattle.bsv_design.specs.Carrying as carrying;
-ghost use Rattle.bsv_design.specs.Values as values;
+ghost use Rattle.bsv_design.specs.carrying.Carrying as carrying;
+ghost use Rattle.bsv_design.specs.carrying.Values as values;
 
 use crate::frame::Locals;
 use crate::value::{atom_of, truth};
@@ -11,9 +11,9 @@ use bsv_design::{Arm, Atom, Choice, Count, Pending, Step, Value, Work};
 use sqlite_items::Items;
 use std::alloc::{AllocError, Global};
 
-/// The count behind an arm, whose values are gone.
-pub fn behind_arm(asked: Count, arm: Count) -> Count
-    ensures { result ≡ carrying.behind_arm asked arm }
+/// The count after an arm, whose values are gone.
+pub fn after_arm(asked: Count, arm: Count) -> Count
+    ensures { result ≡ carrying.after_arm asked arm }
 {
     Count {
         weight: arm.weight,
@@ -70,7 +70,7 @@ fn one_word(alloc: Global, value: Value) -> Result<Items<Atom>, AllocError>
     Ok(atoms)
 }
 
-/// An arm of `?:`, one more behind those before it.
+/// An arm of `?:`, one more after those before it.
 pub fn with_value_arm(
     alloc: Global,
     arms: Items<Arm>,
@@ -104,7 +104,7 @@ pub fn value_choice(
     ensures { Gives result (carrying.value_choice work arms (last, behind)) }
 {
     let gives = one_word(alloc, last)?;
-    let count = behind_arm(work.count, behind.count);
+    let count = after_arm(work.count, behind.count);
     let choice = Choice {
         nested: true,
         arms,

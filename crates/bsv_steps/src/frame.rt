@@ -1,5 +1,5 @@
 ghost use Rattle.std.specs.Prelude.{◌≡◌, [], ◌∷◌, ◌++◌, IfOk, take};
-ghost use Rattle.bsv_design.specs.Frames as spec;
+ghost use Rattle.bsv_design.specs.carrying.Frames as spec;
 
 use bsv_bits::Word;
 use bsv_design::{Atom, Constant, Local, Value};
@@ -48,7 +48,7 @@ pub fn with_variable(locals: Locals, value: Value, integer: bool) -> Result<Loca
 }
 
 /// The variable with its next value.
-#[tactic(auto, unfolding(bsv_design::specs::Frames::assign))]
+#[tactic(auto, unfolding(bsv_design::specs::carrying::Frames::assign))]
 pub fn assign(locals: Locals, at: usize, value: Value) -> Locals
     ensures { result ≡ spec.assign locals at value }
 {

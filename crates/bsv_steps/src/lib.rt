@@ -1,7 +1,7 @@
 //! What stands while text is carried out: the weight, values, the steps that are left, and variables.
 //!
 //! Modules in reading order: `fault` (what calls answer), `count`, `value`, `work` (steps), `frame`
-//! (variables), `bodies` (what stands at the ends of a body), `branches` (the arms of a choice) and `arms` (where
+//! (variables), `bodies` (what is at the ends of a body), `branches` (the arms of a choice) and `arms` (where
 //! they join).
 #![tactic(auto)]
 
@@ -16,7 +16,7 @@ mod work;
 
 pub use arms::close;
 pub use bodies::{arguments, is_integer, loosened, needed, parameters, seen};
-pub use branches::{behind_arm, either, or_false, value_choice, with_pending, with_value_arm};
+pub use branches::{after_arm, either, or_false, value_choice, with_pending, with_value_arm};
 pub use count::{counted, tick};
 pub use fault::{Counted, Got};
 pub use frame::{Locals, assign, front, no_variables, untouched, variable, with_variable};

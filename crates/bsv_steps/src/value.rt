@@ -1,5 +1,5 @@
 ghost use Rattle.std.specs.Prelude.{◌≡◌, IfOk, map};
-ghost use Rattle.bsv_design.specs.Values as spec;
+ghost use Rattle.bsv_design.specs.carrying.Values as spec;
 
 use bsv_bits::Word;
 use bsv_design::{Atom, Constant, Static, Value};

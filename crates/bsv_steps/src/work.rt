@@ -1,6 +1,6 @@
 ghost use Rattle.std.specs.Prelude.{◌≡◌, IfOk};
 ghost use Rattle.bsv_fail.specs.Given.{Gives};
-ghost use Rattle.bsv_design.specs.Working as spec;
+ghost use Rattle.bsv_design.specs.carrying.Working as spec;
 ghost use Rattle.bsv_design.specs.declared.values.Constant.TheVariants as constant;
 ghost use Rattle.bsv_design.specs.declared.values.Value.TheVariants as value;
 
@@ -28,7 +28,7 @@ pub fn no_steps(alloc: Global, count: Count) -> Work
     }
 }
 
-/// The steps, with another count behind them.
+/// The steps, with another count after them.
 pub fn at_count(work: Work, count: Count) -> Work
     ensures { result ≡ spec.at_count work count }
 {
@@ -48,7 +48,7 @@ pub fn with_step(work: Work, step: Step, count: Count) -> Result<Work, AllocErro
 }
 
 /// A step that gives one value.
-#[tactic(auto, unfolding(bsv_design::specs::Working::give))]
+#[tactic(auto, unfolding(bsv_design::specs::carrying::Working::give))]
 pub fn give(work: Work, step: Step) -> Valued
     ensures { Gives result (spec.give work step) }
 {
@@ -65,7 +65,7 @@ fn settled(word: Word, work: Work) -> (Value, Work)
     (Value::Static(Constant::Bits(word)), work)
 }
 
-#[tactic(auto, unfolding(bsv_design::specs::Working::inverted))]
+#[tactic(auto, unfolding(bsv_design::specs::carrying::Working::inverted))]
 pub fn inverted(work: Work, value: Value) -> Valued
     ensures { Gives result (spec.inverted work value) }
 {
@@ -75,7 +75,7 @@ pub fn inverted(work: Work, value: Value) -> Valued
     }
 }
 
-#[tactic(auto, unfolding(bsv_design::specs::Working::between))]
+#[tactic(auto, unfolding(bsv_design::specs::carrying::Working::between))]
 pub fn between(work: Work, operator: Operator, one: Value, other: Value) -> Valued
     ensures { Gives result (spec.between work operator one other) }
 {
@@ -92,7 +92,7 @@ pub fn between(work: Work, operator: Operator, one: Value, other: Value) -> Valu
 }
 
 /// The second value where the test is 1, else the third one.
-#[tactic(auto, unfolding(bsv_design::specs::Working::picked))]
+#[tactic(auto, unfolding(bsv_design::specs::carrying::Working::picked))]
 pub fn pick(work: Work, test: Value, one: Value, other: Value) -> Valued
     ensures { Gives result (spec.picked work test one other) }
 {
@@ -113,7 +113,7 @@ pub fn pick(work: Work, test: Value, one: Value, other: Value) -> Valued
 }
 
 /// The bits of the first value above those of the second one.
-#[tactic(auto, unfolding(bsv_design::specs::Working::joined))]
+#[tactic(auto, unfolding(bsv_design::specs::carrying::Working::joined))]
 pub fn join(work: Work, high: Value, low: Value) -> Valued
     ensures { Gives result (spec.joined work high low) }
 {
@@ -127,7 +127,7 @@ pub fn join(work: Work, high: Value, low: Value) -> Valued
 }
 
 /// The bits from low to high.
-#[tactic(auto, unfolding(bsv_design::specs::Working::sliced))]
+#[tactic(auto, unfolding(bsv_design::specs::carrying::Working::sliced))]
 pub fn slice(work: Work, whole: &Value, high: u32, low: u32) -> Valued
     ensures { Gives result (spec.sliced work whole.now high low) }
 {
@@ -140,7 +140,7 @@ pub fn slice(work: Work, whole: &Value, high: u32, low: u32) -> Valued
     }
 }
 
-#[tactic(auto, unfolding(bsv_design::specs::Working::extended))]
+#[tactic(auto, unfolding(bsv_design::specs::carrying::Working::extended))]
 pub fn extend(work: Work, value: Value, width: u32) -> Valued
     ensures { Gives result (spec.extended work value width) }
 {
@@ -150,7 +150,7 @@ pub fn extend(work: Work, value: Value, width: u32) -> Valued
     }
 }
 
-#[tactic(auto, unfolding(bsv_design::specs::Working::sign_extended))]
+#[tactic(auto, unfolding(bsv_design::specs::carrying::Working::sign_extended))]
 pub fn sign_extend(work: Work, value: Value, width: u32) -> Valued
     ensures { Gives result (spec.sign_extended work value width) }
 {

@@ -11,12 +11,12 @@ use Rattle.bsv_design.specs.declared.kind.Kind.{Kind}
 use Rattle.bsv_design.specs.declared.node.Node.TheVariants.{Constant}
 use Rattle.bsv_design.specs.declared.tree.Assert.{Assert}
 use Rattle.bsv_design.specs.declared.tree.Pair.{Pair}
-use Rattle.bsv_design.specs.Bodies.{Answers, words, words_behind}
-use Rattle.bsv_design.specs.Branches.{AreExclusive, AreSameWhereTaken, apart}
-use Rattle.bsv_design.specs.Designs.{HasWidths, IsDesign, IsDotted, IsElement, IsNamed}
-use Rattle.bsv_design.specs.Kinds.{kind_table}
-use Rattle.bsv_design.specs.Traces.{body_trace, site_at}
-use Rattle.bsv_design.specs.Widths.{widths_from}
+use Rattle.bsv_design.specs.design.Bodies.{Answers, words, words_after}
+use Rattle.bsv_design.specs.design.Branches.{AreExclusive, AreSameWhereTaken, apart}
+use Rattle.bsv_design.specs.design.Designs.{HasWidths, IsDesign, IsDotted, IsElement, IsNamed}
+use Rattle.bsv_design.specs.tree.Kinds.{kind_table}
+use Rattle.bsv_design.specs.scheme.Traces.{body_trace, site_at}
+use Rattle.bsv_design.specs.design.Widths.{widths_from}
 
 abbrev pub reading : Element
 reading = record {
@@ -77,7 +77,7 @@ exclusive k r ws = λ i j x y first second differ a b.
     absurd cc
 
 decided : (k : Kind) (q r : Answers) (ws : List Bits) → AreSameWhereTaken (body_trace (k ∷ []) reading q ws) (body_trace (k ∷ []) reading r ws)
-unfolding body_trace words_behind
+unfolding body_trace words_after
 decided k q r ws = record {
   sites = (record { target = refl; action = refl; branches = refl; taken = refl; arguments = λ h. refl }, tt);
   demands = tt;

@@ -2,7 +2,7 @@
 //! (`outside`), the tables of the kinds against tables written a second time (`kinds`), elements and nets that are
 //! in no order (`widths`, `nets`), states beside their copies (`states`), and the laws (`laws`).
 //!
-//! They stand apart from what they test: a crate's own tests are proved with the whole crate once more.
+//! They are apart from what they test: a crate's own tests are proved with the whole crate once more.
 #![tactic(auto)]
 
 #[cfg(test)]

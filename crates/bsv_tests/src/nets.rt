@@ -1,18 +1,18 @@
 use bsv_bits::{Operator, Word};
-use bsv_net::{Circuit, Net, NetNode};
+use bsv_net::{NetData, Net, NetNode};
 use bsv_prim::RegisterInfo;
 use sqlite_items::Items;
 use std::alloc::Global;
 use std::test::Fail;
 
 /// One input of 4 bits, and one register of 4 bits, which takes over the word of a node.
-fn circuit(alloc: Global, nodes: &[NetNode], next: u32) -> Result<Circuit, Fail> {
+fn net_data(alloc: Global, nodes: &[NetNode], next: u32) -> Result<NetData, Fail> {
     let register = RegisterInfo {
         width: 4,
         start: Word::zero(4),
         resets: true,
     };
-    Ok(Circuit {
+    Ok(NetData {
         inputs: Items::from_slice(alloc, &[4])?,
         registers: Items::from_slice(alloc, &[register])?,
         nodes: Items::from_slice(alloc, nodes)?,
@@ -28,7 +28,7 @@ fn circuit(alloc: Global, nodes: &[NetNode], next: u32) -> Result<Circuit, Fail>
 fn a_node_that_uses_itself(rt: HostRuntime) -> Result<(), Fail> {
     let alloc = rt.alloc();
     let nodes = [NetNode::Register(0), NetNode::Two(Operator::Add, 0, 1)];
-    assert!(rt; Net::new(alloc, circuit(alloc, &nodes, 0)?)?.is_none());
+    assert!(rt; Net::new(alloc, net_data(alloc, &nodes, 0)?)?.is_none());
     Ok(())
 }
 
@@ -36,7 +36,7 @@ fn a_node_that_uses_itself(rt: HostRuntime) -> Result<(), Fail> {
 fn a_next_word_of_another_width(rt: HostRuntime) -> Result<(), Fail> {
     let alloc = rt.alloc();
     let nodes = [NetNode::Register(0), NetNode::Slice(0, 2, 0)];
-    assert!(rt; Net::new(alloc, circuit(alloc, &nodes, 0)?)?.is_some());
-    assert!(rt; Net::new(alloc, circuit(alloc, &nodes, 1)?)?.is_none());
+    assert!(rt; Net::new(alloc, net_data(alloc, &nodes, 0)?)?.is_some());
+    assert!(rt; Net::new(alloc, net_data(alloc, &nodes, 1)?)?.is_none());
     Ok(())
 }

@@ -222,7 +222,7 @@ fn sinks_of_writers(rt: HostRuntime) -> Result<(), Fail> {
 
 /// Whether a buffer puts the pieces whole, in so many calls of `put`.
 fn takes_puts(alloc: Global, pieces: &[&[u8]], puts: u64) -> Result<bool, OutOfMemory> {
-    // The call behind those is the one of this function, and fails.
+    // The call after those is the one of this function, and fails.
     let mut sink = MemSink::new(alloc, 10_000, Vec::from_slice(alloc, &[puts])?)?;
     let mut buffer = PutBuffer::new();
     let added = buffer.add_all(&mut sink, pieces).is_ok() && buffer.flush(&mut sink).is_ok();

@@ -1,7 +1,7 @@
 -- All words and contents have an answer, where what is accepted can be laid out and has a module.
 use Rattle.std.proofs.Common.{◌≡◌, ℕ, List, []}
 use Rattle.bsv_design.specs.declared.schedule.Schedule.{Schedule}
-use Rattle.bsv_design.specs.Trees.{Hierarchy}
+use Rattle.bsv_design.specs.tree.Trees.{TreeData}
 use Rattle.bsv_vtext.specs.VText.{vtext}
 use Rattle.bsv_flow.specs.Compilings.{IsPlanned}
 use Rattle.bsv_flow.specs.Refusals.{refusal_line}
@@ -18,7 +18,7 @@ use Rattle.bsv_top.proofs.Spelled.{Spells, asks, spells}
 
 module _ (words : List (List ℕ)) (contents : List ℕ → List ℕ) (lays : LayOut words contents) (has : HaveModules words contents) where
   -- of what is accepted
-  of_product : (p : Product) (file top : List ℕ) → words ≡ product_words p file top → (tree : Hierarchy) (made : Schedule) → IsPlanned file contents top tree made
+  of_product : (p : Product) (file top : List ℕ) → words ≡ product_words p file top → (tree : TreeData) (made : Schedule) → IsPlanned file contents top tree made
       → HasAnswer words contents
   of_product product.Schedule file top is tree made p =
       record { decided = status.Done; output = printed tree made; text = []; answer = a.Answer.scheduled tree made is p }
@@ -27,7 +27,7 @@ module _ (words : List (List ℕ)) (contents : List ℕ → List ℕ) (lays : La
       record { decided = status.Done; output = vtext one.0; text = []; answer = a.Answer.written tree made one.0 is p one.1 }
 
   -- of words that ask for a file and a module, where what is accepted has an answer
-  of_files : (file top : List ℕ) → Asks words file top → ((tree : Hierarchy) (made : Schedule) → IsPlanned file contents top tree made → HasAnswer words contents)
+  of_files : (file top : List ℕ) → Asks words file top → ((tree : TreeData) (made : Schedule) → IsPlanned file contents top tree made → HasAnswer words contents)
       → HasAnswer words contents
   of_files file top asked accepted = elim (decide file top contents) [
     | Decides.refused r h ↦ record { decided = status.Refused; output = []; text = refusal_line r; answer = a.Answer.refused r asked h }

@@ -2,9 +2,9 @@
 use Rattle.std.proofs.Common.{◌≡◌, ℕ, ◌+◌, false, List, [], ◌++◌, length, refl, sym, subst, arith}
 use Rattle.bsv_prim.specs.declared.part.Part.{Part}
 use Rattle.bsv_design.specs.declared.schedule.Schedule.{Schedule}
-use Rattle.bsv_design.specs.Schemes.{Scheme, Asking, tree_scheme}
-use Rattle.bsv_design.specs.States.{FitsKinds, opening}
-use Rattle.bsv_design.specs.Trees.{Hierarchy}
+use Rattle.bsv_design.specs.scheme.Schemes.{Scheme, Asking, tree_scheme}
+use Rattle.bsv_design.specs.scheme.States.{FitsKinds, opening}
+use Rattle.bsv_design.specs.tree.Trees.{TreeData}
 use Rattle.bsv_io.specs.Writing.{Writing}
 use Rattle.bsv_clock.specs.Grounds.{IsLawful, IsScheduleOf}
 use Rattle.bsv_clock.specs.Runs.{AllFit, Row, Continues, Runs}
@@ -16,17 +16,17 @@ use Rattle.bsv_top.specs.declared.status.Status.TheVariants as status
 use Rattle.bsv_top.specs.Answers as a
 use Rattle.bsv_top.specs.Answers.{Answer, HasAnswer, sim_words, trace_fault_line}
 use Rattle.bsv_top.specs.LaidOut.{IsLaidOut}
-use Rattle.bsv_top.specs.Outcomes.{OutputBegun, begun}
+use Rattle.bsv_top.specs.Outcomes.{OutputStarted, started}
 use Rattle.bsv_top.specs.Reports.{report}
-use Rattle.bsv_top.specs.Running.{IsBegun, state_behind}
+use Rattle.bsv_top.specs.Running.{IsStarted, state_after}
 use Rattle.bsv_top.specs.Traces.{AreAsked, AreAskedToBad, IsClean, lines_of}
 use Rattle.bsv_top.proofs.Asked.{Verdict, asked_append, bad_append, total, verdict}
 use Rattle.bsv_top.proofs.Grounds as grounds
 use Rattle.bsv_top.proofs.Happening.{Goes, rows_fit, some_run}
-use Rattle.bsv_top.proofs.Runs.{begun_further, continues_append}
+use Rattle.bsv_top.proofs.Runs.{started_further, continues_append}
 
 module _ (words : List (List ℕ)) (contents : List ℕ → List ℕ) (file top trace : List ℕ) (spelled : words ≡ sim_words file top trace)
-    (tree : Hierarchy) (made : Schedule) (planned : IsPlanned file contents top tree made) (laid : IsLaidOut tree) where
+    (tree : TreeData) (made : Schedule) (planned : IsPlanned file contents top tree made) (laid : IsLaidOut tree) where
   abbrev S : Scheme
   S = tree_scheme tree
 
@@ -65,10 +65,10 @@ module _ (words : List (List ℕ)) (contents : List ℕ → List ℕ) (file top 
     there : end ≡ 0 + total front
     there = omega arith
 
-    behind : (rs : List Asking) → AllFit S rs → Goes false S made (state_behind from rows) rs
-    behind rs all = goes (state_behind from rows) rs (rows_fit false S made lawful scheduled from qs rows (opening_fits S.kinds) (all_fit 0 front qs asked) runs) all
+    behind : (rs : List Asking) → AllFit S rs → Goes false S made (state_after from rows) rs
+    behind rs all = goes (state_after from rows) rs (rows_fit false S made lawful scheduled from qs rows (opening_fits S.kinds) (all_fit 0 front qs asked) runs) all
 
-    whole : (rs : List Asking) (more : List Row) → Continues false S made (state_behind from rows) rs more → Runs false S made (qs ++ rs) (rows ++ more)
+    whole : (rs : List Asking) (more : List Row) → Continues false S made (state_after from rows) rs more → Runs false S made (qs ++ rs) (rows ++ more)
     whole rs more h = continues_append false S made from qs rs rows more runs h
 
     ends_by : Verdict S.elements (grounds.methods_here tree made laid.design laid.alike planned.planned.scheduled) end rest → Ends rows
@@ -97,10 +97,10 @@ module _ (words : List (List ℕ)) (contents : List ℕ → List ℕ) (file top 
     ends = ends_by (verdict S.elements (grounds.methods_here tree made laid.design laid.alike planned.planned.scheduled) end rest)
 
   -- what was put of its report
-  pub begun_output : (start w : Writing) → IsBegun (subject tree) made start (contents trace) w → OutputBegun words contents start w
-  begun_output start w h =
+  pub started_output : (start w : Writing) → IsStarted (subject tree) made start (contents trace) w → OutputStarted words contents start w
+  started_output start w h =
       let all = ends h.front h.rest h.qs h.rows h.lines h.asked h.runs in
-      begun all.text all.answer (begun_further (subject tree) h.rows all.more start w h.prefix)
+      started all.text all.answer (started_further (subject tree) h.rows all.more start w h.prefix)
 
   -- there is an answer
   pub some_answer : HasAnswer words contents

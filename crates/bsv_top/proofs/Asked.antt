@@ -1,7 +1,7 @@
--- Lines that ask for requests, one behind the other.
+-- Lines that ask for requests, one after the other.
 use Rattle.std.proofs.Common.{◌≡◌, ◌⊎◌, inl, inr, ℕ, suc, ◌+◌, ◌≤◌, List, [], ◌∷◌, ◌++◌, length, refl, ap, ◌∙◌, subst, arith}
 use Rattle.std.proofs.lemmas.Bool.{cases_lt}
-use Rattle.bsv_design.specs.Schemes.{Asking, Outline}
+use Rattle.bsv_design.specs.scheme.Schemes.{Asking, Outline}
 use Rattle.bsv_trace.specs.Lines.{AreMethods}
 use Rattle.bsv_trace.proofs.Asked.{one_asking, asking_decided}
 use Rattle.bsv_top.specs.Reading.{IsOver}
@@ -16,19 +16,19 @@ pub total_append : (front rest : List (List ℕ)) → total (front ++ rest) ≡ 
 total_append [] rest = omega arith
 total_append (line ∷ front) rest = let further = total_append front rest in omega (arith, further)
 
--- so many lines behind others
-pub bytes_behind : (front rest : List (List ℕ)) (n : ℕ) → bytes_in (length front + n) (front ++ rest) ≡ total front + bytes_in n rest
-bytes_behind [] rest n = by (0 + n) (omega arith)
+-- so many lines after others
+pub bytes_after : (front rest : List (List ℕ)) (n : ℕ) → bytes_in (length front + n) (front ++ rest) ≡ total front + bytes_in n rest
+bytes_after [] rest n = by (0 + n) (omega arith)
   where
     by : (m : ℕ) → m ≡ n → bytes_in m rest ≡ 0 + bytes_in n rest
     by m e = ap (λ (k : ℕ). bytes_in k rest) e ∙ (omega arith)
-bytes_behind (line ∷ front) rest n =
-    let further = bytes_behind front rest n in
+bytes_after (line ∷ front) rest n =
+    let further = bytes_after front rest n in
     let grown : suc (length front) + n ≡ suc (length front + n) = omega arith in
     ap (λ (k : ℕ). bytes_in k (line ∷ (front ++ rest))) grown ∙ (omega (arith, further))
 
 module _ (os : List Outline) where
-  -- ---- one list behind another
+  -- ---- one list after another
 
   pub asked_append : (start end : ℕ) (front rest : List (List ℕ)) (qs rs : List Asking) → end ≡ start + total front → AreAsked os start front qs → AreAsked os end rest rs
       → AreAsked os start (front ++ rest) (qs ++ rs)
@@ -52,23 +52,23 @@ module _ (os : List Outline) where
   asked_long start (line ∷ lines) [] h = absurd h
   asked_long start (line ∷ lines) (q ∷ qs) h = ap suc (asked_long (start + length line) lines qs h.1)
 
-  -- a bad line stands behind those that ask for something
-  pub record BadBehind (end : ℕ) (front rest : List (List ℕ)) (rs : List Asking) : Type 0 where
+  -- a bad line comes after those that ask for something
+  pub record BadAfter (end : ℕ) (front rest : List (List ℕ)) (rs : List Asking) : Type 0 where
     pub more : List Asking
     pub bad : AreAskedToBad os end rest more
     pub long : length rs ≡ length front + length more
 
-  pub bad_behind : (start end : ℕ) (front rest : List (List ℕ)) (qs rs : List Asking) → end ≡ start + total front → AreAsked os start front qs → AreAskedToBad os start (front ++ rest) rs
-      → BadBehind end front rest rs
-  bad_behind start end [] rest qs rs is h bad = record {
+  pub bad_after : (start end : ℕ) (front rest : List (List ℕ)) (qs rs : List Asking) → end ≡ start + total front → AreAsked os start front qs → AreAskedToBad os start (front ++ rest) rs
+      → BadAfter end front rest rs
+  bad_after start end [] rest qs rs is h bad = record {
     more = rs;
     bad = subst (λ (n : ℕ). AreAskedToBad os n rest rs) (let same : start ≡ end = omega (arith, is) in same) bad;
     long = omega arith;
   }
-  bad_behind start end (line ∷ front) rest [] rs is h bad = absurd h
-  bad_behind start end (line ∷ front) rest (q ∷ qs) [] is h bad = absurd (bad q h.0)
-  bad_behind start end (line ∷ front) rest (q ∷ qs) (r ∷ rs) is h bad =
-      let further = bad_behind (start + length line) end front rest qs rs (omega (arith, is)) h.1 bad.1 in
+  bad_after start end (line ∷ front) rest [] rs is h bad = absurd h
+  bad_after start end (line ∷ front) rest (q ∷ qs) [] is h bad = absurd (bad q h.0)
+  bad_after start end (line ∷ front) rest (q ∷ qs) (r ∷ rs) is h bad =
+      let further = bad_after (start + length line) end front rest qs rs (omega (arith, is)) h.1 bad.1 in
       record { more = further.more; bad = further.bad; long = omega (arith, further.long) }
 
   -- ---- lines are decided, and ask for one thing
@@ -131,12 +131,12 @@ module _ (os : List Outline) where
   -- ---- lines that are too long
 
   -- no line is this long, or ends there
-  pub over_bad : (at : ℕ) (begun line : List ℕ) → IsOver at begun → length begun ≤ length line → IsBad os (at + length line) line
-  over_bad at begun line (inl long) within q asked =
+  pub over_bad : (at : ℕ) (started line : List ℕ) → IsOver at started → length started ≤ length line → IsBad os (at + length line) line
+  over_bad at started line (inl long) within q asked =
       let short = asked.asks.short in
       let no_value : ⊥ = omega (arith, long, within, short, text_long line) in
       no_value
-  over_bad at begun line (inr far) within q asked =
+  over_bad at started line (inr far) within q asked =
       let short = asked.within in
       let no_value : ⊥ = omega (arith, far, within, short) in
       no_value

@@ -1,7 +1,7 @@
 -- What the files decide.
 use Rattle.std.proofs.Common.{◌≡◌, inl, inr, ℕ, List, subst}
 use Rattle.bsv_design.specs.declared.schedule.Schedule.{Schedule}
-use Rattle.bsv_design.specs.Trees.{Hierarchy}
+use Rattle.bsv_design.specs.tree.Trees.{TreeData}
 use Rattle.bsv_flow.specs.declared.loading.Loaded.{Loaded}
 use Rattle.bsv_flow.specs.declared.refusal.Refusal.{Refusal}
 use Rattle.bsv_flow.specs.Buildings.{IsProgram, IsBuilt, Rejects}
@@ -15,7 +15,7 @@ module _ (file top : List ℕ) (contents : List ℕ → List ℕ) where
   pub data Decides : Type 0 where
     refused : (r : Refusal) → Rejects file contents top r → Decides
     no_program : (l : Loaded) → IsBuilt file contents top l → IsNoProgram l → Decides
-    planned : (tree : Hierarchy) (made : Schedule) → IsPlanned file contents top tree made → Decides
+    planned : (tree : TreeData) (made : Schedule) → IsPlanned file contents top tree made → Decides
 
   decide_built : (l : Loaded) → IsBuilt file contents top l → Decides
   decide_built l built = elim (plans file contents top l built) [
@@ -30,11 +30,11 @@ module _ (file top : List ℕ) (contents : List ℕ → List ℕ) where
   ]
 
   -- what is refused is not planned
-  pub not_refused : (r : Refusal) → Rejects file contents top r → (tree : Hierarchy) (made : Schedule) → IsPlanned file contents top tree made → ⊥
+  pub not_refused : (r : Refusal) → Rejects file contents top r → (tree : TreeData) (made : Schedule) → IsPlanned file contents top tree made → ⊥
   not_refused r refusal tree made p = trees.apart file contents top p.loaded r (planned_built file contents top tree made p) refusal
 
   -- nor what is typed as no program
-  pub not_other : (l : Loaded) → IsBuilt file contents top l → IsNoProgram l → (tree : Hierarchy) (made : Schedule) → IsPlanned file contents top tree made → ⊥
+  pub not_other : (l : Loaded) → IsBuilt file contents top l → IsNoProgram l → (tree : TreeData) (made : Schedule) → IsPlanned file contents top tree made → ⊥
   not_other l built none tree made p =
       let same : p.loaded ≡ l = trees.same file contents top p.loaded l (planned_built file contents top tree made p) built in
       none p.planned.program (subst (λ (x : Loaded). IsProgram x p.planned.program) same p.planned.typed)

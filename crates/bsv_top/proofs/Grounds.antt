@@ -6,16 +6,16 @@ use Rattle.std.proofs.Math.Logic.{∥∥₁_elim}
 use Rattle.std.proofs.lemmas.Bool.{ltb-true}
 use Rattle.bsv_design.specs.declared.design.Design.{Design}
 use Rattle.bsv_design.specs.declared.schedule.Schedule.{Schedule}
-use Rattle.bsv_design.specs.Designs.{IsDesign}
-use Rattle.bsv_design.specs.Schemes.{Scheme, Asking, Outline, AreAlike, design_scheme, outline, tree_scheme}
-use Rattle.bsv_design.specs.Seen.{blueprint}
-use Rattle.bsv_design.specs.States.{nothing_asked, opening}
-use Rattle.bsv_design.specs.Trees.{Hierarchy}
+use Rattle.bsv_design.specs.design.Designs.{IsDesign}
+use Rattle.bsv_design.specs.scheme.Schemes.{Scheme, Asking, Outline, AreAlike, design_scheme, outline, tree_scheme}
+use Rattle.bsv_design.specs.tree.Seen.{design_data}
+use Rattle.bsv_design.specs.scheme.States.{nothing_asked, opening}
+use Rattle.bsv_design.specs.tree.Trees.{TreeData}
 use Rattle.bsv_design.proofs.Asked.{nothing_fits}
-use Rattle.bsv_schedule.specs.executing.Orders.{Executes}
+use Rattle.bsv_schedule.specs.execution_order.Orders.{Executes}
 use Rattle.bsv_schedule.specs.relating.Relating.{Relating}
 use Rattle.bsv_schedule.specs.stopping.Stops.{AreStops}
-use Rattle.bsv_schedule.specs.urging.Orders.{Urges}
+use Rattle.bsv_schedule.specs.urgency_order.Orders.{Urges}
 use Rattle.bsv_guard.specs.Fitting.{RequestFits}
 use Rattle.bsv_guard.proofs.Alike.{alike, alike_back}
 use Rattle.bsv_trace.specs.Lines.{AreMethods, AsksFor}
@@ -34,17 +34,17 @@ use Rattle.bsv_schedule.proofs.RelationsLemmas.{agrees_design}
 few_elements : (d : Design) → length d.elements < room
 few_elements d =
     ∥∥₁_elim d.right le_prop
-    (λ (right : IsDesign (blueprint d)).
+    (λ (right : IsDesign (design_data d)).
     let few = ltb-true (length d.elements) (2 ^ 32) right.few_elements in
     let fewer : length d.elements < room = omega (arith, few) in
     fewer)
 
-module _ (tree : Hierarchy) (made : Schedule) (d : Design) (al : AreAlike (tree_scheme tree) (design_scheme (blueprint d))) (scheduled : IsScheduled (subject tree) made) where
+module _ (tree : TreeData) (made : Schedule) (d : Design) (al : AreAlike (tree_scheme tree) (design_scheme (design_data d))) (scheduled : IsScheduled (subject tree) made) where
   abbrev S : Scheme
   S = tree_scheme tree
 
   abbrev T : Scheme
-  T = design_scheme (blueprint d)
+  T = design_scheme (design_data d)
 
   back : AreAlike T S
   back = alike_back S T al

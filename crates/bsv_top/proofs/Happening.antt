@@ -9,11 +9,11 @@ use Rattle.bsv_bits.specs.Words.{Bits}
 use Rattle.bsv_prim.specs.declared.part.Part.{Part}
 use Rattle.bsv_design.specs.declared.fired.Fired.{Fired}
 use Rattle.bsv_design.specs.declared.schedule.Schedule.{Schedule}
-use Rattle.bsv_design.specs.Schemes.{Scheme, Asking, ready, value}
-use Rattle.bsv_design.specs.Serial.{run_whole}
-use Rattle.bsv_design.specs.States.{FitsKinds, emptied, plain}
+use Rattle.bsv_design.specs.scheme.Schemes.{Scheme, Asking, ready, value}
+use Rattle.bsv_design.specs.scheme.Serial.{run_whole}
+use Rattle.bsv_design.specs.scheme.States.{FitsKinds, emptied, plain}
 use Rattle.bsv_graph.specs.Edges.{numbers_below}
-use Rattle.bsv_graph.specs.Orders.{In, StandsBefore}
+use Rattle.bsv_graph.specs.Orders.{In, IsBefore}
 use Rattle.bsv_schedule.specs.stopping.Firing.{StopsIn}
 use Rattle.bsv_clock.specs.Clocks.{IsClock, is_asked, is_in, is_candidate}
 use Rattle.bsv_clock.specs.Events.{Happens, IsFirstStopper, blocked_in, gives, results_in_turn, stopped_in}
@@ -24,7 +24,7 @@ use Rattle.bsv_clock.specs.Settling.{end_of, fired_in, fires, stops_in, the_cloc
 use Rattle.bsv_clock.proofs.Clocks.{clock_fed, only_after, some_clock}
 use Rattle.bsv_clock.proofs.Members.{found, is_found, kept_in, once_long}
 use Rattle.bsv_clock.proofs.Steadily.{steady_scheme}
-use Rattle.bsv_top.specs.Running.{state_behind}
+use Rattle.bsv_top.specs.Running.{state_after}
 use Rattle.bsv_clock.proofs.Stopping.{execution_order, stops_true, stops_within, true_stops, urgency_order}
 use Rattle.bsv_graph.proofs.Below.{count_below}
 
@@ -34,10 +34,10 @@ record First (p : ℕ → Bool) (us : List ℕ) : Type 0 where
   member : ℕ
   there : In us member
   passes : p member ≡ true
-  first : (f : ℕ) → In us f → p f ≡ true → (f ≡ member) ⊎ StandsBefore us member f
+  first : (f : ℕ) → In us f → p f ≡ true → (f ≡ member) ⊎ IsBefore us member f
 
--- behind one that does not pass
-later : (p : ℕ → Bool) (u : ℕ) (us : List ℕ) (rest : First p us) → p u ≡ false → (g : ℕ) → In (u ∷ us) g → p g ≡ true → (g ≡ rest.member) ⊎ StandsBefore (u ∷ us) rest.member g
+-- after one that does not pass
+later : (p : ℕ → Bool) (u : ℕ) (us : List ℕ) (rest : First p us) → p u ≡ false → (g : ℕ) → In (u ∷ us) g → p g ≡ true → (g ≡ rest.member) ⊎ IsBefore (u ∷ us) rest.member g
 later p u us rest e g (inl same) y = absurd (let other : p u ≡ true = ap p (sym same) ∙ y in let no_value : ⊥ = cc in no_value)
 later p u us rest e g (inr k) y = elim (rest.first g k y) [ inl same ↦ inl same | inr b ↦ inr (inr b) ]
 
@@ -98,8 +98,8 @@ module _ (aggressive : Bool) (S : Scheme) (made : Schedule) (q : Asking) (s : Li
   clock : IsClock aggressive S made q s members behind
   clock = some_clock aggressive S made q s together (steady_scheme aggressive S together.lawful)
 
-  pub behind_fits : FitsKinds S.kinds behind
-  behind_fits = (clock_fed aggressive S made q s together (steady_scheme aggressive S together.lawful)).end_fits
+  pub after_fits : FitsKinds S.kinds behind
+  after_fits = (clock_fed aggressive S made q s together (steady_scheme aggressive S together.lawful)).end_fits
 
   -- ---- who is stopped by whom
 
@@ -204,7 +204,7 @@ pub some_run : (aggressive : Bool) (S : Scheme) (made : Schedule) → IsLawful S
 some_run aggressive S made lawful scheduled few s [] fits all = record { rows = []; continues = tt }
 some_run aggressive S made lawful scheduled few s (q ∷ qs) fits all =
     let together : BelongTogether S made q s = record { lawful = lawful; schedule = scheduled; fit = record { requests = all.0; parts = fits } } in
-    let more = some_run aggressive S made lawful scheduled few (behind aggressive S made q s together few) qs (behind_fits aggressive S made q s together few) all.1 in
+    let more = some_run aggressive S made lawful scheduled few (behind aggressive S made q s together few) qs (after_fits aggressive S made q s together few) all.1 in
     record {
       rows = record { fired = told aggressive S made q s together few; after = behind aggressive S made q s together few } ∷ more.rows;
       continues = (happens aggressive S made q s together few, more.continues);
@@ -212,7 +212,7 @@ some_run aggressive S made lawful scheduled few s (q ∷ qs) fits all =
 
 -- what fits stays so
 pub rows_fit : (aggressive : Bool) (S : Scheme) (made : Schedule) → IsLawful S → IsScheduleOf S made → (s : List Part) (qs : List Asking) (rows : List Row) → FitsKinds S.kinds s → AllFit S qs
-    → Continues aggressive S made s qs rows → FitsKinds S.kinds (state_behind s rows)
+    → Continues aggressive S made s qs rows → FitsKinds S.kinds (state_after s rows)
 rows_fit aggressive S made lawful scheduled s [] [] fits all h = fits
 rows_fit aggressive S made lawful scheduled s [] (row ∷ rows) fits all h = absurd h
 rows_fit aggressive S made lawful scheduled s (q ∷ qs) [] fits all h = absurd h

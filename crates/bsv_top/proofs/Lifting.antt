@@ -6,11 +6,11 @@ use Rattle.bsv_design.specs.declared.design.Design.{Design}
 use Rattle.bsv_design.specs.declared.design.NamedPart.{NamedPart}
 use Rattle.bsv_design.specs.declared.kind.Kind.{Kind}
 use Rattle.bsv_design.specs.declared.schedule.Schedule.{Schedule}
-use Rattle.bsv_design.specs.Schemes.{Scheme, Asking, Outline, AreAlike, design_scheme, tree_scheme}
-use Rattle.bsv_design.specs.Seen.{blueprint}
-use Rattle.bsv_design.specs.Sources.{parts_among}
-use Rattle.bsv_design.specs.States.{opening}
-use Rattle.bsv_design.specs.Trees.{Hierarchy}
+use Rattle.bsv_design.specs.scheme.Schemes.{Scheme, Asking, Outline, AreAlike, design_scheme, tree_scheme}
+use Rattle.bsv_design.specs.tree.Seen.{design_data}
+use Rattle.bsv_design.specs.tree.Sources.{parts_among}
+use Rattle.bsv_design.specs.scheme.States.{opening}
+use Rattle.bsv_design.specs.tree.Trees.{TreeData}
 use Rattle.bsv_io.specs.Writing.{Writing, appended, AppendsPrefix}
 use Rattle.bsv_trace.specs.Texts.{clock_text, opening_text}
 use Rattle.bsv_clock.specs.Runs.{Row, Continues, Runs}
@@ -19,7 +19,7 @@ use Rattle.bsv_guard.proofs.Alike.{alike_back}
 use Rattle.bsv_flow.specs.Breaches.{outline_name}
 use Rattle.bsv_flow.specs.Schedulings.{Subject, design_subject, subject}
 use Rattle.bsv_top.specs.Reports.{report, clocks_text}
-use Rattle.bsv_top.specs.Running.{IsBegun, IsDone, IsFaulty}
+use Rattle.bsv_top.specs.Running.{IsStarted, IsDone, IsFaulty}
 use Rattle.bsv_top.specs.Traces.{AreAsked, IsClean, HasBadLine}
 
 -- ---- reports
@@ -58,13 +58,13 @@ runs_to g S T made al qs rows h =
 
 -- ---- a design and its tree
 
-module _ (tree : Hierarchy) (d : Design) (made : Schedule) (al : AreAlike (tree_scheme tree) (design_scheme (blueprint d))) (parts : d.parts ≡ parts_among tree.instances)
+module _ (tree : TreeData) (d : Design) (made : Schedule) (al : AreAlike (tree_scheme tree) (design_scheme (design_data d))) (parts : d.parts ≡ parts_among tree.instances)
     (start : Writing) (trace : List ℕ) (w : Writing) where
   abbrev S : Scheme
   S = tree_scheme tree
 
   abbrev T : Scheme
-  T = design_scheme (blueprint d)
+  T = design_scheme (design_data d)
 
   report_here : (rows : List Row) → report (design_subject d) rows ≡ report (subject tree) rows
   report_here rows = report_same (design_subject d) (subject tree) parts (sym al.elements) (sym al.kinds) rows
@@ -91,8 +91,8 @@ module _ (tree : Hierarchy) (d : Design) (made : Schedule) (al : AreAlike (tree_
     put = h.put ∙ ap (λ (t : List ℕ). appended t start) (report_here h.rows);
   }
 
-  pub begun_here : IsBegun (design_subject d) made start trace w → IsBegun (subject tree) made start trace w
-  begun_here h = record {
+  pub started_here : IsStarted (design_subject d) made start trace w → IsStarted (subject tree) made start trace w
+  started_here h = record {
     front = h.front;
     rest = h.rest;
     qs = h.qs;

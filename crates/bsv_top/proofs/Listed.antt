@@ -45,18 +45,18 @@ last_line (b ∷ []) h some = no_feed_onto b [] h.0
 last_line (b ∷ c ∷ more) h some = no_feed_onto b (c ∷ more) h.0 ∙ ap (onto b) (last_line (c ∷ more) h.1 (omega arith))
 
 -- the first line of bytes has at least these bytes
-pub record BeginsLine (begun bytes : List ℕ) : Type 0 where
+pub record BeginsLine (started bytes : List ℕ) : Type 0 where
   pub line : List ℕ
   pub rest : List (List ℕ)
   pub lines : lines_of bytes ≡ line ∷ rest
-  pub long : length begun ≤ length line
+  pub long : length started ≤ length line
 
 onto_line : (b : ℕ) (lines : List (List ℕ)) → (line : List ℕ) × (rest : List (List ℕ)) × (onto b lines ≡ line ∷ rest) × (1 ≤ length line)
 onto_line b [] = (b ∷ [], [], refl, omega arith)
 onto_line b (line ∷ rest) = (b ∷ line, rest, refl, omega arith)
 
 -- what was begun is a part of the first line
-pub begins_line : (begun left : List ℕ) → HasNoFeed begun → 0 < length begun → BeginsLine begun (begun ++ left)
+pub begins_line : (started left : List ℕ) → HasNoFeed started → 0 < length started → BeginsLine started (started ++ left)
 begins_line [] left h some = absurd (omega (arith, some))
 begins_line (b ∷ []) left h some =
     let first = onto_line b (lines_of left) in
@@ -90,14 +90,14 @@ pub text_long : (line : List ℕ) → length line ≤ length (line_text line) + 
 text_long line = omega (arith, without_last_long 10 line, without_last_long 13 (without_last 10 line))
 
 -- without the last byte where that is the given one
-without_last_behind : (byte : ℕ) (front : List ℕ) (x : ℕ) → without_last byte (front ++ x ∷ []) ≡ cond (x == byte) front (front ++ x ∷ [])
-without_last_behind byte [] x = refl
-without_last_behind byte (a ∷ []) x = onto_cond (x == byte)
+without_last_after : (byte : ℕ) (front : List ℕ) (x : ℕ) → without_last byte (front ++ x ∷ []) ≡ cond (x == byte) front (front ++ x ∷ [])
+without_last_after byte [] x = refl
+without_last_after byte (a ∷ []) x = onto_cond (x == byte)
   where
     onto_cond : (t : Bool) → a ∷ cond t [] (x ∷ []) ≡ cond t (a ∷ []) (a ∷ x ∷ [])
     onto_cond true = refl
     onto_cond false = refl
-without_last_behind byte (a ∷ b ∷ front) x = ap (λ (t : List ℕ). a ∷ t) (without_last_behind byte (b ∷ front) x) ∙ onto_cond (x == byte)
+without_last_after byte (a ∷ b ∷ front) x = ap (λ (t : List ℕ). a ∷ t) (without_last_after byte (b ∷ front) x) ∙ onto_cond (x == byte)
   where
     onto_cond : (t : Bool) → a ∷ cond t (b ∷ front) ((b ∷ front) ++ x ∷ []) ≡ cond t (a ∷ b ∷ front) ((a ∷ b ∷ front) ++ x ∷ [])
     onto_cond true = refl
@@ -106,11 +106,11 @@ without_last_behind byte (a ∷ b ∷ front) x = ap (λ (t : List ℕ). a ∷ t)
 pub with_last : (byte : ℕ) (bytes front : List ℕ) (x : ℕ) → bytes ≡ front ++ x ∷ [] → x ≡ byte → front ≡ without_last byte bytes
 with_last byte bytes front x whole same =
     let test : (x == byte) ≡ true = grind (arith, nat_tests, same) in
-    sym (ap (without_last byte) whole ∙ without_last_behind byte front x ∙ ap (λ (t : Bool). cond t front (front ++ x ∷ [])) test)
+    sym (ap (without_last byte) whole ∙ without_last_after byte front x ∙ ap (λ (t : Bool). cond t front (front ++ x ∷ [])) test)
 
 pub with_other : (byte : ℕ) (bytes front : List ℕ) (x : ℕ) → bytes ≡ front ++ x ∷ [] → x ≢ byte → bytes ≡ without_last byte bytes
 with_other byte bytes front x whole other =
-    whole ∙ sym (ap (without_last byte) whole ∙ without_last_behind byte front x ∙ by (x == byte) refl)
+    whole ∙ sym (ap (without_last byte) whole ∙ without_last_after byte front x ∙ by (x == byte) refl)
   where
     by : (t : Bool) → (x == byte) ≡ t → cond t front (front ++ x ∷ []) ≡ front ++ x ∷ []
     by true e = absurd (other (grind (arith, nat_tests, e)))
@@ -129,12 +129,12 @@ record HasFeed (bytes : List ℕ) : Type 0 where
   whole : bytes ≡ front ++ 10 ∷ rest
   long : length front ≡ front_len bytes
 
-feed_behind : (b : ℕ) (bytes : List ℕ) (t : Bool) → (b == 10) ≡ t → (front_len bytes < length bytes → HasFeed bytes) → cond (not t) (1 + front_len bytes) 0 < suc (length bytes)
+feed_after : (b : ℕ) (bytes : List ℕ) (t : Bool) → (b == 10) ≡ t → (front_len bytes < length bytes → HasFeed bytes) → cond (not t) (1 + front_len bytes) 0 < suc (length bytes)
     → front_len (b ∷ bytes) ≡ cond (not t) (1 + front_len bytes) 0 → HasFeed (b ∷ bytes)
-feed_behind b bytes true e further within len =
+feed_after b bytes true e further within len =
     let same : b ≡ 10 = grind (arith, nat_tests, e) in
     record { front = []; rest = bytes; unended = tt; whole = ap (λ (x : ℕ). x ∷ bytes) same; long = sym len }
-feed_behind b bytes false e further within len =
+feed_after b bytes false e further within len =
     let more = further (omega (arith, within)) in
     record {
       front = b ∷ more.front;
@@ -146,7 +146,7 @@ feed_behind b bytes false e further within len =
 
 has_feed : (bytes : List ℕ) → front_len bytes < length bytes → HasFeed bytes
 has_feed [] within = absurd (omega (arith, within))
-has_feed (b ∷ bytes) within = feed_behind b bytes (b == 10) refl (has_feed bytes) within refl
+has_feed (b ∷ bytes) within = feed_after b bytes (b == 10) refl (has_feed bytes) within refl
 
 -- bytes whose front is all of them have no line feed
 all_unended : (b : ℕ) (bytes : List ℕ) (t : Bool) → (b == 10) ≡ t → (length bytes ≤ front_len bytes → HasNoFeed bytes) → suc (length bytes) ≤ cond (not t) (1 + front_len bytes) 0 → HasNoFeed (b ∷ bytes)
@@ -158,7 +158,7 @@ pub none_ended : (bytes : List ℕ) → length bytes ≤ front_len bytes → Has
 none_ended [] whole = tt
 none_ended (b ∷ bytes) whole = all_unended b bytes (b == 10) refl (none_ended bytes) whole
 
--- the first line is one byte longer than what stands before its line feed
+-- the first line is one byte longer than what comes before its line feed
 pub first_is : (bytes : List ℕ) (n : ℕ) → n ≡ front_len bytes → n < length bytes → IsFirstLine bytes (take (n + 1) bytes) (drop (n + 1) bytes)
 first_is bytes n is within =
     let feed = has_feed bytes (subst (λ (k : ℕ). k < length bytes) is within) in

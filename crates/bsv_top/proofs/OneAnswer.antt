@@ -7,9 +7,9 @@ use Rattle.bsv_bits.specs.Words.{Bits}
 use Rattle.bsv_prim.specs.declared.part.Part.{Part}
 use Rattle.bsv_design.specs.declared.fired.Fired.{Fired}
 use Rattle.bsv_design.specs.declared.schedule.Schedule.{Schedule}
-use Rattle.bsv_design.specs.Schemes.{Asking, tree_scheme}
-use Rattle.bsv_design.specs.States.{opening}
-use Rattle.bsv_design.specs.Trees.{Hierarchy}
+use Rattle.bsv_design.specs.scheme.Schemes.{Asking, tree_scheme}
+use Rattle.bsv_design.specs.scheme.States.{opening}
+use Rattle.bsv_design.specs.tree.Trees.{TreeData}
 use Rattle.bsv_trace.specs.Lines.{AreMethods}
 use Rattle.bsv_trace.specs.Texts.{blocked_line, clock_text, event_lines, list_line, number_line, opening_text, result_line, state_lines, stopped_line}
 use Rattle.bsv_clock.specs.Events.{TellAlike}
@@ -17,7 +17,7 @@ use Rattle.bsv_clock.specs.Runs.{AllFit, Row, Runs, TellRunsAlike}
 use Rattle.bsv_clock.proofs.Clocks.{clock_fed}
 use Rattle.bsv_clock.proofs.OneRun.{same_runs}
 use Rattle.bsv_clock.proofs.Steadily.{steady_scheme}
-use Rattle.bsv_vtext.specs.Signals.{Contents}
+use Rattle.bsv_vtext.specs.Signals.{VModuleData}
 use Rattle.bsv_vtext.specs.VText.{vtext}
 use Rattle.bsv_flow.specs.declared.loading.Loaded.{Loaded}
 use Rattle.bsv_flow.specs.declared.refusal.Refusal.{Refusal}
@@ -87,30 +87,30 @@ equal_text text said e = subst (λ (t : List ℕ). IsSameText text t) e IsSameTe
 -- ---- what an answer tells of a form
 
 module _ (words : List (List ℕ)) (contents : List ℕ → List ℕ) (file top : List ℕ) where
-  abbrev Accepted : Hierarchy → Schedule → Type 0
+  abbrev Accepted : TreeData → Schedule → Type 0
   Accepted tree made = IsPlanned file contents top tree made
 
-  abbrev Clean : Hierarchy → List ℕ → List Asking → Type 0
+  abbrev Clean : TreeData → List ℕ → List Asking → Type 0
   Clean tree trace qs = IsClean (tree_scheme tree).elements (contents trace) qs
 
-  abbrev Bad : Hierarchy → List ℕ → List Asking → Type 0
+  abbrev Bad : TreeData → List ℕ → List Asking → Type 0
   Bad tree trace qs = HasBadLine (tree_scheme tree).elements (contents trace) qs
 
   data Tells : Status → List ℕ → List ℕ → Type 0 where
     refused : (r : Refusal) → Rejects file contents top r → Tells status.Refused [] (refusal_line r)
     no_program : (l : Loaded) → IsBuilt file contents top l → IsNoProgram l → Tells status.OutOfMemory [] no_memory_line
-    scheduled : (tree : Hierarchy) (made : Schedule) → words ≡ schedule_words file top → Accepted tree made → Tells status.Done (printed tree made) []
-    written : (tree : Hierarchy) (made : Schedule) (v : Contents) → words ≡ verilog_words file top → Accepted tree made → IsVerilogOf tree made v → Tells status.Done (vtext v) []
-    done : (trace : List ℕ) (tree : Hierarchy) (made : Schedule) (qs : List Asking) (rows : List Row) → words ≡ sim_words file top trace → Accepted tree made → IsLaidOut tree
+    scheduled : (tree : TreeData) (made : Schedule) → words ≡ schedule_words file top → Accepted tree made → Tells status.Done (printed tree made) []
+    written : (tree : TreeData) (made : Schedule) (v : VModuleData) → words ≡ verilog_words file top → Accepted tree made → IsVerilogOf tree made v → Tells status.Done (vtext v) []
+    done : (trace : List ℕ) (tree : TreeData) (made : Schedule) (qs : List Asking) (rows : List Row) → words ≡ sim_words file top trace → Accepted tree made → IsLaidOut tree
         → Clean tree trace qs → Runs false (tree_scheme tree) made qs rows → Tells status.Done (report (subject tree) rows) []
-    trace_fault : (trace : List ℕ) (tree : Hierarchy) (made : Schedule) (qs : List Asking) (rows : List Row) → words ≡ sim_words file top trace → Accepted tree made → IsLaidOut tree
+    trace_fault : (trace : List ℕ) (tree : TreeData) (made : Schedule) (qs : List Asking) (rows : List Row) → words ≡ sim_words file top trace → Accepted tree made → IsLaidOut tree
         → Bad tree trace qs → Runs false (tree_scheme tree) made qs rows → Tells status.TraceFault (report (subject tree) rows) (trace_fault_line (length qs + 1))
 
   apart : {A : Type 0} (r : Refusal) (l : Loaded) → Rejects file contents top r → IsBuilt file contents top l → A
   apart r l h built = absurd (trees.apart file contents top l r built h)
 
   -- two runs of one tree
-  module _ (tree : Hierarchy) (made : Schedule) (planned : Accepted tree made) (laid : IsLaidOut tree) where
+  module _ (tree : TreeData) (made : Schedule) (planned : Accepted tree made) (laid : IsLaidOut tree) where
     runs_same : (qs : List Asking) (rows others : List Row) → AllFit (tree_scheme tree) qs → Runs false (tree_scheme tree) made qs rows → Runs false (tree_scheme tree) made qs others
         → report (subject tree) rows ≡ report (subject tree) others
     runs_same qs rows others all one two =
@@ -143,27 +143,27 @@ module _ (words : List (List ℕ)) (contents : List ℕ → List ℕ) (file top 
   same_trace : (trace other : List ℕ) → words ≡ sim_words file top trace → words ≡ sim_words file top other → other ≡ trace
   same_trace trace other h k = (same_sim file top other file top trace (sym k ∙ h)).2
 
-  module _ (tree u : Hierarchy) (made other : Schedule) (p : Accepted tree made) (q : Accepted u other) where
+  module _ (tree u : TreeData) (made other : Schedule) (p : Accepted tree made) (q : Accepted u other) where
     tree_is : u ≡ tree
     tree_is = one_tree_planned file contents top u tree other made q p
 
     made_is : other ≡ made
     made_is = one_made_planned file contents top u tree other made q p
 
-    abbrev RunsHere : Hierarchy → Schedule → List Asking → List Row → Type 0
+    abbrev RunsHere : TreeData → Schedule → List Asking → List Row → Type 0
     RunsHere t m rs rows = Runs false (tree_scheme t) m rs rows
 
     runs_here : (rs : List Asking) (rows : List Row) → RunsHere u other rs rows → RunsHere tree made rs rows
-    runs_here rs rows h = subst (λ (m : Schedule). RunsHere tree m rs rows) made_is (subst (λ (t : Hierarchy). RunsHere t other rs rows) tree_is h)
+    runs_here rs rows h = subst (λ (m : Schedule). RunsHere tree m rs rows) made_is (subst (λ (t : TreeData). RunsHere t other rs rows) tree_is h)
 
     clean_here : (trace r : List ℕ) (rs : List Asking) → r ≡ trace → Clean u r rs → Clean tree trace rs
-    clean_here trace r rs e h = subst (λ (x : List ℕ). Clean tree x rs) e (subst (λ (t : Hierarchy). Clean t r rs) tree_is h)
+    clean_here trace r rs e h = subst (λ (x : List ℕ). Clean tree x rs) e (subst (λ (t : TreeData). Clean t r rs) tree_is h)
 
     bad_here : (trace r : List ℕ) (rs : List Asking) → r ≡ trace → Bad u r rs → Bad tree trace rs
-    bad_here trace r rs e h = subst (λ (x : List ℕ). Bad tree x rs) e (subst (λ (t : Hierarchy). Bad t r rs) tree_is h)
+    bad_here trace r rs e h = subst (λ (x : List ℕ). Bad tree x rs) e (subst (λ (t : TreeData). Bad t r rs) tree_is h)
 
     report_there : (rows : List Row) → report (subject tree) rows ≡ report (subject u) rows
-    report_there rows = ap (λ (t : Hierarchy). report (subject t) rows) (sym tree_is)
+    report_there rows = ap (λ (t : TreeData). report (subject t) rows) (sym tree_is)
 
   same : (s s' : Status) (output more text said : List ℕ) → Tells s output text → Tells s' more said → SameAnswer words s s' output more text said
   same s s' output more text said (refused r h) (refused e g) =
@@ -183,7 +183,7 @@ module _ (words : List (List ℕ)) (contents : List ℕ → List ℕ) (file top 
   same s s' output more text said (scheduled tree made is p) (no_program l built none) = absurd (not_other file top contents l built none tree made p)
   same s s' output more text said (scheduled tree made is p) (scheduled u other k q) = record {
     status_is = refl;
-    output_is = λ none. sym (ap (λ (t : Hierarchy). printed t other) (tree_is tree u made other p q) ∙ ap (printed tree) (made_is tree u made other p q));
+    output_is = λ none. sym (ap (λ (t : TreeData). printed t other) (tree_is tree u made other p q) ∙ ap (printed tree) (made_is tree u made other p q));
     text_is = IsSameText.equal;
   }
   same s s' output more text said (scheduled tree made is p) (written u other v k q has) = absurd (products_apart file top file top (sym is ∙ k))

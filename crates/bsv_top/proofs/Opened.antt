@@ -1,8 +1,8 @@
 -- A report whose opening state is put, and a trace that is chosen.
 use Rattle.std.proofs.Common.{◌≡◌, ◌⊎◌, inl, inr, ◌∙◌, ℕ, ◌+◌, ◌≤◌, List, [], length, refl, sym, ap, subst, arith}
 use Rattle.bsv_prim.specs.declared.part.Part.{Part}
-use Rattle.bsv_design.specs.Schemes.{Asking, Outline}
-use Rattle.bsv_design.specs.States.{opening}
+use Rattle.bsv_design.specs.scheme.Schemes.{Asking, Outline}
+use Rattle.bsv_design.specs.scheme.States.{opening}
 use Rattle.bsv_io.specs.Reading.{Reading, bytes_given, chosen, current_name}
 use Rattle.bsv_io.specs.Writing.{Writing, appended, AppendsPrefix}
 use Rattle.bsv_io.proofs.Appended.{nothing_put}
@@ -12,7 +12,7 @@ use Rattle.bsv_top.specs.declared.clocks.Run.{Run}
 use Rattle.bsv_top.specs.Reports.{report}
 use Rattle.bsv_top.specs.Places.{piece_limit}
 use Rattle.bsv_top.specs.Running as running
-use Rattle.bsv_top.specs.Running.{Follows, HasRun, IsBegunOf, IsFollowed, IsStart, its_subject}
+use Rattle.bsv_top.specs.Running.{Follows, HasRun, IsStartedOf, IsFollowed, IsStart, its_subject}
 use Rattle.bsv_top.specs.Traces.{HasBadLine, bytes_in, lines_of}
 use Rattle.bsv_top.proofs.Named.{kinds_are}
 use Rattle.bsv_top.proofs.Runs.{report_none}
@@ -20,16 +20,16 @@ use Rattle.bsv_top.proofs.Stepping.{nothing_run}
 
 module _ (c : Compiled) (start w : Writing) where
   module _ (trace : List ℕ) where
-    no_clock : AppendsPrefix (report (its_subject c) []) start w → IsBegunOf c start trace w
+    no_clock : AppendsPrefix (report (its_subject c) []) start w → IsStartedOf c start trace w
     no_clock prefix = record { front = []; rest = lines_of trace; qs = []; rows = []; lines = refl; asked = tt; runs = tt; prefix = prefix }
 
     -- nothing is put
-    pub nothing_begun : w ≡ start → IsBegunOf c start trace w
-    nothing_begun same = no_clock (subst (λ (v : Writing). AppendsPrefix (report (its_subject c) []) start v) (sym same) (nothing_put (report (its_subject c) []) start))
+    pub nothing_started : w ≡ start → IsStartedOf c start trace w
+    nothing_started same = no_clock (subst (λ (v : Writing). AppendsPrefix (report (its_subject c) []) start v) (sym same) (nothing_put (report (its_subject c) []) start))
 
     -- a prefix of the opening state is put
-    pub opening_begun : (parts : List Part) → parts ≡ opening (its_subject c).scheme.kinds → AppendsPrefix (opening_text c.design.parts parts) start w → IsBegunOf c start trace w
-    opening_begun parts first prefix =
+    pub opening_started : (parts : List Part) → parts ≡ opening (its_subject c).scheme.kinds → AppendsPrefix (opening_text c.design.parts parts) start w → IsStartedOf c start trace w
+    opening_started parts first prefix =
         no_clock (subst (λ (t : List ℕ). AppendsPrefix t start w) (ap (opening_text c.design.parts) first ∙ sym (report_none (its_subject c))) prefix)
 
   module _ (r : Run) (first : IsStart c.design r) where

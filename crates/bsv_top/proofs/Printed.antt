@@ -2,7 +2,7 @@
 use Rattle.std.proofs.Common.{◌≡◌, ◌∙◌, ℕ, List, [], refl, sym, ap, subst}
 use Rattle.std.proofs.Math.Path.{fun_ext}
 use Rattle.bsv_io.specs.Writing.{Writing, appended, AppendsPrefix}
-use Rattle.bsv_design.specs.Schemes.{Outline, tree_scheme}
+use Rattle.bsv_design.specs.scheme.Schemes.{Outline, tree_scheme}
 use Rattle.std.specs.Prelude.{slice_get}
 use Rattle.bsv_trace.specs.Texts.{name_at, schedule_text}
 use Rattle.bsv_vtext.specs.AtHand as hand
@@ -15,7 +15,7 @@ use Rattle.bsv_top.specs.declared.form.Product.TheVariants as product
 use Rattle.bsv_top.specs.declared.status.Status.TheVariants as status
 use Rattle.bsv_top.specs.Answers as a
 use Rattle.bsv_top.specs.Answers.{Answer, printed, schedule_words}
-use Rattle.bsv_top.specs.Outcomes.{IsDoneBy, OutputBegun, begun}
+use Rattle.bsv_top.specs.Outcomes.{IsDoneBy, OutputStarted, started}
 use Rattle.bsv_top.specs.Products.{product_text, product_words}
 use Rattle.bsv_top.proofs.Named.{names_are}
 
@@ -35,12 +35,12 @@ module _ (file : List ℕ) (contents : List ℕ → List ℕ) (top : List ℕ) (
   product_answer product.Schedule =
       subst (λ (t : List ℕ). Answer (schedule_words file top) contents status.Done t []) (sym printed_here)
       (a.Answer.scheduled x.compiled.tree c.schedule refl planned)
-  product_answer product.Verilog = a.Answer.written x.compiled.tree c.schedule (hand.contents c.verilog) refl planned x.compiled.design.verilog
+  product_answer product.Verilog = a.Answer.written x.compiled.tree c.schedule (hand.module_data c.verilog) refl planned x.compiled.design.verilog
 
   -- it is put whole
   pub plan_done : (p : Product) (out out' : Writing) → out' ≡ appended (product_text p c) out → IsDoneBy (product_words p file top) contents out out'
   plan_done p out out' put = record { output = product_text p c; answer = product_answer p; put = put }
 
   -- or a prefix of it
-  pub plan_begun : (p : Product) (out out' : Writing) → AppendsPrefix (product_text p c) out out' → OutputBegun (product_words p file top) contents out out'
-  plan_begun p out out' prefix = begun [] (product_answer p) prefix
+  pub plan_started : (p : Product) (out out' : Writing) → AppendsPrefix (product_text p c) out out' → OutputStarted (product_words p file top) contents out out'
+  plan_started p out out' prefix = started [] (product_answer p) prefix

@@ -2,23 +2,23 @@
 use Rattle.std.proofs.Common.{◌≡◌, ℕ, suc, ◌+◌, Bool, List, [], ◌∷◌, ◌++◌, length, refl, sym, ap, ◌∙◌, subst, arith, append_assoc, append-nil}
 use Rattle.bsv_prim.specs.declared.part.Part.{Part}
 use Rattle.bsv_design.specs.declared.schedule.Schedule.{Schedule}
-use Rattle.bsv_design.specs.Schemes.{Scheme, Asking}
-use Rattle.bsv_design.specs.States.{opening}
+use Rattle.bsv_design.specs.scheme.Schemes.{Scheme, Asking}
+use Rattle.bsv_design.specs.scheme.States.{opening}
 use Rattle.bsv_io.specs.Writing.{Writing, appended, AppendsPrefix}
-use Rattle.bsv_io.proofs.Appended.{AppendsPrefix-more, appended-append, prefix_behind}
+use Rattle.bsv_io.proofs.Appended.{AppendsPrefix-more, appended-append, prefix_after}
 use Rattle.bsv_trace.specs.Texts.{clock_text, opening_text}
 use Rattle.bsv_clock.specs.Runs.{Row, Continues}
 use Rattle.bsv_flow.specs.Breaches.{element_name}
 use Rattle.bsv_flow.specs.Schedulings.{Subject}
 use Rattle.bsv_top.specs.Reports.{report, clocks_text}
-use Rattle.bsv_top.specs.Running.{state_behind}
+use Rattle.bsv_top.specs.Running.{state_after}
 
 -- ---- runs
 
 module _ (aggressive : Bool) (S : Scheme) (made : Schedule) where
-  -- a run, and another one from the state behind it
+  -- a run, and another one from the state after it
   pub continues_append : (s : List Part) (qs rs : List Asking) (rows more : List Row) → Continues aggressive S made s qs rows
-      → Continues aggressive S made (state_behind s rows) rs more → Continues aggressive S made s (qs ++ rs) (rows ++ more)
+      → Continues aggressive S made (state_after s rows) rs more → Continues aggressive S made s (qs ++ rs) (rows ++ more)
   continues_append s [] rs [] more h g = g
   continues_append s [] rs (row ∷ rows) more h g = absurd h
   continues_append s (q ∷ qs) rs [] more h g = absurd h
@@ -31,7 +31,7 @@ module _ (aggressive : Bool) (S : Scheme) (made : Schedule) where
   rows_long s (q ∷ qs) [] h = absurd h
   rows_long s (q ∷ qs) (row ∷ rows) h = ap suc (rows_long row.after qs rows h.1)
 
-pub state_append : (s : List Part) (rows more : List Row) → state_behind s (rows ++ more) ≡ state_behind (state_behind s rows) more
+pub state_append : (s : List Part) (rows more : List Row) → state_after s (rows ++ more) ≡ state_after (state_after s rows) more
 state_append s [] more = refl
 state_append s (row ∷ rows) more = state_append row.after rows more
 
@@ -70,8 +70,8 @@ module _ (s : Subject) where
   report_none = append-nil opening_lines
 
   -- a prefix of a report is one of the report of a run that goes on
-  pub begun_further : (rows more : List Row) (start w : Writing) → AppendsPrefix (report s rows) start w → AppendsPrefix (report s (rows ++ more)) start w
-  begun_further rows more start w h =
+  pub started_further : (rows more : List Row) (start w : Writing) → AppendsPrefix (report s rows) start w → AppendsPrefix (report s (rows ++ more)) start w
+  started_further rows more start w h =
       subst (λ (t : List ℕ). AppendsPrefix t start w) (sym (report_append rows more)) (AppendsPrefix-more (report s rows) (clocks_text s (1 + length rows) more) start w h)
 
   -- a clock more is put
@@ -82,7 +82,7 @@ module _ (s : Subject) where
       ∙ ap (λ (t : List ℕ). appended t start) (sym (report_clock rows row number is))
 
   -- or a prefix of it
-  pub begun_clock : (rows : List Row) (row : Row) (number : ℕ) (start w next : Writing) → number ≡ length rows + 1 → w ≡ appended (report s rows) start
+  pub started_clock : (rows : List Row) (row : Row) (number : ℕ) (start w next : Writing) → number ≡ length rows + 1 → w ≡ appended (report s rows) start
       → AppendsPrefix (text_of_clock number row) w next → AppendsPrefix (report s (rows ++ row ∷ [])) start next
-  begun_clock rows row number start w next is put this =
-      subst (λ (t : List ℕ). AppendsPrefix t start next) (sym (report_clock rows row number is)) (prefix_behind (report s rows) (text_of_clock number row) start w next put this)
+  started_clock rows row number start w next is put this =
+      subst (λ (t : List ℕ). AppendsPrefix t start next) (sym (report_clock rows row number is)) (prefix_after (report s rows) (text_of_clock number row) start w next put this)

@@ -3,8 +3,8 @@ use Rattle.std.proofs.Common.{◌≡◌, ◌∙◌, inl, inr, ℕ, ◌<◌, ◌�
 use Rattle.std.proofs.lemmas.Bool.{cases_lt}
 use Rattle.bsv_io.specs.Reading.{Current, Reading, bytes_given, given_of}
 use Rattle.bsv_io.specs.Writing.{Writing}
-use Rattle.bsv_design.specs.Schemes.{Outline, tree_scheme}
-use Rattle.bsv_design.specs.Trees.{Hierarchy}
+use Rattle.bsv_design.specs.scheme.Schemes.{Outline, tree_scheme}
+use Rattle.bsv_design.specs.tree.Trees.{TreeData}
 use Rattle.bsv_flow.specs.declared.refusal.Refusal.{Refusal}
 use Rattle.bsv_flow.specs.declared.scheduling.Compiled.{Compiled}
 use Rattle.bsv_flow.specs.Compilings.{IsCompiled, IsPlanned}
@@ -18,12 +18,12 @@ use Rattle.bsv_top.specs.Answers as a
 use Rattle.bsv_top.specs.Answers.{Answer, sim_words, trace_fault_line}
 use Rattle.bsv_top.specs.LaidOut.{IsLaidOut}
 use Rattle.bsv_top.specs.Outcomes as o
-use Rattle.bsv_top.specs.Outcomes.{IsDoneBy, IsUnread, OutputBegun}
+use Rattle.bsv_top.specs.Outcomes.{IsDoneBy, IsUnread, OutputStarted}
 use Rattle.bsv_top.specs.Places as places
 use Rattle.bsv_top.specs.Places.{IsTraceWithin, ReadsWithin, piece_limit}
 use Rattle.bsv_top.specs.Reports.{report}
 use Rattle.bsv_top.specs.Running as running
-use Rattle.bsv_top.specs.Running.{Follows, IsBegunOf, IsDoneOf, IsFaultyOf, IsFollowed, its_outlines}
+use Rattle.bsv_top.specs.Running.{Follows, IsStartedOf, IsDoneOf, IsFaultyOf, IsFollowed, its_outlines}
 use Rattle.bsv_top.specs.Stops.{IsStopOf}
 use Rattle.bsv_top.specs.Traces.{HasBadLine}
 use Rattle.bsv_top.proofs.Answering as answering
@@ -33,7 +33,7 @@ module _ (file : List ℕ) (contents : List ℕ → List ℕ) (top trace : List 
   abbrev words : List (List ℕ)
   words = sim_words file top trace
 
-  abbrev tree : Hierarchy
+  abbrev tree : TreeData
   tree = x.compiled.tree
 
   planned : IsPlanned file contents top tree c.schedule
@@ -53,10 +53,10 @@ module _ (file : List ℕ) (contents : List ℕ → List ℕ) (top trace : List 
         put = done.put;
       }
 
-  pub simulated_begun : (w next : Writing) → IsBegunOf c w (contents trace) next → OutputBegun words contents w next
-  simulated_begun w next h =
-      answering.begun_output words contents file top trace refl tree c.schedule planned laid w next
-      (lifting.begun_here tree c.design c.schedule x.compiled.design.alike x.compiled.design.parts w (contents trace) next h)
+  pub simulated_started : (w next : Writing) → IsStartedOf c w (contents trace) next → OutputStarted words contents w next
+  simulated_started w next h =
+      answering.started_output words contents file top trace refl tree c.schedule planned laid w next
+      (lifting.started_here tree c.design c.schedule x.compiled.design.alike x.compiled.design.parts w (contents trace) next h)
 
   simulated_bad : (w next : Writing) (number : ℕ) → IsFaultyOf c w (contents trace) next number → IsStopOf words contents w next (stop.BadLine number)
   simulated_bad w next number h =
@@ -85,7 +85,7 @@ module _ (file : List ℕ) (contents : List ℕ → List ℕ) (top trace : List 
     bad = λ other made qs planning bad.
         h.bad qs
         (subst (λ (os : List Outline). HasBadLine os (contents trace) qs)
-        (ap (λ (t : Hierarchy). (tree_scheme t).elements) (one_tree_planned file contents top other tree made c.schedule planning planned) ∙ x.compiled.design.alike.elements) bad);
+        (ap (λ (t : TreeData). (tree_scheme t).elements) (one_tree_planned file contents top other tree made c.schedule planning planned) ∙ x.compiled.design.alike.elements) bad);
   }
 
   module _ (first second third : Reading) (loaded : read_limit < bytes_given second → second.current ≡ first.current) where

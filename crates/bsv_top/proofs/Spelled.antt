@@ -44,7 +44,7 @@ same_trace file top trace f t u e contents r h =
     subst (λ (name : List ℕ). IsTraceWithin f t name contents r) same.2
     (subst (λ (name : List ℕ). IsTraceWithin f name trace contents r) same.1 (subst (λ (name : List ℕ). IsTraceWithin name top trace contents r) same.0 h))
 
--- the file and the module stand behind the first word
+-- the file and the module come after the first word
 asked_parts : (words : List (List ℕ)) (file top : List ℕ) → Asks words file top → (second_of words ≡ file) × (third_of words ≡ top)
 unfolding second_of third_of
 asked_parts words file top (Asks.schedule is) = (ap second_of is, ap third_of is)

@@ -1,10 +1,10 @@
 -- A trace that is run line by line.
 use Rattle.std.proofs.Common.{◌≡◌, inl, inr, ℕ, suc, ◌+◌, ◌<◌, ◌≤◌, false, Result, Ok, Err, OnOk, OnErr, List, [], ◌∷◌, ◌++◌, length, refl, sym, ap, ◌∙◌, subst, arith, append_assoc, append-nil, length-append, zero-add}
 use Rattle.bsv_prim.specs.declared.part.Part.{Part}
-use Rattle.bsv_design.specs.Schemes.{Asking, Outline}
-use Rattle.bsv_design.specs.Seen.{asking}
+use Rattle.bsv_design.specs.scheme.Schemes.{Asking, Outline}
+use Rattle.bsv_design.specs.tree.Seen.{asking}
 use Rattle.bsv_design.specs.declared.state.State.{State}
-use Rattle.bsv_design.specs.States.{opening}
+use Rattle.bsv_design.specs.scheme.States.{opening}
 use Rattle.bsv_io.specs.Writing.{Writing, appended, AppendsPrefix}
 use Rattle.bsv_io.proofs.Appended.{whole_put}
 use Rattle.bsv_trace.specs.Lines.{AsksFor}
@@ -18,11 +18,11 @@ use Rattle.bsv_top.specs.declared.lines.Lines.{Lines}
 use Rattle.bsv_top.specs.declared.clocks.Run.{Run}
 use Rattle.bsv_top.specs.Reading.{HasNoFeed, IsEnded, IsOver}
 use Rattle.bsv_top.specs.Reports.{report}
-use Rattle.bsv_top.specs.Running.{BeginsClock, EndsLine, HasRun, IsBegunOf, IsDoneOf, IsFaultyOf, RunsLine, StandsAt, its_subject, lines_of_clock, state_behind}
+use Rattle.bsv_top.specs.Running.{BeginsClock, EndsLine, HasRun, IsStartedOf, IsDoneOf, IsFaultyOf, RunsLine, StandsAt, its_subject, lines_of_clock, state_after}
 use Rattle.bsv_top.specs.Traces.{IsBad, AreAsked, AreAskedToBad, HasBadLine, bytes_in, line_text, lines_of}
-use Rattle.bsv_top.proofs.Asked.{asked_append, asked_long, bad_append, bad_behind, bytes_behind, over_bad, total, total_append}
+use Rattle.bsv_top.proofs.Asked.{asked_append, asked_long, bad_append, bad_after, bytes_after, over_bad, total, total_append}
 use Rattle.bsv_top.proofs.Listed.{BeginsLine, begins_line, ends_line, ended_line, last_line, unended_append}
-use Rattle.bsv_top.proofs.Runs.{begun_clock, continues_append, put_clock, report_none, rows_long, state_append}
+use Rattle.bsv_top.proofs.Runs.{started_clock, continues_append, put_clock, report_none, rows_long, state_append}
 
 -- what holds anyhow holds of a fault
 pub fails : {A E : Type 0} (r : Result A E) (P : Type 0) → P → OnErr r P
@@ -49,11 +49,11 @@ pub data Stepped (c : Compiled) (old new : Run) (w next : Writing) : Type 0 wher
 
 pub stepped : (c : Compiled) (old new : Run) (w next : Writing) (r : Result (Unit {0}) Halt) → OnOk r (EndsLine c old new w next) → (r ≡ Err halt.Unwritable → BeginsClock c old new w next)
     → OnErr r ((r ≡ Err halt.Unwritable → ⊥) → next ≡ w) → Stepped c old new w next
-stepped c old new w next (Ok x) ok begun quiet = one_clock ok.ran (whole_put (lines_of_clock c old new) w next ok.put)
-stepped c old new w next (Err halt.BadLine) ok begun quiet = no_clock (quiet (λ e. let no_value : ⊥ = cc in no_value))
-stepped c old new w next (Err halt.Unreadable) ok begun quiet = no_clock (quiet (λ e. let no_value : ⊥ = cc in no_value))
-stepped c old new w next (Err halt.Unwritable) ok begun quiet = let this = begun refl in one_clock this.ran this.prefix
-stepped c old new w next (Err halt.OutOfMemory) ok begun quiet = no_clock (quiet (λ e. let no_value : ⊥ = cc in no_value))
+stepped c old new w next (Ok x) ok started quiet = one_clock ok.ran (whole_put (lines_of_clock c old new) w next ok.put)
+stepped c old new w next (Err halt.BadLine) ok started quiet = no_clock (quiet (λ e. let no_value : ⊥ = cc in no_value))
+stepped c old new w next (Err halt.Unreadable) ok started quiet = no_clock (quiet (λ e. let no_value : ⊥ = cc in no_value))
+stepped c old new w next (Err halt.Unwritable) ok started quiet = let this = started refl in one_clock this.ran this.prefix
+stepped c old new w next (Err halt.OutOfMemory) ok started quiet = no_clock (quiet (λ e. let no_value : ⊥ = cc in no_value))
 
 module _ (c : Compiled) where
   abbrev os : List Outline
@@ -83,8 +83,8 @@ module _ (c : Compiled) where
     -- ---- a prefix of a report
 
     -- what was put so far
-    pub begun_behind : (trace left : List ℕ) → trace ≡ read ++ left → IsBegunOf c start trace w
-    begun_behind trace left whole = record {
+    pub started_after : (trace left : List ℕ) → trace ≡ read ++ left → IsStartedOf c start trace w
+    started_after trace left whole = record {
       front = run.stands.front;
       rest = lines_of (held ++ left);
       qs = run.qs;
@@ -95,11 +95,11 @@ module _ (c : Compiled) where
       prefix = whole_put (report (its_subject c) run.rows) start w run.put;
     }
 
-    pub begun_here : (bytes left : List ℕ) → IsBegunOf c start ((read ++ bytes) ++ left) w
-    begun_here bytes left = begun_behind ((read ++ bytes) ++ left) (bytes ++ left) (append_assoc read bytes left)
+    pub started_here : (bytes left : List ℕ) → IsStartedOf c start ((read ++ bytes) ++ left) w
+    started_here bytes left = started_after ((read ++ bytes) ++ left) (bytes ++ left) (append_assoc read bytes left)
 
-    pub begun_whole : IsBegunOf c start read w
-    begun_whole = begun_behind read [] (sym (append-nil read))
+    pub started_whole : IsStartedOf c start read w
+    started_whole = started_after read [] (sym (append-nil read))
 
     -- ---- a bad line
 
@@ -135,9 +135,9 @@ module _ (c : Compiled) where
     over_some bytes (inl long) = omega (arith, long)
     over_some bytes (inr far) = omega (arith, far, r.lines.within)
 
-    pub over_begun : (bytes left : List ℕ) (number : ℕ) → HasNoFeed bytes → IsOver r.lines.at (held ++ bytes) → number ≡ r.lines.done + 1
+    pub over_started : (bytes left : List ℕ) (number : ℕ) → HasNoFeed bytes → IsOver r.lines.at (held ++ bytes) → number ≡ r.lines.done + 1
         → IsFaultyOf c start ((read ++ bytes) ++ left) w number
-    over_begun bytes left number unended over is =
+    over_started bytes left number unended over is =
         over_from bytes left number over (begins_line (held ++ bytes) left (unended_append held bytes run.unended unended) (over_some bytes over)) is
 
     -- a line that was gathered whole asks for nothing
@@ -175,7 +175,7 @@ module _ (c : Compiled) where
 
       one_row : Runs false (its_subject c).scheme c.schedule (run.qs ++ asking new.requests ∷ []) (run.rows ++ row ∷ [])
       one_row =
-          let from : old.state.parts.items ≡ state_behind (opening (its_subject c).scheme.kinds) run.rows = ap (λ (s : State). s.parts.items) state ∙ run.state in
+          let from : old.state.parts.items ≡ state_after (opening (its_subject c).scheme.kinds) run.rows = ap (λ (s : State). s.parts.items) state ∙ run.state in
           continues_append false (its_subject c).scheme c.schedule (opening (its_subject c).scheme.kinds) run.qs (asking new.requests ∷ []) run.rows (row ∷ []) run.runs
           (subst (λ (s : List Part). Happens false (its_subject c).scheme c.schedule (asking new.requests) s new.fired new.state.parts.items) from ran.happens, tt)
 
@@ -192,9 +192,9 @@ module _ (c : Compiled) where
       put_more next put = put_clock (its_subject c) run.rows row (old.lines.done + 1) start w next clock_number run.put put
 
       -- or a prefix of it
-      begun_more : (trace : List ℕ) (rest : List (List ℕ)) (next : Writing) → lines_of trace ≡ run.stands.front ++ line ∷ rest → AppendsPrefix (lines_of_clock c old new) w next
-          → IsBegunOf c start trace next
-      begun_more trace rest next lines prefix = record {
+      started_more : (trace : List ℕ) (rest : List (List ℕ)) (next : Writing) → lines_of trace ≡ run.stands.front ++ line ∷ rest → AppendsPrefix (lines_of_clock c old new) w next
+          → IsStartedOf c start trace next
+      started_more trace rest next lines prefix = record {
         front = run.stands.front ++ line ∷ [];
         rest = rest;
         qs = run.qs ++ asking new.requests ∷ [];
@@ -202,7 +202,7 @@ module _ (c : Compiled) where
         lines = lines ∙ sym (append_assoc run.stands.front (line ∷ []) rest);
         asked = one_asked;
         runs = one_row;
-        prefix = begun_clock (its_subject c) run.rows row (old.lines.done + 1) start w next clock_number run.put prefix;
+        prefix = started_clock (its_subject c) run.rows row (old.lines.done + 1) start w next clock_number run.put prefix;
       }
 
       -- ---- of bytes that end the line
@@ -213,8 +213,8 @@ module _ (c : Compiled) where
             lines_next bytes left
             ∙ ap (λ (ls : List (List ℕ)). run.stands.front ++ ls) (ended_line held bytes left run.unended ended ∙ ap (λ (t : List ℕ). t ∷ lines_of left) (sym gathered))
 
-        begun_ended : (left : List ℕ) (next : Writing) → AppendsPrefix (lines_of_clock c old new) w next → IsBegunOf c start ((read ++ bytes) ++ left) next
-        begun_ended left next prefix = begun_more ((read ++ bytes) ++ left) (lines_of left) next (lines_more left) prefix
+        started_ended : (left : List ℕ) (next : Writing) → AppendsPrefix (lines_of_clock c old new) w next → IsStartedOf c start ((read ++ bytes) ++ left) next
+        started_ended left next prefix = started_more ((read ++ bytes) ++ left) (lines_of left) next (lines_more left) prefix
 
         stands_more : new.lines.done ≡ old.lines.done + 1 → new.lines.at ≡ old.lines.at + length line → new.lines.held.items ≡ []
             → StandsAt os (read ++ bytes) new.lines (run.qs ++ asking new.requests ∷ [])
@@ -246,8 +246,8 @@ module _ (c : Compiled) where
         lines_whole : lines_of read ≡ run.stands.front ++ line ∷ []
         lines_whole = lines_last some ∙ ap (λ (t : List ℕ). run.stands.front ++ t ∷ []) (sym gathered)
 
-        begun_last : (next : Writing) → AppendsPrefix (lines_of_clock c old new) w next → IsBegunOf c start read next
-        begun_last next prefix = begun_more read [] next lines_whole prefix
+        started_last : (next : Writing) → AppendsPrefix (lines_of_clock c old new) w next → IsStartedOf c start read next
+        started_last next prefix = started_more read [] next lines_whole prefix
 
         pub done_last : (next : Writing) → next ≡ appended (lines_of_clock c old new) w → IsDoneOf c start read next
         done_last next put = record {
@@ -261,13 +261,13 @@ module _ (c : Compiled) where
     -- ---- whatever came of a line
 
     module _ (old new : Run) (state : old.state ≡ r.state) (at : old.lines.at ≡ r.lines.at) (done : old.lines.done ≡ r.lines.done) where
-      pub stepped_ended : (bytes left : List ℕ) (next : Writing) → IsEnded bytes → old.lines.held.items ≡ held ++ bytes → Stepped c old new w next → IsBegunOf c start ((read ++ bytes) ++ left) next
-      stepped_ended bytes left next ended gathered (one_clock this prefix) = begun_ended old new state at done this bytes ended gathered left next prefix
-      stepped_ended bytes left next ended gathered (no_clock same) = subst (λ (v : Writing). IsBegunOf c start ((read ++ bytes) ++ left) v) (sym same) (begun_here bytes left)
+      pub stepped_ended : (bytes left : List ℕ) (next : Writing) → IsEnded bytes → old.lines.held.items ≡ held ++ bytes → Stepped c old new w next → IsStartedOf c start ((read ++ bytes) ++ left) next
+      stepped_ended bytes left next ended gathered (one_clock this prefix) = started_ended old new state at done this bytes ended gathered left next prefix
+      stepped_ended bytes left next ended gathered (no_clock same) = subst (λ (v : Writing). IsStartedOf c start ((read ++ bytes) ++ left) v) (sym same) (started_here bytes left)
 
-      pub stepped_last : (next : Writing) → old.lines.held.items ≡ held → 0 < length held → Stepped c old new w next → IsBegunOf c start read next
-      stepped_last next gathered some (one_clock this prefix) = begun_last old new state at done this gathered some next prefix
-      stepped_last next gathered some (no_clock same) = subst (λ (v : Writing). IsBegunOf c start read v) (sym same) begun_whole
+      pub stepped_last : (next : Writing) → old.lines.held.items ≡ held → 0 < length held → Stepped c old new w next → IsStartedOf c start read next
+      stepped_last next gathered some (one_clock this prefix) = started_last old new state at done this gathered some next prefix
+      stepped_last next gathered some (no_clock same) = subst (λ (v : Writing). IsStartedOf c start read v) (sym same) started_whole
 
     -- nothing was begun of a line at the end of the trace
     pub done_here : held ≡ [] → IsDoneOf c start read w
@@ -304,20 +304,20 @@ module _ (c : Compiled) where
 
     -- ---- how far was read
 
-    -- no byte that was read stands behind the first bad line
+    -- no byte that was read comes after the first bad line
     pub read_within : (trace left : List ℕ) (qs : List Asking) → trace ≡ read ++ left → HasBadLine os trace qs → length read ≤ bytes_in (length qs + 1) (lines_of trace)
     read_within trace left qs whole bad =
         let lines : lines_of trace ≡ run.stands.front ++ lines_of (held ++ left) = ap lines_of whole ∙ run.stands.lines left in
-        let behind = bad_behind os 0 r.lines.at run.stands.front (lines_of (held ++ left)) run.qs qs (sym stands_at) run.stands.asked
+        let behind = bad_after os 0 r.lines.at run.stands.front (lines_of (held ++ left)) run.qs qs (sym stands_at) run.stands.asked
         (subst (λ (ls : List (List ℕ)). AreAskedToBad os 0 ls qs) lines bad) in
         let long = behind.long in
         let count : length qs + 1 ≡ length run.stands.front + (length behind.more + 1) = omega (arith, long) in
         let all : bytes_in (length qs + 1) (lines_of trace) ≡ total run.stands.front + bytes_in (length behind.more + 1) (lines_of (held ++ left)) =
         ap (λ (n : ℕ). bytes_in n (lines_of trace)) count ∙ ap (bytes_in (length run.stands.front + (length behind.more + 1))) lines
-        ∙ bytes_behind run.stands.front (lines_of (held ++ left)) (length behind.more + 1) in
+        ∙ bytes_after run.stands.front (lines_of (held ++ left)) (length behind.more + 1) in
         omega (arith, all, run.stands.at, run.stands.long, held_within held left (length behind.more) run.unended)
 
--- a piece, of which so much is gone, and whose next line stands in front of the rest
+-- a piece, of which so much is gone, and whose next line comes before the rest
 pub cut : (read gone line behind piece rest left : List ℕ) → piece ≡ gone ++ rest → rest ≡ line ++ behind → ((read ++ gone) ++ line) ++ (behind ++ left) ≡ (read ++ piece) ++ left
 cut read gone line behind piece rest left whole next =
     sym (append_assoc ((read ++ gone) ++ line) behind left)

@@ -15,7 +15,7 @@ use Rattle.bsv_top.specs.declared.stop.Stop.TheVariants as stop
 use Rattle.bsv_top.specs.Answers.{Answer, Asks, HasNoForm, cannot_read_line, no_memory_line, trace_fault_line}
 use Rattle.bsv_top.specs.Forms.{words_of}
 use Rattle.bsv_top.specs.Outcomes as o
-use Rattle.bsv_top.specs.Outcomes.{Answered, IsDecided, IsDoneBy, IsUnread, TextBegun, Unreadable}
+use Rattle.bsv_top.specs.Outcomes.{Answered, IsDecided, IsDoneBy, IsUnread, TextStarted, Unreadable}
 use Rattle.bsv_top.specs.Stops.{IsStopOf, status_of, text_of}
 use Rattle.bsv_top.proofs.OneAnswer as one
 use Rattle.bsv_top.proofs.Spelled.{asks}
@@ -79,7 +79,7 @@ module _ (words : List (List ℕ)) (contents : List ℕ → List ℕ) (out out' 
       record { output = known.0; text = trace_fault_line number; answer = known.1; put = known.2; told = told }
 
   -- a prefix of the text of a stop is one of a fault text
-  pub stop_text : (s : Stop) → IsStopOf words contents out out' s → AppendsPrefix (text_of s) err err' → TextBegun words contents err err'
+  pub stop_text : (s : Stop) → IsStopOf words contents out out' s → AppendsPrefix (text_of s) err err' → TextStarted words contents err err'
   stop_text (stop.Refused r) known prefix = record { text = refusal_line r; fault_text = o.FaultText.of_answer [] known; prefix = prefix }
   stop_text (stop.Unread name) known prefix = record { text = cannot_read_line name; fault_text = known; prefix = prefix }
   stop_text stop.Unwritable known prefix = record { text = no_memory_line; fault_text = o.FaultText.of_memory; prefix = AppendsPrefix-more [] no_memory_line err err' prefix }

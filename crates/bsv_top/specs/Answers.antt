@@ -3,11 +3,11 @@
 use Rattle.std.specs.Prelude.{◌≡◌, ℕ, ◌+◌, List, [], ◌∷◌, ◌++◌, length, false, codes, decimal}
 use Rattle.bsv_types.specs.declared.typed.Typed.{Typed}
 use Rattle.bsv_design.specs.declared.schedule.Schedule.{Schedule}
-use Rattle.bsv_design.specs.Schemes.{Asking, tree_scheme}
-use Rattle.bsv_design.specs.Trees.{Hierarchy}
+use Rattle.bsv_design.specs.scheme.Schemes.{Asking, tree_scheme}
+use Rattle.bsv_design.specs.tree.Trees.{TreeData}
 use Rattle.bsv_trace.specs.Texts.{line_feed, schedule_text}
 use Rattle.bsv_clock.specs.Runs.{Row, Runs}
-use Rattle.bsv_vtext.specs.Signals.{Contents}
+use Rattle.bsv_vtext.specs.Signals.{VModuleData}
 use Rattle.bsv_vtext.specs.VText.{vtext}
 use Rattle.bsv_flow.specs.declared.loading.Loaded.{Loaded}
 use Rattle.bsv_flow.specs.declared.refusal.Refusal.{Refusal}
@@ -61,7 +61,7 @@ unfoldable pub trace_fault_line : ℕ → List ℕ
 trace_fault_line number = codes "trace line " ++ decimal number ++ line_feed
 
 -- the printed schedule of a tree
-unfoldable pub printed : Hierarchy → Schedule → List ℕ
+unfoldable pub printed : TreeData → Schedule → List ℕ
 printed tree made = schedule_text (element_name (tree_scheme tree)) made
 
 -- ---- answers
@@ -77,20 +77,20 @@ pub data Answer (words : List (List ℕ)) (contents : List ℕ → List ℕ) : S
       → Answer words contents status.Refused [] (refusal_line r)
   no_program : {file top : List ℕ} (l : Loaded) → Asks words file top → IsBuilt file contents top l → IsNoProgram l
       → Answer words contents status.OutOfMemory [] no_memory_line
-  scheduled : {file top : List ℕ} (tree : Hierarchy) (made : Schedule) → words ≡ schedule_words file top
+  scheduled : {file top : List ℕ} (tree : TreeData) (made : Schedule) → words ≡ schedule_words file top
       → IsPlanned file contents top tree made
       → Answer words contents status.Done (printed tree made) []
   -- the text of a Verilog module of the tree; each such module is an answer, since its numbered wires are the compiler's choice
-  written : {file top : List ℕ} (tree : Hierarchy) (made : Schedule) (v : Contents) → words ≡ verilog_words file top
+  written : {file top : List ℕ} (tree : TreeData) (made : Schedule) (v : VModuleData) → words ≡ verilog_words file top
       → IsPlanned file contents top tree made → IsVerilogOf tree made v
       → Answer words contents status.Done (vtext v) []
   -- each line of the trace asks for a request, and the clocks of a run of these requests are reported
-  done : {file top trace : List ℕ} (tree : Hierarchy) (made : Schedule) (qs : List Asking) (rows : List Row)
+  done : {file top trace : List ℕ} (tree : TreeData) (made : Schedule) (qs : List Asking) (rows : List Row)
       → words ≡ sim_words file top trace → IsPlanned file contents top tree made → IsLaidOut tree
       → IsClean (tree_scheme tree).elements (contents trace) qs → Runs false (tree_scheme tree) made qs rows
       → Answer words contents status.Done (report (subject tree) rows) []
   -- and so are those of the lines before the first bad one
-  trace_fault : {file top trace : List ℕ} (tree : Hierarchy) (made : Schedule) (qs : List Asking) (rows : List Row)
+  trace_fault : {file top trace : List ℕ} (tree : TreeData) (made : Schedule) (qs : List Asking) (rows : List Row)
       → words ≡ sim_words file top trace → IsPlanned file contents top tree made → IsLaidOut tree
       → HasBadLine (tree_scheme tree).elements (contents trace) qs → Runs false (tree_scheme tree) made qs rows
       → Answer words contents status.TraceFault (report (subject tree) rows) (trace_fault_line (length qs + 1))

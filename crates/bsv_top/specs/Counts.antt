@@ -1,6 +1,6 @@
 -- What sinks that only count their bytes tell of a run.
 use Rattle.std.specs.Prelude.{◌≡◌, ℕ, List}
-use Rattle.bsv_io.specs.Writing.{count_behind}
+use Rattle.bsv_io.specs.Writing.{count_after}
 use Rattle.bsv_top.specs.Answers.{Answer}
 use Rattle.bsv_top.specs.declared.status.Status.{Status}
 
@@ -9,5 +9,5 @@ pub record CountsAnswer (words : List (List ℕ)) (contents : List ℕ → List 
   pub output : List ℕ
   pub text : List ℕ
   pub answer : Answer words contents s output text
-  pub put : out' ≡ count_behind output out
-  pub told : err' ≡ count_behind text err
+  pub put : out' ≡ count_after output out
+  pub told : err' ≡ count_after text err

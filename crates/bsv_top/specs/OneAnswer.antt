@@ -2,27 +2,27 @@
 -- at most in the place of a `Syntax`.
 use Rattle.std.specs.Prelude.{◌≡◌, ℕ, List}
 use Rattle.bsv_design.specs.declared.schedule.Schedule.{Schedule}
-use Rattle.bsv_design.specs.Trees.{Hierarchy}
+use Rattle.bsv_design.specs.tree.Trees.{TreeData}
 use Rattle.bsv_flow.specs.Compilings.{IsPlanned}
 use Rattle.bsv_flow.specs.declared.refusal.Refusal.{Refusal}
 use Rattle.bsv_flow.specs.OneAnswer.{IsSameRefusal}
 use Rattle.bsv_flow.specs.Refusals.{refusal_line}
 use Rattle.bsv_flow.specs.Schedulings.{IsVerilogOf}
-use Rattle.bsv_vtext.specs.Signals.{Contents}
+use Rattle.bsv_vtext.specs.Signals.{VModuleData}
 use Rattle.bsv_top.specs.Answers.{sim_words, verilog_words}
 use Rattle.bsv_top.specs.LaidOut.{IsLaidOut}
 
 -- where the words ask for a simulation, what is accepted can be laid out
 abbrev pub LayOut : List (List ℕ) → (List ℕ → List ℕ) → Type 0
 LayOut words contents =
-    (file top trace : List ℕ) (tree : Hierarchy) (made : Schedule) → words ≡ sim_words file top trace
+    (file top trace : List ℕ) (tree : TreeData) (made : Schedule) → words ≡ sim_words file top trace
     → IsPlanned file contents top tree made → IsLaidOut tree
 
 -- where the words ask for Verilog, what is accepted has a module
 abbrev pub HaveModules : List (List ℕ) → (List ℕ → List ℕ) → Type 0
 HaveModules words contents =
-    (file top : List ℕ) (tree : Hierarchy) (made : Schedule) → words ≡ verilog_words file top
-    → IsPlanned file contents top tree made → (v : Contents) × IsVerilogOf tree made v
+    (file top : List ℕ) (tree : TreeData) (made : Schedule) → words ≡ verilog_words file top
+    → IsPlanned file contents top tree made → (v : VModuleData) × IsVerilogOf tree made v
 
 -- the words ask for no Verilog
 abbrev pub AsksNoVerilog : List (List ℕ) → Type 0

@@ -4,7 +4,7 @@ use Rattle.bsv_io.specs.Faults.{MayFault}
 use Rattle.bsv_io.specs.Reading.{Reading}
 use Rattle.bsv_io.specs.Writing.{Writing, appended, AppendsPrefix}
 use Rattle.bsv_design.specs.declared.schedule.Schedule.{Schedule}
-use Rattle.bsv_design.specs.Trees.{Hierarchy}
+use Rattle.bsv_design.specs.tree.Trees.{TreeData}
 use Rattle.bsv_flow.specs.Compilings.{IsPlanned}
 use Rattle.bsv_flow.specs.Loads.{Reaches}
 use Rattle.bsv_top.specs.declared.status.Status.{Status}
@@ -50,19 +50,19 @@ pub record IsDoneBy (words : List (List ℕ)) (contents : List ℕ → List ℕ)
   pub put : out' ≡ appended output out
 
 -- nothing is put, or a prefix of the output of an answer
-pub data OutputBegun (words : List (List ℕ)) (contents : List ℕ → List ℕ) (out out' : Writing) : Type 0 where
-  nothing : out' ≡ out → OutputBegun words contents out out'
-  begun : {s : Status} {output : List ℕ} (text : List ℕ) → Answer words contents s output text → AppendsPrefix output out out' → OutputBegun words contents out out'
+pub data OutputStarted (words : List (List ℕ)) (contents : List ℕ → List ℕ) (out out' : Writing) : Type 0 where
+  nothing : out' ≡ out → OutputStarted words contents out out'
+  started : {s : Status} {output : List ℕ} (text : List ℕ) → Answer words contents s output text → AppendsPrefix output out out' → OutputStarted words contents out out'
 
 -- the fault texts that a run may put: that of an answer, a name that the run may blame, or want of memory
 pub data FaultText (words : List (List ℕ)) (contents : List ℕ → List ℕ) : List ℕ → Type 0 where
   of_answer : {s : Status} (output : List ℕ) {text : List ℕ} → Answer words contents s output text → FaultText words contents text
   of_source : {file name : List ℕ} (top : List ℕ) → Asks words file top → Reaches file contents name → FaultText words contents (cannot_read_line name)
-  of_trace : (file top : List ℕ) {trace : List ℕ} (tree : Hierarchy) (made : Schedule) → words ≡ sim_words file top trace → IsPlanned file contents top tree made → FaultText words contents (cannot_read_line trace)
+  of_trace : (file top : List ℕ) {trace : List ℕ} (tree : TreeData) (made : Schedule) → words ≡ sim_words file top trace → IsPlanned file contents top tree made → FaultText words contents (cannot_read_line trace)
   of_memory : FaultText words contents no_memory_line
 
 -- a prefix of such a text is put
-pub record TextBegun (words : List (List ℕ)) (contents : List ℕ → List ℕ) (err err' : Writing) : Type 0 where
+pub record TextStarted (words : List (List ℕ)) (contents : List ℕ → List ℕ) (err err' : Writing) : Type 0 where
   pub text : List ℕ
   pub fault_text : FaultText words contents text
   pub prefix : AppendsPrefix text err err'
@@ -74,7 +74,7 @@ pub data IsUnread (words : List (List ℕ)) (name : List ℕ) (files files' : Re
       → ((contents : List ℕ → List ℕ) → files.contents ≡ Some contents → Reaches file contents name) → out' ≡ out
       → IsUnread words name files files' out out'
   trace : (file top : List ℕ) → words ≡ sim_words file top name → MayFault files.faults files'.faults → files'.blamed ≡ Some name
-      → ((contents : List ℕ → List ℕ) → files.contents ≡ Some contents → (tree : Hierarchy) × (made : Schedule) × IsPlanned file contents top tree made)
+      → ((contents : List ℕ → List ℕ) → files.contents ≡ Some contents → (tree : TreeData) × (made : Schedule) × IsPlanned file contents top tree made)
       → IsUnread words name files files' out out'
 
 -- and its name is told whole

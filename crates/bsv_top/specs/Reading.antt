@@ -13,7 +13,7 @@ pub record IsEnded (bytes : List ℕ) : Type 0 where
   pub unended : HasNoFeed front
   pub is : bytes ≡ front ++ 10 ∷ []
 
--- the bytes up to the first line feed, and those behind it
+-- the bytes up to the first line feed, and those after it
 pub record IsFirstLine (bytes line behind : List ℕ) : Type 0 where
   pub ended : IsEnded line
   pub whole : bytes ≡ line ++ behind
@@ -22,6 +22,6 @@ pub record IsFirstLine (bytes line behind : List ℕ) : Type 0 where
 abbrev pub line_limit : ℕ
 line_limit = 4098
 
--- what was begun of a line behind so many bytes is too long, or ends behind the limit of traces
+-- what was begun of a line after so many bytes is too long, or ends after the limit of traces
 abbrev pub IsOver : ℕ → List ℕ → Type 0
 IsOver at line = (line_limit < length line) ⊎ (trace_limit < at + length line)

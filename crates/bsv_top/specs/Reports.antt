@@ -1,6 +1,6 @@
--- The text of a report: the opening state, and then each clock with what happened in it and the state behind it.
+-- The text of a report: the opening state, and then each clock with what happened in it and the state after it.
 use Rattle.std.specs.Prelude.{ℕ, ◌+◌, List, [], ◌∷◌, ◌++◌}
-use Rattle.bsv_design.specs.States.{opening}
+use Rattle.bsv_design.specs.scheme.States.{opening}
 use Rattle.bsv_trace.specs.Texts.{opening_text, clock_text}
 use Rattle.bsv_clock.specs.Runs.{Row}
 use Rattle.bsv_flow.specs.Breaches.{element_name}

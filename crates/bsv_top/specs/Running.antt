@@ -3,16 +3,16 @@ use Rattle.std.specs.Prelude.{◌≡◌, ◌≤◌, ℕ, ◌+◌, false, List, [
 use Rattle.bsv_prim.specs.declared.part.Part.{Part}
 use Rattle.bsv_design.specs.declared.design.Design.{Design}
 use Rattle.bsv_design.specs.declared.schedule.Schedule.{Schedule}
-use Rattle.bsv_design.specs.Schemes.{Asking, Outline, kinds_of}
-use Rattle.bsv_design.specs.Seen.{asking, blueprint}
-use Rattle.bsv_design.specs.States.{AskingFits, FitsKinds, opening}
+use Rattle.bsv_design.specs.scheme.Schemes.{Asking, Outline, kinds_of}
+use Rattle.bsv_design.specs.tree.Seen.{asking, design_data}
+use Rattle.bsv_design.specs.scheme.States.{AskingFits, FitsKinds, opening}
 use Rattle.bsv_io.specs.Reading.{Reading, bytes_given, current_name}
 use Rattle.bsv_io.specs.Writing.{Writing, appended, AppendsPrefix}
 use Rattle.bsv_trace.specs.Lines.{AsksFor}
 use Rattle.bsv_trace.specs.Texts.{clock_text}
 use Rattle.bsv_clock.specs.Events.{Happens}
 use Rattle.bsv_clock.specs.Runs.{Row, Runs}
-use Rattle.bsv_design.specs.Rooms.{HasRoom}
+use Rattle.bsv_design.specs.scheme.Rooms.{HasRoom}
 use Rattle.bsv_flow.specs.declared.scheduling.Compiled.{Compiled}
 use Rattle.bsv_flow.specs.Breaches.{element_name}
 use Rattle.bsv_flow.specs.Schedulings.{Subject, design_subject}
@@ -27,7 +27,7 @@ use Rattle.bsv_top.specs.Traces.{AreAsked, IsClean, HasBadLine, bytes_in, line_t
 
 -- a run fits the design
 pub record FitsRun (d : Design) (r : Run) : Type 0 where
-  pub parts : FitsKinds (kinds_of (blueprint d)) r.state.parts.items
+  pub parts : FitsKinds (kinds_of (design_data d)) r.state.parts.items
   pub requests : AskingFits d.elements (asking r.requests)
   pub room : HasRoom (length d.elements) r.fired
 
@@ -37,7 +37,7 @@ pub record IsStart (d : Design) (r : Run) : Type 0 where
   pub done : r.lines.done ≡ 0
   pub at : r.lines.at ≡ 0
   pub none : r.lines.held.items ≡ []
-  pub state : r.state.parts.items ≡ opening (kinds_of (blueprint d))
+  pub state : r.state.parts.items ≡ opening (kinds_of (design_data d))
 
 -- ---- one line
 
@@ -72,8 +72,8 @@ pub record BeginsClock (c : Compiled) (old new : Run) (w next : Writing) : Type 
 
 -- ---- so far
 
--- These bytes of a trace were read, and whatever is left behind them: the lines that ended ask for these requests, and
--- behind those lines stands what was begun of the next one.
+-- These bytes of a trace were read, and whatever is left after them: the lines that ended ask for these requests, and
+-- after those lines stands what was begun of the next one.
 pub record StandsAt (outlines : List Outline) (read : List ℕ) (l : Lines) (qs : List Asking) : Type 0 where
   pub front : List (List ℕ)
   pub lines : (left : List ℕ) → lines_of (read ++ left) ≡ front ++ lines_of (l.held.items ++ left)
@@ -82,9 +82,9 @@ pub record StandsAt (outlines : List Outline) (read : List ℕ) (l : Lines) (qs 
   pub at : bytes_in (length front) front ≡ l.at
   pub long : length read ≡ l.at + length l.held.items
 
-abbrev pub state_behind : List Part → List Row → List Part
-state_behind s [] = s
-state_behind s (row ∷ rows) = state_behind row.after rows
+abbrev pub state_after : List Part → List Row → List Part
+state_after s [] = s
+state_after s (row ∷ rows) = state_after row.after rows
 
 -- so far: these bytes were read, their lines were run from the opening state, and the report of that was put
 pub record HasRun (c : Compiled) (start : Writing) (read : List ℕ) (r : Run) (w : Writing) : Type 0 where
@@ -93,7 +93,7 @@ pub record HasRun (c : Compiled) (start : Writing) (read : List ℕ) (r : Run) (
   pub stands : StandsAt (its_subject c).scheme.elements read r.lines qs
   pub unended : HasNoFeed r.lines.held.items
   pub runs : Runs false (its_subject c).scheme c.schedule qs rows
-  pub state : r.state.parts.items ≡ state_behind (opening (its_subject c).scheme.kinds) rows
+  pub state : r.state.parts.items ≡ state_after (opening (its_subject c).scheme.kinds) rows
   pub put : w ≡ appended (report (its_subject c) rows) start
 
 -- ---- at the end
@@ -117,7 +117,7 @@ module _ (s : Subject) (made : Schedule) (start : Writing) (trace : List ℕ) (w
     pub put : w ≡ appended (report s rows) start
 
   -- a prefix of the report of some first lines was put
-  pub record IsBegun : Type 0 where
+  pub record IsStarted : Type 0 where
     pub front : List (List ℕ)
     pub rest : List (List ℕ)
     pub qs : List Asking
@@ -134,12 +134,12 @@ IsDoneOf c = IsDone (its_subject c) c.schedule
 abbrev pub IsFaultyOf : Compiled → Writing → List ℕ → Writing → ℕ → Type 0
 IsFaultyOf c = IsFaulty (its_subject c) c.schedule
 
-abbrev pub IsBegunOf : Compiled → Writing → List ℕ → Writing → Type 0
-IsBegunOf c = IsBegun (its_subject c) c.schedule
+abbrev pub IsStartedOf : Compiled → Writing → List ℕ → Writing → Type 0
+IsStartedOf c = IsStarted (its_subject c) c.schedule
 
 -- ---- how far was read
 
--- the trace of this name is current, and was read at most to its end, and at most so much room behind its first bad line
+-- the trace of this name is current, and was read at most to its end, and at most so much room after its first bad line
 pub record IsFollowed (outlines : List Outline) (room : ℕ) (trace : List ℕ) (contents : List ℕ → List ℕ) (r : Reading) : Type 0 where
   pub current : current_name r ≡ Some trace
   pub end : bytes_given r ≤ length (contents trace)

@@ -1,6 +1,6 @@
 -- Traces: each line is one clock, and asks for calls of the methods of the top.
 use Rattle.std.specs.Prelude.{◌≤◌, ℕ, zero, suc, ◌+◌, ◌==◌, List, [], ◌∷◌, length, if◌then◌else◌}
-use Rattle.bsv_design.specs.Schemes.{Asking, Outline}
+use Rattle.bsv_design.specs.scheme.Schemes.{Asking, Outline}
 use Rattle.bsv_trace.specs.Lines.{AsksFor}
 
 -- ---- lines
@@ -37,7 +37,7 @@ bytes_in (suc n) (line ∷ lines) = length line + bytes_in n lines
 abbrev pub trace_limit : ℕ
 trace_limit = 67108864
 
--- a line that ends behind so many bytes of the trace asks for this: the trace is within the limit up to there, and what the
+-- a line that ends after so many bytes of the trace asks for this: the trace is within the limit up to there, and what the
 -- line says asks for it
 pub record IsAsked (outlines : List Outline) (end : ℕ) (line : List ℕ) (q : Asking) : Type 0 where
   pub within : end ≤ trace_limit
@@ -47,14 +47,14 @@ pub record IsAsked (outlines : List Outline) (end : ℕ) (line : List ℕ) (q : 
 abbrev pub IsBad : List Outline → ℕ → List ℕ → Type 0
 IsBad outlines end line = (q : Asking) → IsAsked outlines end line q → ⊥
 
--- each of the lines asks for the request of its place, where so many bytes stand before them
+-- each of the lines asks for the request of its place, where so many bytes come before them
 abbrev pub AreAsked : List Outline → ℕ → List (List ℕ) → List Asking → Type 0
 AreAsked outlines start [] [] = Unit {0}
 AreAsked outlines start (line ∷ lines) (q ∷ qs) =
     IsAsked outlines (start + length line) line q × AreAsked outlines (start + length line) lines qs
 AreAsked outlines start _ _ = ⊥
 
--- the first lines ask for these requests, and the line behind them is bad
+-- the first lines ask for these requests, and the line after them is bad
 abbrev pub AreAskedToBad : List Outline → ℕ → List (List ℕ) → List Asking → Type 0
 AreAskedToBad outlines start (line ∷ lines) [] = IsBad outlines (start + length line) line
 AreAskedToBad outlines start (line ∷ lines) (q ∷ qs) =
@@ -65,6 +65,6 @@ AreAskedToBad outlines start [] qs = ⊥
 abbrev pub IsClean : List Outline → List ℕ → List Asking → Type 0
 IsClean outlines trace qs = AreAsked outlines 0 (lines_of trace) qs
 
--- the first bad line of the trace stands behind lines that ask for these requests
+-- the first bad line of the trace comes after lines that ask for these requests
 abbrev pub HasBadLine : List Outline → List ℕ → List Asking → Type 0
 HasBadLine outlines trace qs = AreAskedToBad outlines 0 (lines_of trace) qs

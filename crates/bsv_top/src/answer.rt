@@ -5,7 +5,7 @@ ghost use Rattle.bsv_flow.specs.Sources.{read_limit};
 ghost use Rattle.bsv_flow.specs.declared.refusal.Refusal.{Refusal as TheRefusal};
 ghost use Rattle.bsv_top.specs.Answers.{sim_words};
 ghost use Rattle.bsv_top.specs.Forms.{words_of};
-ghost use Rattle.bsv_top.specs.Outcomes.{AsksNoRun, IsDoneBy, IsUnread, OutputBegun};
+ghost use Rattle.bsv_top.specs.Outcomes.{AsksNoRun, IsDoneBy, IsUnread, OutputStarted};
 ghost use Rattle.bsv_top.specs.Places.{IsTraceWithin, ReadsWithin};
 ghost use Rattle.bsv_top.specs.Stops.{IsStopOf};
 ghost use Rattle.bsv_top.specs.declared.stop.Stop.{Stop as TheStop};
@@ -34,9 +34,9 @@ pub(crate) fn answer<R: Threads + Sync, F: Files, O: Sink>(
         → (F.reading files.old).contents ≡ Some contents
         → IsStopOf (words_of form.entry) contents
         (O.writing out.old) (O.writing out.new) s }
-    ensures begun { (contents : List ℕ → List ℕ)
+    ensures started { (contents : List ℕ → List ℕ)
         → (F.reading files.old).contents ≡ Some contents
-        → OutputBegun (words_of form.entry) contents
+        → OutputStarted (words_of form.entry) contents
         (O.writing out.old) (O.writing out.new) }
     ensures refused { (r : TheRefusal) → result ≡ Err (Stop.Refused r)
         → O.writing out.new ≡ O.writing out.old }

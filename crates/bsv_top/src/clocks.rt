@@ -1,13 +1,13 @@
 ghost use Rattle.std.specs.Prelude.{◌≡◌, ◌≤◌, ◌<◌, ℕ, ◌+◌, ◌++◌, List, length, Err};
 ghost use Rattle.std.specs.Prelude.{IfOk, OnOk, OnErr};
-ghost use Rattle.bsv_design.specs.Schemes.{Asking};
-ghost use Rattle.bsv_flow.specs.Running.{CanRun};
+ghost use Rattle.bsv_design.specs.scheme.Schemes.{Asking};
+ghost use Rattle.bsv_flow.specs.Running.{BelongTogether};
 ghost use Rattle.bsv_io.specs.Faults.{MayFault};
 ghost use Rattle.bsv_io.specs.Writing.{Writing};
 ghost use Rattle.bsv_trace.specs.Lines.{AsksFor};
 ghost use Rattle.bsv_top.specs.Reading.{IsEnded};
 ghost use Rattle.bsv_top.specs.Running.{BeginsClock, EndsLine, FitsRun, HasRun, IsStart};
-ghost use Rattle.bsv_top.specs.Running.{IsBegunOf, IsDoneOf, IsFaultyOf, its_subject};
+ghost use Rattle.bsv_top.specs.Running.{IsStartedOf, IsDoneOf, IsFaultyOf, its_subject};
 ghost use Rattle.bsv_top.specs.Traces.{line_text};
 
 use crate::halt::Halt;
@@ -50,7 +50,7 @@ impl Run {
         compiled: &Compiled,
         out: &mut O,
     ) -> Result<(), Halt>
-        requires compiled { CanRun compiled.now }
+        requires compiled { BelongTogether compiled.now }
         requires fits { FitsRun compiled.now.design self.old }
         requires some { 0 < length self.old.lines.held.items }
         ensures fits { FitsRun compiled.now.design self.new }
@@ -59,7 +59,7 @@ impl Run {
         ensures bad { result ≡ Err Halt.BadLine → (q : Asking)
             → AsksFor (its_subject compiled.now).scheme.elements
             (line_text self.old.lines.held.items) q → ⊥ }
-        ensures begun { result ≡ Err Halt.Unwritable → BeginsClock compiled.now self.old self.new
+        ensures started { result ≡ Err Halt.Unwritable → BeginsClock compiled.now self.old self.new
             (O.writing out.old) (O.writing out.new) }
         ensures unwritable { result ≡ Err Halt.Unwritable
             → MayFault (O.writing out.old).faults (O.writing out.new).faults }
@@ -95,7 +95,7 @@ impl Run {
         bytes: &[u8],
         out: &mut O,
     ) -> Result<(), Halt>
-        requires compiled { CanRun compiled.now }
+        requires compiled { BelongTogether compiled.now }
         requires fits { FitsRun compiled.now.design self.old }
         requires ended { IsEnded bytes.now }
         ensures fits { FitsRun compiled.now.design self.new }
@@ -106,9 +106,9 @@ impl Run {
             → HasRun compiled.now start read self.old (O.writing out.old)
             → IsFaultyOf compiled.now start ((read ++ bytes.now) ++ left) (O.writing out.new)
             (self.new.lines.done + 1) }
-        ensures begun { OnErr result ((start : Writing) (read left : List ℕ)
+        ensures started { OnErr result ((start : Writing) (read left : List ℕ)
             → HasRun compiled.now start read self.old (O.writing out.old)
-            → IsBegunOf compiled.now start ((read ++ bytes.now) ++ left) (O.writing out.new)) }
+            → IsStartedOf compiled.now start ((read ++ bytes.now) ++ left) (O.writing out.new)) }
         ensures long { OnOk result (self.new.lines.at + length self.new.lines.held.items
             ≡ self.old.lines.at + length self.old.lines.held.items + length bytes.now) }
         ensures unwritable { result ≡ Err Halt.Unwritable
@@ -130,7 +130,7 @@ impl Run {
         piece: &[u8],
         out: &mut O,
     ) -> Result<(), Halt>
-        requires compiled { CanRun compiled.now }
+        requires compiled { BelongTogether compiled.now }
         requires fits { FitsRun compiled.now.design self.old }
         ensures fits { FitsRun compiled.now.design self.new }
         ensures ran { OnOk result ((start : Writing) (read : List ℕ)
@@ -140,9 +140,9 @@ impl Run {
             → HasRun compiled.now start read self.old (O.writing out.old)
             → IsFaultyOf compiled.now start ((read ++ piece.now) ++ left) (O.writing out.new)
             (self.new.lines.done + 1) }
-        ensures begun { OnErr result ((start : Writing) (read left : List ℕ)
+        ensures started { OnErr result ((start : Writing) (read left : List ℕ)
             → HasRun compiled.now start read self.old (O.writing out.old)
-            → IsBegunOf compiled.now start ((read ++ piece.now) ++ left) (O.writing out.new)) }
+            → IsStartedOf compiled.now start ((read ++ piece.now) ++ left) (O.writing out.new)) }
         ensures long { OnOk result (self.new.lines.at + length self.new.lines.held.items
             ≡ self.old.lines.at + length self.old.lines.held.items + length piece.now) }
         ensures unwritable { result ≡ Err Halt.Unwritable
@@ -168,7 +168,7 @@ impl Run {
         compiled: &Compiled,
         out: &mut O,
     ) -> Result<(), Halt>
-        requires compiled { CanRun compiled.now }
+        requires compiled { BelongTogether compiled.now }
         requires fits { FitsRun compiled.now.design self.old }
         ensures done { OnOk result ((start : Writing) (trace : List ℕ)
             → HasRun compiled.now start trace self.old (O.writing out.old)
@@ -176,9 +176,9 @@ impl Run {
         ensures bad { result ≡ Err Halt.BadLine → (start : Writing) (trace : List ℕ)
             → HasRun compiled.now start trace self.old (O.writing out.old)
             → IsFaultyOf compiled.now start trace (O.writing out.new) (self.new.lines.done + 1) }
-        ensures begun { (start : Writing) (trace : List ℕ)
+        ensures started { (start : Writing) (trace : List ℕ)
             → HasRun compiled.now start trace self.old (O.writing out.old)
-            → IsBegunOf compiled.now start trace (O.writing out.new) }
+            → IsStartedOf compiled.now start trace (O.writing out.new) }
         ensures unwritable { result ≡ Err Halt.Unwritable
             → MayFault (O.writing out.old).faults (O.writing out.new).faults }
         ensures reads { result ≡ Err Halt.Unreadable → ⊥ }

@@ -1,12 +1,12 @@
 ghost use Rattle.std.specs.Prelude.{◌≡◌, ◌≤◌, ◌<◌, ◌+◌, ℕ, List, [], length, Some, Err};
 ghost use Rattle.std.specs.Prelude.{OnOk, IsSome};
-ghost use Rattle.bsv_design.specs.Schemes.{Asking};
+ghost use Rattle.bsv_design.specs.scheme.Schemes.{Asking};
 ghost use Rattle.bsv_io.specs.Faults.{MayFault};
 ghost use Rattle.bsv_io.specs.Reading.{bytes_given, current_name, rest};
 ghost use Rattle.bsv_io.specs.Writing.{Writing};
-ghost use Rattle.bsv_flow.specs.Running.{CanRun};
+ghost use Rattle.bsv_flow.specs.Running.{BelongTogether};
 ghost use Rattle.bsv_top.specs.Running.{HasRun, IsStart, its_outlines};
-ghost use Rattle.bsv_top.specs.Running.{IsBegunOf, IsDoneOf, IsFaultyOf};
+ghost use Rattle.bsv_top.specs.Running.{IsStartedOf, IsDoneOf, IsFaultyOf};
 ghost use Rattle.bsv_top.specs.Traces.{HasBadLine, bytes_in, lines_of};
 
 use crate::clocks::Run;
@@ -26,7 +26,7 @@ pub(crate) fn run_trace<F: Files, O: Sink>(
     buffer: &mut [u8],
     out: &mut O,
 ) -> Result<(), Halt>
-    requires compiled { CanRun compiled.now }
+    requires compiled { BelongTogether compiled.now }
     requires start { IsStart compiled.now.design run.old }
     requires room { 0 < length buffer.old }
     requires current { IsSome (F.reading files.old).current }
@@ -40,10 +40,10 @@ pub(crate) fn run_trace<F: Files, O: Sink>(
         → HasRun compiled.now start [] run.old (O.writing out.old)
         → rest (F.reading files.old) ≡ Some trace
         → IsFaultyOf compiled.now start trace (O.writing out.new) (run.new.lines.done + 1) }
-    ensures begun { (start : Writing) (trace : List ℕ)
+    ensures started { (start : Writing) (trace : List ℕ)
         → HasRun compiled.now start [] run.old (O.writing out.old)
         → rest (F.reading files.old) ≡ Some trace
-        → IsBegunOf compiled.now start trace (O.writing out.new) }
+        → IsStartedOf compiled.now start trace (O.writing out.new) }
 
     // The causes of the other faults.
     ensures unreadable { result ≡ Err Halt.Unreadable
@@ -52,7 +52,7 @@ pub(crate) fn run_trace<F: Files, O: Sink>(
     ensures unwritable { result ≡ Err Halt.Unwritable
         → MayFault (O.writing out.old).faults (O.writing out.new).faults }
 
-    // The same file is read on to its end at most, and at most one piece behind its first bad line.
+    // The same file is read on to its end at most, and at most one piece after its first bad line.
     ensures current { current_name (F.reading files.new) ≡ current_name (F.reading files.old) }
     ensures end { (trace : List ℕ) → rest (F.reading files.old) ≡ Some trace
         → bytes_given (F.reading files.new) ≤ bytes_given (F.reading files.old) + length trace }

@@ -27,7 +27,7 @@ pub(crate) struct Simulation<'a> {
     pub(crate) trace: &'a str,
 }
 
-/// What the words behind the program's name ask for.
+/// What the words after the program's name ask for.
 #[derive(Clone, Copy)]
 pub(crate) enum Form<'a> {
     Plan(Planning<'a>),
@@ -49,7 +49,7 @@ fn product_of(command: &str) -> Option<Product>
     None
 }
 
-/// The words behind the program's name as a form, where they ask for a schedule or for Verilog.
+/// The words after the program's name as a form, where they ask for a schedule or for Verilog.
 fn planning_of(words: &[String]) -> Option<Planning<'_>>
     ensures form { IfSome result (λ form. map string_bytes words.now ≡ planning_words form) }
     ensures none { IfNone result ((product : TheProduct) (file top : List ℕ)
@@ -66,7 +66,7 @@ fn planning_of(words: &[String]) -> Option<Planning<'_>>
     })
 }
 
-/// The words behind the program's name as a form, where they ask for a simulation.
+/// The words after the program's name as a form, where they ask for a simulation.
 fn simulation_of(words: &[String]) -> Option<Simulation<'_>>
     ensures form { IfSome result (λ form.
         map string_bytes words.now ≡ sim_words form.file.now form.top.now form.trace.now) }

@@ -41,7 +41,7 @@ impl Lines {
         })
     }
 
-    /// Adds bytes to the line that was begun. It is bad where it is too long, or ends behind the limit of
+    /// Adds bytes to the line that was begun. It is bad where it is too long, or ends after the limit of
     /// traces.
     pub(crate) fn gather(&mut self, bytes: &[u8]) -> Result<(), BadLine>
         ensures gathered { OnOk result (self.new.held.items ≡ self.old.held.items ++ bytes.now) }
@@ -78,7 +78,7 @@ impl Lines {
     }
 }
 
-/// How many bytes stand before the first line feed, or in all where there is none.
+/// How many bytes come before the first line feed, or in all where there is none.
 fn unended_len(bytes: &[u8]) -> usize
     ensures value { result ≡ prefix_len (λ byte. not (byte == 10)) bytes.now }
     ensures within { result ≤ length bytes.now }
@@ -86,7 +86,7 @@ fn unended_len(bytes: &[u8]) -> usize
     bytes.iter().take_while(|byte| **byte != b'\n').count()
 }
 
-/// The bytes up to the first line feed, and those behind it, where there is one.
+/// The bytes up to the first line feed, and those after it, where there is one.
 pub(crate) fn first_line(bytes: &[u8]) -> Option<(&[u8], &[u8])>
     ensures line { IfSome result (λ parts. IsFirstLine bytes.now parts.0.now parts.1.now) }
     ensures none { IfNone result (HasNoFeed bytes.now) }

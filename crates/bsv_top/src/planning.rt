@@ -5,7 +5,7 @@ ghost use Rattle.bsv_io.specs.Writing.{appended, AppendsPrefix};
 ghost use Rattle.bsv_flow.specs.Sources.{read_limit};
 ghost use Rattle.bsv_flow.specs.declared.refusal.Refusal.{Refusal as TheRefusal};
 ghost use Rattle.bsv_top.specs.Forms.{planning_words};
-ghost use Rattle.bsv_top.specs.Outcomes.{IsDoneBy, IsUnread, OutputBegun};
+ghost use Rattle.bsv_top.specs.Outcomes.{IsDoneBy, IsUnread, OutputStarted};
 ghost use Rattle.bsv_top.specs.Products.{product_text};
 ghost use Rattle.bsv_top.specs.Stops.{IsStopOf};
 ghost use Rattle.bsv_top.specs.declared.stop.Stop.{Stop as TheStop};
@@ -51,9 +51,9 @@ pub(crate) fn plan<R: Threads + Sync, F: Files, O: Sink>(
         → (F.reading files.old).contents ≡ Some contents
         → IsStopOf (planning_words form.entry) contents
         (O.writing out.old) (O.writing out.new) s }
-    ensures begun { (contents : List ℕ → List ℕ)
+    ensures started { (contents : List ℕ → List ℕ)
         → (F.reading files.old).contents ≡ Some contents
-        → OutputBegun (planning_words form.entry) contents
+        → OutputStarted (planning_words form.entry) contents
         (O.writing out.old) (O.writing out.new) }
     ensures refused { (r : TheRefusal) → result ≡ Err (Stop.Refused r)
         → O.writing out.new ≡ O.writing out.old }

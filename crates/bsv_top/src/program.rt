@@ -3,21 +3,21 @@ ghost use Rattle.bsv_io.specs.Faults.{MayFault};
 ghost use Rattle.bsv_io.specs.InMemory.{contents_of};
 ghost use Rattle.bsv_io.specs.Reading.{bytes_given};
 ghost use Rattle.bsv_io.specs.Sure.{NoFault};
-ghost use Rattle.bsv_io.specs.Writing.{appended, count_behind};
+ghost use Rattle.bsv_io.specs.Writing.{appended, count_after};
 ghost use Rattle.bsv_top.specs.Answers.{Answer, HasAnswer, HasNoForm, no_memory_line, printed};
 ghost use Rattle.bsv_top.specs.Answers.{schedule_words, sim_words, verilog_words};
-ghost use Rattle.bsv_design.specs.Schemes.{Asking, tree_scheme};
-ghost use Rattle.bsv_design.specs.Trees.{Hierarchy};
+ghost use Rattle.bsv_design.specs.scheme.Schemes.{Asking, tree_scheme};
+ghost use Rattle.bsv_design.specs.tree.Trees.{TreeData};
 ghost use Rattle.bsv_design.specs.declared.schedule.Schedule.{Schedule as TheSchedule};
 ghost use Rattle.bsv_flow.specs.Compilings.{IsPlanned};
 ghost use Rattle.bsv_flow.specs.Schedulings.{IsVerilogOf};
 ghost use Rattle.bsv_flow.specs.Sources.{read_limit};
-ghost use Rattle.bsv_vtext.specs.Signals.{Contents};
+ghost use Rattle.bsv_vtext.specs.Signals.{VModuleData};
 ghost use Rattle.bsv_vtext.specs.VText.{vtext};
 ghost use Rattle.bsv_top.specs.OneAnswer.{AsksNoVerilog, HaveModules, IsSameText, LayOut};
 ghost use Rattle.bsv_top.specs.Counts.{CountsAnswer};
-ghost use Rattle.bsv_top.specs.Outcomes.{Answered, AsksNoRun, IsDecided, IsFault, OutputBegun};
-ghost use Rattle.bsv_top.specs.Outcomes.{TextBegun, Unreadable};
+ghost use Rattle.bsv_top.specs.Outcomes.{Answered, AsksNoRun, IsDecided, IsFault, OutputStarted};
+ghost use Rattle.bsv_top.specs.Outcomes.{TextStarted, Unreadable};
 ghost use Rattle.bsv_top.specs.Places.{IsTraceWithin, ReadsWithin};
 ghost use Rattle.bsv_top.specs.LaidOut.{IsLaidOut};
 ghost use Rattle.bsv_top.specs.Traces.{IsClean};
@@ -31,11 +31,11 @@ use bsv_io::{Files, Sink, SureFiles, SureSink};
 use std::alloc::Global;
 use std::thread::Threads;
 
-/// Does all that the program does. `words` are those behind the program's name, `files` are read,
+/// Does all that the program does. `words` are those after the program's name, `files` are read,
 /// the output goes to `out`, and a fault text of one line to `err`. The answer is the exit status.
 ///
 /// The clauses that begin with `contents` speak of a source of files that tells its contents.
-/// Want of memory may come at any point; of a run over a trace also behind the lines of a clock, of which
+/// Want of memory may come at any point; of a run over a trace also after the lines of a clock, of which
 /// there are then no more.
 pub fn run<R: Threads + Sync, F: Files, O: Sink, E: Sink>(
     rt: &R,
@@ -58,10 +58,10 @@ pub fn run<R: Threads + Sync, F: Files, O: Sink, E: Sink>(
 
     // At every status a prefix of an answer's output and of a fault text is put.
     ensures output { (contents : List ℕ → List ℕ) → (F.reading files.old).contents ≡ Some contents
-        → OutputBegun (map string_bytes words.now) contents (O.writing out.old)
+        → OutputStarted (map string_bytes words.now) contents (O.writing out.old)
         (O.writing out.new) }
     ensures text { (contents : List ℕ → List ℕ) → (F.reading files.old).contents ≡ Some contents
-        → TextBegun (map string_bytes words.now) contents (E.writing err.old) (E.writing err.new) }
+        → TextStarted (map string_bytes words.now) contents (E.writing err.old) (E.writing err.new) }
 
     // Nothing at all is put to the output where a file is refused; and nothing where memory is wanting, but by
     // a run: it may want memory when it has begun, and then it put a prefix of an answer's output, as above.
@@ -72,8 +72,8 @@ pub fn run<R: Threads + Sync, F: Files, O: Sink, E: Sink>(
     ensures no_output { result ≡ Status.OutOfMemory → AsksNoRun (map string_bytes words.now)
         → O.writing out.new ≡ O.writing out.old }
 
-    // No source is read on behind one byte more than it may have; where the trace was run, it was read
-    // at most one piece behind its first bad line.
+    // No source is read on after one byte more than it may have; where the trace was run, it was read
+    // at most one piece after its first bad line.
     ensures sources_within { AsksNoRun (map string_bytes words.now)
         → read_limit < bytes_given (F.reading files.new)
         → (F.reading files.new).current ≡ (F.reading files.old).current }
@@ -140,7 +140,7 @@ pub fn run_surely<R: Threads + Sync>(
     ensures answer { IsDecided result → CountsAnswer (map string_bytes words.now)
         (contents_of files.old.files) result out.old out.new err.old err.new }
     ensures no_memory { result ≡ Status.OutOfMemory
-        → err.new ≡ count_behind no_memory_line err.old }
+        → err.new ≡ count_after no_memory_line err.old }
 {
     run(rt, alloc, words, files, out, err)
 }
@@ -172,14 +172,14 @@ pub fn one_answer()
         → Answer words contents status output text → Answer words contents other more said
         → IsSameText text said }
     ensures planned { (contents : List ℕ → List ℕ) (file top : List ℕ)
-        (tree : Hierarchy) (made : TheSchedule) → IsPlanned file contents top tree made
+        (tree : TreeData) (made : TheSchedule) → IsPlanned file contents top tree made
         → Answer (schedule_words file top) contents Status.Done (printed tree made) [] }
     ensures verilog { (contents : List ℕ → List ℕ) (file top : List ℕ)
-        (tree : Hierarchy) (made : TheSchedule) (v : Contents)
+        (tree : TreeData) (made : TheSchedule) (v : VModuleData)
         → IsPlanned file contents top tree made → IsVerilogOf tree made v
         → Answer (verilog_words file top) contents Status.Done (vtext v) [] }
     ensures simulated { (contents : List ℕ → List ℕ) (file top trace : List ℕ)
-        (tree : Hierarchy) (made : TheSchedule) (qs : List Asking)
+        (tree : TreeData) (made : TheSchedule) (qs : List Asking)
         → IsPlanned file contents top tree made → IsLaidOut tree
         → IsClean (tree_scheme tree).elements (contents trace) qs
         → (output : List ℕ) × Answer (sim_words file top trace) contents Status.Done output [] }

@@ -2,12 +2,12 @@ ghost use Rattle.std.specs.Prelude.{◌≡◌, ◌⊎◌, ℕ, ◌+◌, ◌<◌,
 ghost use Rattle.std.specs.Prelude.{OnOk};
 ghost use Rattle.bsv_io.specs.Faults.{MayFault};
 ghost use Rattle.bsv_io.specs.Reading.{bytes_given};
-ghost use Rattle.bsv_flow.specs.Running.{CanRun};
+ghost use Rattle.bsv_flow.specs.Running.{BelongTogether};
 ghost use Rattle.bsv_flow.specs.declared.refusal.Refusal.{Refusal as TheRefusal};
 ghost use Rattle.bsv_top.specs.Answers.{sim_words};
-ghost use Rattle.bsv_top.specs.Outcomes.{IsDoneBy, IsUnread, OutputBegun};
+ghost use Rattle.bsv_top.specs.Outcomes.{IsDoneBy, IsUnread, OutputStarted};
 ghost use Rattle.bsv_top.specs.Places.{IsTraceWithin, ReadsWithin, piece_limit};
-ghost use Rattle.bsv_top.specs.Running.{IsStart, IsBegunOf, IsDoneOf, IsFaultyOf};
+ghost use Rattle.bsv_top.specs.Running.{IsStart, IsStartedOf, IsDoneOf, IsFaultyOf};
 ghost use Rattle.bsv_top.specs.Running.{Follows, IsFollowed, its_outlines};
 ghost use Rattle.bsv_top.specs.Stops.{IsStopOf, stop_for};
 ghost use Rattle.bsv_top.specs.declared.halt.Halt.TheVariants as halt;
@@ -35,7 +35,7 @@ fn put_report<F: Files, O: Sink>(
     buffer: &mut [u8],
     out: &mut O,
 ) -> Result<(), Halt>
-    requires compiled { CanRun compiled.now }
+    requires compiled { BelongTogether compiled.now }
     requires start { IsStart compiled.now.design run.old }
     requires room { 0 < length buffer.old }
     ensures done { OnOk result ((contents : List ℕ → List ℕ)
@@ -45,9 +45,9 @@ fn put_report<F: Files, O: Sink>(
         → (F.reading files.old).contents ≡ Some contents
         → IsFaultyOf compiled.now (O.writing out.old) (contents name) (O.writing out.new)
         (run.new.lines.done + 1) }
-    ensures begun { (contents : List ℕ → List ℕ)
+    ensures started { (contents : List ℕ → List ℕ)
         → (F.reading files.old).contents ≡ Some contents
-        → IsBegunOf compiled.now (O.writing out.old) (contents name) (O.writing out.new) }
+        → IsStartedOf compiled.now (O.writing out.old) (contents name) (O.writing out.new) }
     ensures unreadable { result ≡ Err Halt.Unreadable
         → MayFault (F.reading files.old).faults (F.reading files.new).faults
         × ((F.reading files.new).blamed ≡ Some name) }
@@ -95,7 +95,7 @@ fn run_over<F: Files, O: Sink>(
     trace: &str,
     out: &mut O,
 ) -> Result<(), Stop>
-    requires { CanRun compiled.now }
+    requires { BelongTogether compiled.now }
     ensures done { OnOk result ((contents : List ℕ → List ℕ)
         → (F.reading files.old).contents ≡ Some contents
         → IsDoneOf compiled.now (O.writing out.old) (contents trace.now) (O.writing out.new)) }
@@ -103,9 +103,9 @@ fn run_over<F: Files, O: Sink>(
         → (F.reading files.old).contents ≡ Some contents
         → IsFaultyOf compiled.now (O.writing out.old) (contents trace.now) (O.writing out.new)
         number }
-    ensures begun { (contents : List ℕ → List ℕ)
+    ensures started { (contents : List ℕ → List ℕ)
         → (F.reading files.old).contents ≡ Some contents
-        → IsBegunOf compiled.now (O.writing out.old) (contents trace.now) (O.writing out.new) }
+        → IsStartedOf compiled.now (O.writing out.old) (contents trace.now) (O.writing out.new) }
     ensures own { (r : TheRefusal) → result ≡ Err (Stop.Refused r) → ⊥ }
     ensures unread { (name : List ℕ) → result ≡ Err (Stop.Unread name) → (name ≡ trace.now)
         × MayFault (F.reading files.old).faults (F.reading files.new).faults
@@ -156,9 +156,9 @@ pub(crate) fn simulate<R: Threads + Sync, F: Files, O: Sink>(
         → (F.reading files.old).contents ≡ Some contents
         → IsStopOf (sim_words form.entry.file.now form.entry.top.now form.entry.trace.now) contents
         (O.writing out.old) (O.writing out.new) s }
-    ensures begun { (contents : List ℕ → List ℕ)
+    ensures started { (contents : List ℕ → List ℕ)
         → (F.reading files.old).contents ≡ Some contents
-        → OutputBegun (sim_words form.entry.file.now form.entry.top.now form.entry.trace.now)
+        → OutputStarted (sim_words form.entry.file.now form.entry.top.now form.entry.trace.now)
         contents (O.writing out.old) (O.writing out.new) }
     ensures refused { (r : TheRefusal) → result ≡ Err (Stop.Refused r)
         → O.writing out.new ≡ O.writing out.old }

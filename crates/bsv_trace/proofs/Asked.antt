@@ -3,8 +3,8 @@ use Rattle.std.proofs.Common.{◌≡◌, ◌∙◌, ◌⊎◌, inl, inr, ℕ, Li
 use Rattle.std.specs.List.{list_all}
 use Rattle.bsv_design.specs.declared.design.Design.{Design}
 use Rattle.bsv_design.specs.declared.element.Element.{Element}
-use Rattle.bsv_design.specs.Schemes.{Asking, Outline, outline}
-use Rattle.bsv_design.specs.States.{methods_in, nothing_asked, AskingFits}
+use Rattle.bsv_design.specs.scheme.Schemes.{Asking, Outline, outline}
+use Rattle.bsv_design.specs.scheme.States.{methods_in, nothing_asked, AskingFits}
 use Rattle.bsv_design.proofs.Asked.{nothing_fits}
 use Rattle.bsv_trace.specs.Lines.{AreMethods, AsksFor, methods_among, nothing_of}
 use Rattle.bsv_trace.specs.Reading.{HasPlaces, ports_fit, read}

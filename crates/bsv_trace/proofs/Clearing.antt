@@ -5,8 +5,8 @@ use Rattle.std.proofs.lemmas.Option.{slice_get_within}
 use Rattle.bsv_lemmas.proofs.Places.{mapped_at}
 use Rattle.bsv_bits.specs.Words.{Bits, zero_word}
 use Rattle.bsv_design.specs.declared.element.Port.{Port}
-use Rattle.bsv_design.specs.Schemes.{Asking, Outline}
-use Rattle.bsv_design.specs.States.{zeros}
+use Rattle.bsv_design.specs.scheme.Schemes.{Asking, Outline}
+use Rattle.bsv_design.specs.scheme.States.{zeros}
 use Rattle.bsv_trace.specs.Lines.{nothing_of}
 use Rattle.bsv_trace.specs.Reading.{HasPlaces}
 use Rattle.bsv_trace.proofs.Filling.{filled, fill_more, filled_at, length-filled}

@@ -12,8 +12,8 @@ use Rattle.bsv_lemmas.proofs.Places.{item_there}
 use Rattle.bsv_lemmas.proofs.Truths.{both_right, both_left}
 use Rattle.bsv_bits.specs.Words.{Bits}
 use Rattle.bsv_design.specs.declared.element.Port.{Port}
-use Rattle.bsv_design.specs.Schemes.{Asking, Outline, ports_of}
-use Rattle.bsv_design.specs.Widths.{port_fits}
+use Rattle.bsv_design.specs.scheme.Schemes.{Asking, Outline, ports_of}
+use Rattle.bsv_design.specs.design.Widths.{port_fits}
 use Rattle.bsv_trace.specs.declared.number.Base.{Base}
 use Rattle.bsv_trace.specs.declared.number.Base.TheVariants as base
 use Rattle.bsv_trace.specs.Lines.{IsArgument, AreArguments, MethodCall, IsCall, AreCalls, AreMethods, methods_among, in_name, asked_with, asked_with_all}
@@ -22,12 +22,12 @@ use Rattle.bsv_trace.specs.Numbers.{IsNumber, decimal, hexadecimal}
 use Rattle.bsv_trace.specs.Reading as spec
 use Rattle.bsv_trace.specs.Reading.{HasPlaces, radix, is_digit, fitting, word_of, with_rest, digits, argument}
 use Rattle.bsv_trace.proofs.Places.{words_at, length_args}
-use Rattle.bsv_trace.proofs.Pieces.{front_len, behind_mark, call_text, led, join_first, take_placed}
+use Rattle.bsv_trace.proofs.Pieces.{front_len, after_mark, call_text, led, join_first, take_placed}
 use Rattle.bsv_trace.proofs.Sound.{is_asked, AreFresh, call_places}
 
 -- ---- numbers
 
--- a byte that may stand behind an argument
+-- a byte that may come after an argument
 record EndsNumber (mark : ℕ) : Type 0 where
   no_digit : (b : Base) → is_digit b mark ≡ false
   no_x : (mark == 120) ≡ false
@@ -126,7 +126,7 @@ argument_led p w text pieces rest fits is =
     subst P (sym ends.3) (argument_complete p w text ends.1 ends.0 ends.2 fits is)
 
 closed_complete : (rest : List ℕ) (old : List Bits) → spec.closed old (spec.behind 41 (41 ∷ rest)) ≡ Some (old, rest)
-closed_complete rest old = ap (spec.closed old) (behind_mark 41 rest)
+closed_complete rest old = ap (spec.closed old) (after_mark 41 rest)
 
 more_complete : (ps : List Port) (place : ℕ) (pieces : List (List ℕ)) (ws old : List Bits) (rest : List ℕ) → IsTrue (list_all port_fits ps) → length old ≡ length ps + place → AreArguments ps pieces ws
     → spec.more_arguments ps place (led 44 pieces ++ 41 ∷ rest) old ≡ Some (take place old ++ ws, rest)
@@ -142,7 +142,7 @@ more_complete (p ∷ ps) place (t ∷ pieces) (w ∷ ws) old rest fit long each 
     let below : place < length old = omega arith in
     let same : length (slice_set old place w) ≡ length old = length-set old place w in
     ap (λ l. spec.onward further (spec.next_argument p.width (spec.behind 44 (44 ∷ l)) place old)) (append_assoc t (led 44 pieces) (41 ∷ rest))
-    ∙ ap (λ o. spec.onward further (spec.next_argument p.width o place old)) (behind_mark 44 (t ++ others))
+    ∙ ap (λ o. spec.onward further (spec.next_argument p.width o place old)) (after_mark 44 (t ++ others))
     ∙ ap (λ o. spec.onward further (spec.placed place old o)) (argument_led p w t pieces rest (both_left (port_fits p) _ fit) each.0)
     ∙ more_complete ps (place + 1) pieces ws (slice_set old place w) rest (both_right (port_fits p) _ fit) (omega (arith, same)) each.1
     ∙ ap (λ l. Some (l ++ ws, rest)) (ap (λ n. take n (slice_set old place w)) (add-one place) ∙ take_placed old place w below)
@@ -217,7 +217,7 @@ module _ (outlines : List Outline) (right : AreMethods outlines) where
       ∙ ap (λ k. spec.call_named methods (take k bytes) (spec.behind 40 (drop k bytes)) q) n
       ∙ ap (λ l. spec.call_named methods l (spec.behind 40 (drop (length e.name) bytes)) q) (take-append_seam e.name (40 ∷ after))
       ∙ ap (λ l. spec.call_named methods e.name (spec.behind 40 l) q) (drop-append_seam e.name (40 ∷ after))
-      ∙ ap (λ o. spec.call_named methods e.name o q) (behind_mark 40 after)
+      ∙ ap (λ o. spec.call_named methods e.name o q) (after_mark 40 after)
       ∙ ap (λ o. spec.call_if methods o after q) (named_complete methods c.method 0 e (λ m d there same. right.apart m c.method d e there is.at same) is.at ∙ ap (λ k. Some k) (zero-add c.method))
       ∙ call_of_complete q c e is.pieces rest has is.at is.arguments free
 

@@ -2,7 +2,7 @@
 use Rattle.std.proofs.Common.{◌≡◌, ◌∙◌, ℕ, zero, suc, ◌+◌, ◌≤◌, List, [], ◌∷◌, ◌++◌, length, take, drop, slice_get, slice_set, Some, refl, sym, ap, add-one, arith}
 
 module _ {A : Type 0} where
-  -- so many items of the one, and behind them those of the other
+  -- so many items of the one, and after them those of the other
   abbrev pub filled : ℕ → List A → List A → List A
   filled n new old = take n new ++ drop n old
 

@@ -1,7 +1,7 @@
 -- Calls of different methods: none is asked before it.
 use Rattle.std.proofs.Common.{◌≡◌, ◌≢◌, ◌∙◌, ℕ, zero, suc, Bool, true, false, List, [], ◌∷◌, slice_get, slice_set, Some, unwrap_or, refl, sym, ap}
 use Rattle.bsv_lemmas.proofs.Places.{mapped_at}
-use Rattle.bsv_design.specs.Schemes.{Asking, Outline}
+use Rattle.bsv_design.specs.scheme.Schemes.{Asking, Outline}
 use Rattle.bsv_trace.specs.Lines.{MethodCall, AreCalls, CallsNot, AreApart, asked_with, nothing_of}
 use Rattle.bsv_trace.proofs.Sound.{is_asked, AreFresh}
 

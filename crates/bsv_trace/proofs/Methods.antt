@@ -4,9 +4,9 @@ use Rattle.std.proofs.lemmas.List.{length-map}
 use Rattle.std.proofs.lemmas.Simd.{map-map}
 use Rattle.bsv_bits.specs.Words.{Bits}
 use Rattle.bsv_design.specs.declared.element.Element.{Element}
-use Rattle.bsv_design.specs.Roles.{is_rule}
-use Rattle.bsv_design.specs.Schemes.{Asking, Outline, outline}
-use Rattle.bsv_design.specs.States.{methods_in, nothing_asked, zeros, FitMethods, AskingFits}
+use Rattle.bsv_design.specs.tree.Roles.{is_rule}
+use Rattle.bsv_design.specs.scheme.Schemes.{Asking, Outline, outline}
+use Rattle.bsv_design.specs.scheme.States.{methods_in, nothing_asked, zeros, FitMethods, AskingFits}
 use Rattle.bsv_trace.specs.Lines.{methods_among, nothing_of}
 use Rattle.bsv_trace.specs.Reading.{HasPlaces}
 use Rattle.bsv_design.proofs.Elements.{length-words}

@@ -36,21 +36,21 @@ by_mark : (xs rest : List ℕ) (t : Bool) → ◌≡◌ {A = Option (List ℕ)} 
 by_mark xs rest true e = (refl, cc)
 by_mark xs rest false e = absurd cc
 
-pub behind_is : (mark : ℕ) (bytes rest : List ℕ) → behind mark bytes ≡ Some rest → bytes ≡ mark ∷ rest
-behind_is mark [] rest e = absurd cc
-behind_is mark (b ∷ bytes) rest e =
+pub after_is : (mark : ℕ) (bytes rest : List ℕ) → behind mark bytes ≡ Some rest → bytes ≡ mark ∷ rest
+after_is mark [] rest e = absurd cc
+after_is mark (b ∷ bytes) rest e =
     let both = by_mark bytes rest (b == mark) e in
     let same : b ≡ mark = grind (arith, both.0) in
     cc
 
-pub behind_mark : (mark : ℕ) (rest : List ℕ) → behind mark (mark ∷ rest) ≡ Some rest
-behind_mark mark rest =
+pub after_mark : (mark : ℕ) (rest : List ℕ) → behind mark (mark ∷ rest) ≡ Some rest
+after_mark mark rest =
     let same : (mark == mark) ≡ true = grind arith in
     ap (λ b. if b then Some rest else None) same
 
 -- ---- pieces with a byte between each two
 
--- each piece behind the byte
+-- each piece after the byte
 abbrev pub led : ℕ → List (List ℕ) → List ℕ
 led mark [] = []
 led mark (t ∷ ts) = (mark ∷ t) ++ led mark ts

@@ -1,11 +1,11 @@
--- The places of requests: which method and which words stand at one, and what keeps them.
+-- The places of requests: which method and which words are at one, and what keeps them.
 use Rattle.std.proofs.Common.{◌≡◌, ◌∙◌, ℕ, zero, suc, ◌<◌, Bool, true, false, List, [], ◌∷◌, map, length, get_or, slice_get, slice_set, Option, Some, None, unwrap_or, refl, sym, ap, arith, length-set}
 use Rattle.std.proofs.lemmas.List.{get_or_default, length-map}
 use Rattle.std.proofs.lemmas.Option.{slice_get_read, unwrap_or-slice_get}
 use Rattle.bsv_lemmas.proofs.Places.{mapped_at}
 use Rattle.bsv_bits.specs.Words.{Bits}
 use Rattle.bsv_design.specs.declared.element.Element.{Element}
-use Rattle.bsv_design.specs.Schemes.{Asking, Outline, outline}
+use Rattle.bsv_design.specs.scheme.Schemes.{Asking, Outline, outline}
 use Rattle.bsv_trace.specs.Lines.{asked_with}
 use Rattle.bsv_trace.specs.Reading.{HasPlaces, arguments, call_of}
 use Rattle.bsv_trace.specs.Reading as spec

@@ -7,7 +7,7 @@ use Rattle.bsv_bits.specs.Words.{Bits}
 use Rattle.bsv_bits.specs.Constants.{constant_text}
 use Rattle.bsv_trace.specs.Texts.{word_text, words_from}
 
--- the words from a place on begin with the one that stands there
+-- the words from a place on begin with the one that is there
 pub words_here : (words : List Bits) (number : ℕ) (word : Bits) → slice_get words number ≡ Some word
     → words_from number (drop number words) ≡ word_text number word ++ words_from (number + 1) (drop (number + 1) words)
 words_here words number word at = ap (words_from number) (drop_one words number word at)
@@ -27,14 +27,14 @@ no_words (w ∷ words) (suc number) up = later words number (suc number) (omega 
 not_first : (number : ℕ) → ((number + 1) == 0) ≡ false
 not_first number = grind (arith, nat_tests)
 
-joined_behind : (number : ℕ) (word : Bits) (words : List Bits) → word_text (number + 1) word ++ words_from (number + 1 + 1) words ≡ 32 ∷ join_with_byte 32 (map constant_text (word ∷ words))
-joined_behind number word [] =
+joined_after : (number : ℕ) (word : Bits) (words : List Bits) → word_text (number + 1) word ++ words_from (number + 1 + 1) words ≡ 32 ∷ join_with_byte 32 (map constant_text (word ∷ words))
+joined_after number word [] =
     append-nil (word_text (number + 1) word) ∙ ap (λ t. if t then constant_text word else codes " " ++ constant_text word) (not_first number)
-joined_behind number word (next ∷ words) =
+joined_after number word (next ∷ words) =
     ap (λ t. (if t then constant_text word else codes " " ++ constant_text word) ++ words_from (number + 1 + 1) (next ∷ words)) (not_first number)
-    ∙ ap (λ l. (codes " " ++ constant_text word) ++ l) (joined_behind (number + 1) next words)
+    ∙ ap (λ l. (codes " " ++ constant_text word) ++ l) (joined_after (number + 1) next words)
 
 pub words_joined : (words : List Bits) → words_from 0 words ≡ join_with_byte 32 (map constant_text words)
 words_joined [] = refl
 words_joined (word ∷ []) = append-nil (constant_text word)
-words_joined (word ∷ next ∷ words) = ap (λ l. constant_text word ++ l) (joined_behind 0 next words)
+words_joined (word ∷ next ∷ words) = ap (λ l. constant_text word ++ l) (joined_after 0 next words)

@@ -14,12 +14,12 @@ use Rattle.bsv_design.specs.declared.element.Element.{Element}
 use Rattle.bsv_design.specs.declared.element.Port.{Port}
 use Rattle.bsv_design.specs.declared.element.Role.{Role}
 use Rattle.bsv_design.specs.declared.element.Role.TheVariants as role
-use Rattle.bsv_design.specs.Designs.{Blueprint, IsDesign, IsNamed}
-use Rattle.bsv_design.specs.Roles.{is_rule}
-use Rattle.bsv_design.specs.Schemes.{Asking, Outline, outline}
-use Rattle.bsv_design.specs.Seen.{blueprint}
-use Rattle.bsv_design.specs.States.{methods_in, nothing_asked, AreWordsOf, FitMethods, AskingFits}
-use Rattle.bsv_design.specs.Widths.{port_fits}
+use Rattle.bsv_design.specs.design.Designs.{DesignData, IsDesign, IsNamed}
+use Rattle.bsv_design.specs.tree.Roles.{is_rule}
+use Rattle.bsv_design.specs.scheme.Schemes.{Asking, Outline, outline}
+use Rattle.bsv_design.specs.tree.Seen.{design_data}
+use Rattle.bsv_design.specs.scheme.States.{methods_in, nothing_asked, AreWordsOf, FitMethods, AskingFits}
+use Rattle.bsv_design.specs.design.Widths.{port_fits}
 use Rattle.bsv_trace.specs.Lines.{AreArguments, MethodCall, AreCalls, IsMethod, AreMethods, AsksFor, methods_among, in_name, nothing_of, asked_with, asked_with_all}
 use Rattle.bsv_trace.specs.Reading.{ports_fit}
 use Rattle.bsv_trace.proofs.Methods.{methods_outlined, nothing_outlined}
@@ -71,7 +71,7 @@ method_name role.ActionValue text acts named = lower_in_name text named
 
 -- ---- designs
 
-pub design_methods : (b : Blueprint) → IsDesign b → AreMethods (map outline b.elements)
+pub design_methods : (b : DesignData) → IsDesign b → AreMethods (map outline b.elements)
 design_methods b d = record {
   apart = λ m n o p at_o at_p same.
       let first = method_at b.elements m o at_o in
@@ -86,7 +86,7 @@ design_methods b d = record {
 }
 
 pub readable : (d : Design) → AreMethods (map outline d.elements)
-readable d = ∥∥₁_elim d.right (hlevel (Bool-set, ℕ_set)) (design_methods (blueprint d))
+readable d = ∥∥₁_elim d.right (hlevel (Bool-set, ℕ_set)) (design_methods (design_data d))
 
 -- the arguments of each of these have 1 to 128 bits
 abbrev PortsFit : List Outline → Type 0

@@ -9,7 +9,7 @@ use Rattle.std.proofs.lemmas.Slice.Eq.{bytes_eq-Decides}
 use Rattle.bsv_lemmas.proofs.Places.{item_there}
 use Rattle.bsv_bits.specs.Words.{Bits}
 use Rattle.bsv_design.specs.declared.element.Port.{Port}
-use Rattle.bsv_design.specs.Schemes.{Asking, Outline, ports_of}
+use Rattle.bsv_design.specs.scheme.Schemes.{Asking, Outline, ports_of}
 use Rattle.bsv_trace.specs.declared.number.Base.{Base}
 use Rattle.bsv_trace.specs.declared.number.Base.TheVariants as base
 use Rattle.bsv_trace.specs.Lines.{IsArgument, AreArguments, MethodCall, IsCall, AreCalls, in_name, asked_with, asked_with_all}
@@ -18,7 +18,7 @@ use Rattle.bsv_trace.specs.Numbers.{IsNumber, decimal, hexadecimal}
 use Rattle.bsv_trace.specs.Reading as spec
 use Rattle.bsv_trace.specs.Reading.{HasPlaces, radix, is_digit, fitting, word_of, with_rest, digits, argument}
 use Rattle.bsv_trace.proofs.Places.{words_at, length_args, with_call}
-use Rattle.bsv_trace.proofs.Pieces.{all_in_front, behind_is, call_text, led, join_first, take_placed}
+use Rattle.bsv_trace.proofs.Pieces.{all_in_front, after_is, call_text, led, join_first, take_placed}
 
 -- ---- numbers
 
@@ -111,7 +111,7 @@ argument_sound p (x ∷ y ∷ bytes) rest w e = by_base p x y bytes rest w ((x =
 
 -- ---- arguments
 
--- arguments behind their commas, and the bracket that closes the call
+-- arguments after their commas, and the bracket that closes the call
 record MoreRead (ps : List Port) (place : ℕ) (bytes rest : List ℕ) (old new : List Bits) : Type 0 where
   pieces : List (List ℕ)
   words : List Bits
@@ -125,7 +125,7 @@ closed_sound bytes rest old new (Some left) read e =
     let both : ◌≡◌ {A = List Bits × List ℕ} (old, left) (new, rest) = cc in
     let words : old ≡ new = ap (λ (pair : List Bits × List ℕ). pair.0) both in
     let text : left ≡ rest = ap (λ (pair : List Bits × List ℕ). pair.1) both in
-    (behind_is 41 bytes rest (read ∙ ap (λ l. Some l) text), sym words)
+    (after_is 41 bytes rest (read ∙ ap (λ l. Some l) text), sym words)
 
 more_sound : (ps : List Port) (place : ℕ) (bytes rest : List ℕ) (old new : List Bits) → length old ≡ length ps + place
     → spec.more_arguments ps place bytes old ≡ Some (new, rest) → MoreRead ps place bytes rest old new
@@ -134,11 +134,11 @@ more_sound [] place bytes rest old new long e =
     record { pieces = []; words = []; each = tt; is = both.0; new_is = both.1 ∙ sym (take_all place old (omega arith)) ∙ sym (append-nil (take place old)) }
 more_sound (p ∷ ps) place bytes rest old new long e = by_comma (spec.behind 44 bytes) refl e (λ mid words same. more_sound ps (place + 1) mid rest words new (omega (arith, same)))
   where
-    behind_comma : (mid : List ℕ) (o : Option (Bits × List ℕ)) → bytes ≡ 44 ∷ mid → argument p.width mid ≡ o → spec.onward (spec.more_arguments ps (place + 1)) (spec.placed place old o) ≡ Some (new, rest)
+    after_comma : (mid : List ℕ) (o : Option (Bits × List ℕ)) → bytes ≡ 44 ∷ mid → argument p.width mid ≡ o → spec.onward (spec.more_arguments ps (place + 1)) (spec.placed place old o) ≡ Some (new, rest)
         → ((mid : List ℕ) (words : List Bits) → length words ≡ length old → spec.more_arguments ps (place + 1) mid words ≡ Some (new, rest) → MoreRead ps (place + 1) mid rest words new)
         → MoreRead (p ∷ ps) place bytes rest old new
-    behind_comma mid None comma read e others = absurd cc
-    behind_comma mid (Some found) comma read e others =
+    after_comma mid None comma read e others = absurd cc
+    after_comma mid (Some found) comma read e others =
         let first = argument_sound p mid found.1 found.0 read in
         let more = others found.1 (slice_set old place found.0) (length-set old place found.0) e in
         let below : place < length old = omega arith in
@@ -156,7 +156,7 @@ more_sound (p ∷ ps) place bytes rest old new long e = by_comma (spec.behind 44
         → ((mid : List ℕ) (words : List Bits) → length words ≡ length old → spec.more_arguments ps (place + 1) mid words ≡ Some (new, rest) → MoreRead ps (place + 1) mid rest words new)
         → MoreRead (p ∷ ps) place bytes rest old new
     by_comma None read e others = absurd cc
-    by_comma (Some mid) read e others = behind_comma mid (argument p.width mid) (behind_is 44 bytes mid read) refl e others
+    by_comma (Some mid) read e others = after_comma mid (argument p.width mid) (after_is 44 bytes mid read) refl e others
 
 record ArgumentsRead (ps : List Port) (bytes rest : List ℕ) (new : List Bits) : Type 0 where
   pieces : List (List ℕ)
@@ -262,7 +262,7 @@ by_bracket : (methods : List Outline) (bytes name left rest : List ℕ) (q new :
     → spec.call_named methods name o q ≡ Some (new, rest) → CallRead methods bytes rest q new
 by_bracket methods bytes name left rest q new None has is bracket read = absurd cc
 by_bracket methods bytes name left rest q new (Some after) has is bracket read =
-    by_found methods bytes name after rest q new (spec.method_from 0 methods name) has (is ∙ ap (λ l. name ++ l) (behind_is 40 left after bracket)) refl read
+    by_found methods bytes name after rest q new (spec.method_from 0 methods name) has (is ∙ ap (λ l. name ++ l) (after_is 40 left after bracket)) refl read
 
 call_sound : (methods : List Outline) (bytes rest : List ℕ) (q new : Asking) → HasPlaces methods q → spec.call methods bytes q ≡ Some (new, rest) → CallRead methods bytes rest q new
 unfolding spec.call
@@ -296,7 +296,7 @@ length_words (p ∷ ps) [] ws each = absurd each
 length_words (p ∷ ps) (t ∷ texts) [] each = absurd each
 length_words (p ∷ ps) (t ∷ texts) (w ∷ ws) each = ap suc (length_words ps texts ws each.1)
 
--- places stay behind a call
+-- places stay after a call
 pub call_places : (methods : List Outline) (q : Asking) (text : List ℕ) (c : MethodCall) → HasPlaces methods q → IsCall methods text c → HasPlaces methods (asked_with c q)
 call_places methods q text c has is =
     let there = item_there q.args c.method (omega (arith, length_args methods q has, slice_get_within methods c.method is.outline is.at)) in

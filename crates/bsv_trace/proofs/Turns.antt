@@ -1,6 +1,6 @@
 -- The turns of the reader of calls.
 use Rattle.std.proofs.Common.{◌≡◌, ◌∙◌, ℕ, suc, ◌+◌, ◌-◌, ◌<◌, ◌==◌, Bool, true, false, List, [], ◌∷◌, Option, Some, None, if◌then◌else◌, ap, arith}
-use Rattle.bsv_design.specs.Schemes.{Asking, Outline}
+use Rattle.bsv_design.specs.scheme.Schemes.{Asking, Outline}
 use Rattle.bsv_trace.specs.Reading.{behind, call, calls, next_call, next_calls}
 
 one_more : (len turn : ℕ) → turn < len → len - turn ≡ suc (len - (turn + 1))

@@ -4,10 +4,10 @@ use Rattle.std.specs.Prelude.{◌≡◌, ◌≢◌, ℕ, ◌^◌, ◌<◌, ◌�
 use Rattle.std.specs.List.{list_all, join_with_byte}
 use Rattle.bsv_bits.specs.Words.{Bits}
 use Rattle.bsv_design.specs.declared.element.Port.{Port}
-use Rattle.bsv_design.specs.Roles.{is_rule}
-use Rattle.bsv_design.specs.Schemes.{Asking, Outline}
-use Rattle.bsv_design.specs.States.{zeros}
-use Rattle.bsv_design.specs.Widths.{port_fits}
+use Rattle.bsv_design.specs.tree.Roles.{is_rule}
+use Rattle.bsv_design.specs.scheme.Schemes.{Asking, Outline}
+use Rattle.bsv_design.specs.scheme.States.{zeros}
+use Rattle.bsv_design.specs.design.Widths.{port_fits}
 use Rattle.bsv_trace.specs.Numbers.{IsNumber}
 
 -- ---- methods
@@ -91,7 +91,7 @@ pub record AsksFor (outlines : List Outline) (line : List ℕ) (q : Asking) : Ty
 abbrev pub IsMethod : List Outline → ℕ → Outline → Type 0
 IsMethod outlines n o = slice_get (methods_among outlines) n ≡ Some o
 
--- a byte that may stand in a name: any but an opening bracket
+-- a byte that may be in a name: any but an opening bracket
 abbrev pub in_name : ℕ → Bool
 in_name b = not (b == 40)
 

@@ -7,8 +7,8 @@ use Rattle.std.specs.Str.{bytes_eq}
 use Rattle.bsv_bits.specs.Words.{Bits}
 use Rattle.bsv_design.specs.declared.element.Element.{Element}
 use Rattle.bsv_design.specs.declared.element.Port.{Port}
-use Rattle.bsv_design.specs.Schemes.{Asking, Outline, ports_of}
-use Rattle.bsv_design.specs.Widths.{port_fits}
+use Rattle.bsv_design.specs.scheme.Schemes.{Asking, Outline, ports_of}
+use Rattle.bsv_design.specs.design.Widths.{port_fits}
 use Rattle.bsv_trace.specs.declared.number.Base.{Base}
 use Rattle.bsv_trace.specs.declared.number.Base.TheVariants as base
 use Rattle.bsv_trace.specs.Lines.{in_name, asked_with}
@@ -26,7 +26,7 @@ abbrev pub GivesAll : {A : Type 0} → Bool → A → Option A → Type 0
 GivesAll false state given = given ≡ None
 GivesAll true state given = given ≡ Some state
 
--- a word, and what is behind it
+-- a word, and what is after it
 abbrev pub seen : Option (Bits × Bor (List ℕ)) → Option (Bits × List ℕ)
 seen None = None
 seen (Some found) = Some (found.0, found.1.now)
@@ -54,7 +54,7 @@ abbrev pub with_rest : Option Bits → List ℕ → Option (Bits × List ℕ)
 with_rest None rest = None
 with_rest (Some w) rest = Some (w, rest)
 
--- the digits in front, and what is behind them
+-- the digits in front, and what is after them
 abbrev pub digits : Base → ℕ → List ℕ → Option (Bits × List ℕ)
 digits b width bytes =
     with_rest (word_of b width (take (prefix_len (is_digit b) bytes) bytes)) (drop (prefix_len (is_digit b) bytes) bytes)
@@ -67,7 +67,7 @@ argument width (a ∷ b ∷ bytes) =
 
 -- ---- arguments
 
--- what is behind this byte
+-- what is after this byte
 abbrev pub behind : ℕ → List ℕ → Option (List ℕ)
 behind mark [] = None
 behind mark (b ∷ bytes) = if b == mark then Some bytes else None
@@ -79,7 +79,7 @@ placed place words (Some found) = Some (slice_set words place found.0, found.1)
 abbrev pub argument_at : ℕ → List ℕ → ℕ → List Bits → Option (List Bits × List ℕ)
 argument_at width bytes place words = placed place words (argument width bytes)
 
--- an argument behind its comma
+-- an argument after its comma
 abbrev pub next_argument : ℕ → Option (List ℕ) → ℕ → List Bits → Option (List Bits × List ℕ)
 next_argument width None place words = None
 next_argument width (Some bytes) place words = argument_at width bytes place words
@@ -92,7 +92,7 @@ abbrev pub onward : (List ℕ → List Bits → Option (List Bits × List ℕ)) 
 onward further None = None
 onward further (Some found) = further found.1 found.0
 
--- the arguments from a place on, each behind its comma
+-- the arguments from a place on, each after its comma
 abbrev pub more_arguments : List Port → ℕ → List ℕ → List Bits → Option (List Bits × List ℕ)
 more_arguments [] place bytes words = closed words (behind 41 bytes)
 more_arguments (p ∷ ps) place bytes words =
@@ -127,7 +127,7 @@ abbrev pub call_named : List Outline → List ℕ → Option (List ℕ) → Aski
 call_named methods name None q = None
 call_named methods name (Some bytes) q = call_if methods (method_from 0 methods name) bytes q
 
--- the name is what stands before the first bracket
+-- the name is what comes before the first bracket
 unfoldable pub call : List Outline → List ℕ → Asking → Option (Asking × List ℕ)
 call methods bytes q =
     call_named methods (take (prefix_len in_name bytes) bytes) (behind 40 (drop (prefix_len in_name bytes) bytes)) q

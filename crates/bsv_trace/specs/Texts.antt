@@ -26,11 +26,11 @@ name_of (Some e) = e.name
 abbrev pub name_at : List Element → ℕ → List ℕ
 name_at elements place = name_of (slice_get elements place)
 
--- the names, each behind a blank
+-- the names, each after a blank
 abbrev pub names : (ℕ → List ℕ) → List ℕ → List ℕ
 names named places = flat_map (λ place. codes " " ++ named place) places
 
--- a word, and names behind it
+-- a word, and names after it
 abbrev pub list_line : List ℕ → (ℕ → List ℕ) → List ℕ → List ℕ
 list_line head named places = head ++ names named places ++ line_feed
 
@@ -52,7 +52,7 @@ has_line (kind.Bypass k) = true
 unfoldable pub queue_text : List Bits → List ℕ
 queue_text words = codes "[" ++ join_with_byte 32 (map constant_text words) ++ codes "]"
 
--- a word that so many stand before, with a blank where there are some
+-- a word that so many come before, with a blank where there are some
 abbrev pub word_text : ℕ → Bits → List ℕ
 word_text number word = if number == 0 then constant_text word else codes " " ++ constant_text word
 

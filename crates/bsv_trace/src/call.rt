@@ -1,8 +1,8 @@
 ghost use Rattle.std.specs.Prelude.{◌≡◌, ◌+◌, ◌<◌, ◌≤◌};
 ghost use Rattle.std.specs.Prelude.{length, map, option_map, IfSome};
 ghost use Rattle.std.specs.List.{prefix_len};
-ghost use Rattle.bsv_design.specs.Schemes.{outline};
-ghost use Rattle.bsv_design.specs.Seen.{asking};
+ghost use Rattle.bsv_design.specs.scheme.Schemes.{outline};
+ghost use Rattle.bsv_design.specs.tree.Seen.{asking};
 ghost use Rattle.bsv_trace.specs.Lines.{in_name};
 ghost use Rattle.bsv_trace.specs.Reading as spec;
 
@@ -11,7 +11,7 @@ use bsv_bits::Word;
 use bsv_design::{Element, Port, Requests};
 use sqlite_items::Items;
 
-/// What is behind this byte, where the bytes begin with it.
+/// What is after this byte, where the bytes begin with it.
 fn behind(mark: u8, bytes: &[u8]) -> Option<&[u8]>
     ensures { option_map (λ rest. rest.now) result ≡ spec.behind mark bytes.now }
 {
@@ -21,7 +21,7 @@ fn behind(mark: u8, bytes: &[u8]) -> Option<&[u8]>
     }
 }
 
-/// Reads an argument to its place among the words of a call, and gives what is behind it.
+/// Reads an argument to its place among the words of a call, and gives what is after it.
 fn argument_at<'a>(
     width: u32,
     bytes: &'a [u8],
@@ -41,7 +41,7 @@ fn argument_at<'a>(
     }
 }
 
-/// Reads an argument behind its comma.
+/// Reads an argument after its comma.
 fn next_argument<'a>(
     width: u32,
     bytes: &'a [u8],
@@ -59,7 +59,7 @@ fn next_argument<'a>(
     }
 }
 
-/// Reads the arguments behind the first, and the bracket that closes the call.
+/// Reads the arguments after the first, and the bracket that closes the call.
 fn more_arguments<'a>(ports: &[Port], bytes: &'a [u8], words: &mut Items<Word>) -> Option<&'a [u8]>
     requires { length words.old ≡ length ports.now + 1 }
     ensures read { spec.Gives result words.new
@@ -95,7 +95,7 @@ fn arguments<'a>(ports: &[Port], bytes: &'a [u8], words: &mut Items<Word>) -> Op
     }
 }
 
-/// How many bytes stand before the first bracket.
+/// How many bytes come before the first bracket.
 fn name_len(bytes: &[u8]) -> usize
     ensures value { result ≡ prefix_len in_name bytes.now }
     ensures within { result ≤ length bytes.now }
@@ -143,7 +143,7 @@ fn call_of<'a>(
     }
 }
 
-/// Reads a call, asks for it, and gives what is behind it.
+/// Reads a call, asks for it, and gives what is after it.
 #[tactic(auto, unfolding(crate::specs::Reading::call))]
 fn call<'a>(methods: &[Element], bytes: &'a [u8], requests: &mut Requests) -> Option<&'a [u8]>
     requires { spec.HasPlaces (map outline methods.now) (asking requests.old) }

@@ -1,6 +1,6 @@
 ghost use Rattle.std.specs.Prelude.{◌≡◌, ◌⊎◌, ℕ, List, map};
-ghost use Rattle.bsv_design.specs.Designs.{Blueprint, IsDesign};
-ghost use Rattle.bsv_design.specs.Schemes.{Asking, Outline, outline};
+ghost use Rattle.bsv_design.specs.design.Designs.{DesignData, IsDesign};
+ghost use Rattle.bsv_design.specs.scheme.Schemes.{Asking, Outline, outline};
 ghost use Rattle.bsv_trace.specs.Lines.{AreMethods, AsksFor};
 
 /// A line of a trace has one meaning: it does not ask for two things, and of each line it is
@@ -13,5 +13,5 @@ pub fn one_request()
     ensures decided { (outlines : List Outline) (line : List ℕ) → AreMethods outlines
         → ((q : Asking) × AsksFor outlines line q)
         ⊎ ((q : Asking) → AsksFor outlines line q → ⊥) }
-    ensures design { (b : Blueprint) → IsDesign b → AreMethods (map outline b.elements) }
+    ensures design { (b : DesignData) → IsDesign b → AreMethods (map outline b.elements) }
 {}

@@ -62,7 +62,7 @@ fn word_of(base: Base, width: u32, digits: &[u8]) -> Option<Word>
     }
 }
 
-/// The word that the digits in front are, and what is behind them.
+/// The word that the digits in front are, and what is after them.
 fn digits(base: Base, width: u32, bytes: &[u8]) -> Option<(Word, &[u8])>
     ensures { spec.seen result ≡ spec.digits base width bytes.now }
 {
@@ -73,7 +73,7 @@ fn digits(base: Base, width: u32, bytes: &[u8]) -> Option<(Word, &[u8])>
     }
 }
 
-/// The word of so many bits that the argument in front is, and what is behind it.
+/// The word of so many bits that the argument in front is, and what is after it.
 #[tactic(auto, unfolding(crate::specs::Reading::argument))]
 pub(crate) fn argument(width: u32, bytes: &[u8]) -> Option<(Word, &[u8])>
     ensures { spec.seen result ≡ spec.argument width bytes.now }

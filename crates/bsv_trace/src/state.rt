@@ -27,7 +27,7 @@ fn add_next_word<S: Sink>(buffer: &mut PutBuffer, sink: &mut S, word: Word) -> R
     add_constant(buffer, sink, word)
 }
 
-/// Adds a word of a queue, with a blank before it where others stand before it.
+/// Adds a word of a queue, with a blank before it where others come before it.
 fn add_word<S: Sink>(
     buffer: &mut PutBuffer,
     sink: &mut S,

@@ -30,7 +30,7 @@ pub(crate) fn add_name<S: Sink>(
     add(buffer, sink, name_at(elements, place))
 }
 
-/// Adds the names of elements, each behind a blank.
+/// Adds the names of elements, each after a blank.
 pub(crate) fn add_names<S: Sink>(
     buffer: &mut PutBuffer,
     sink: &mut S,
@@ -48,7 +48,7 @@ pub(crate) fn add_names<S: Sink>(
     Ok(())
 }
 
-/// Adds a line of a word and of names, each behind a blank.
+/// Adds a line of a word and of names, each after a blank.
 pub(crate) fn add_list<S: Sink>(
     buffer: &mut PutBuffer,
     sink: &mut S,

@@ -1,7 +1,7 @@
 //! Prints the trees of texts. The words are names of files, and in front of these `trees` or `places`:
 //! whether the trees of the texts are printed, or the place of each node.
 //!
-//! A file is a frame and, behind each line `--`, a text that stands at the `@` of the frame.
+//! A file is a frame and, after each line `--`, a text that is at the `@` of the frame.
 //!
 //! Modules in reading order: `shown` (a tree as a text, and where its nodes stand), `types`,
 //! `expressions`, `statements`, `modules`, `packages` (each part of a tree), `texts` (the texts of a

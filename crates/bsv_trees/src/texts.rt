@@ -35,7 +35,7 @@ fn shown_of(alloc: Global, source: &[u8]) -> Result<Shown> {
 }
 
 /// Prints each node of a tree, in the order of the text: what it is, the byte where it begins, and
-/// the one behind it.
+/// the one after it.
 fn print_places(rt: &impl Print, shown: &Shown) -> Result<()> {
     for (kind, span) in shown.spans.as_slice() {
         let start = span.start;

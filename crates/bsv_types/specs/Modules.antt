@@ -34,7 +34,7 @@ abbrev pub header : Module → Header
 header m = (param_kinds m.params, kind m.interface)
 
 -- what a statement of a module may name beside variables
-pub record Site : Type 0 where
+pub record ModuleContext : Type 0 where
   pub world : World
   pub headers : List Header
   pub rules : List Rule
@@ -61,7 +61,7 @@ abbrev pub module_makes : World → Frame → Option Header → List Argument �
 module_makes w frame None xs k = false
 module_makes w frame (Some h) xs k = same_kind h.1 k && arguments_right w frame xs h.0
 
-abbrev pub makes : Site → Frame → Make → Kind → Bool
+abbrev pub makes : ModuleContext → Frame → Make → Kind → Bool
 makes site frame m k = by m.maker where
   by : Maker → Bool
   by (maker.Given g) = given_makes site.world frame g m.arguments k
@@ -90,13 +90,13 @@ method_right w frame (Some s) (Some m) =
 method_right w frame _ _ = false
 
 -- a place in an array, and what is made there
-abbrev pub place_right : Site → Frame → ℕ → Expr → Make → Bool
+abbrev pub place_right : ModuleContext → Frame → ℕ → Expr → Make → Bool
 place_right site frame level index m = has_type site.world frame index integer && of (many_at frame level) where
   of : Option Kind → Bool
   of None = false
   of (Some k) = makes site frame m k
 
-abbrev pub module_stmt_step : Site → ModuleStmt-F Run Run → Run
+abbrev pub module_stmt_step : ModuleContext → ModuleStmt-F Run Run → Run
 module_stmt_step site (ModuleStmt-F.Instance t name m) frame = if_right (is_instance site.world.shapes (kind t) && is_lower name && makes site frame m (kind t)) (frame ++ one (kind t) ∷ [])
 module_stmt_step site (ModuleStmt-F.Array t name e) frame = if_right (is_instance site.world.shapes (kind t) && is_lower name && has_type site.world frame e integer) (frame ++ many (kind t) ∷ [])
 module_stmt_step site (ModuleStmt-F.Place level index m) frame = if_right (place_right site frame level index m) frame
@@ -108,10 +108,10 @@ module_stmt_step site (ModuleStmt-F.For head x) frame = if_right (inner (λ f. i
 module_stmt_step site (ModuleStmt-F.Rule number) frame = if_right (rule_right site.world frame (slice_get site.rules number)) frame
 module_stmt_step site (ModuleStmt-F.Method number) frame = if_right (method_right site.world frame (slice_get site.wanted number) (slice_get site.methods number)) frame
 
-abbrev pub module_branch_step : Site → ModuleBranch-F Run Run → Run
+abbrev pub module_branch_step : ModuleContext → ModuleBranch-F Run Run → Run
 module_branch_step site b frame = if_right (has_type site.world frame b.condition bool) frame >>= b.arm
 
-abbrev pub module_stmt_run : Site → ModuleStmt → Run
+abbrev pub module_stmt_run : ModuleContext → ModuleStmt → Run
 module_stmt_run site = fold-ModuleStmt Run Run (module_stmt_step site) (module_branch_step site)
 
 abbrev pub or_empty : Option (List ℕ) → List ℕ
@@ -161,13 +161,13 @@ abbrev pub each_once : ℕ → List ℕ → Bool
 each_once limit [] = true
 each_once limit (x ∷ xs) = nat_lt x limit && not (list_any (λ y. x == y) xs) && each_once limit xs
 
--- rules are numbered in the order of the text; each method stands once, directly in the body
+-- rules are numbered in the order of the text; each method is once, directly in the body
 abbrev pub numbers_right : Module → Bool
 numbers_right m =
     counts_up 0 (rules_of m.body) && length (rules_of m.body) == length m.rules &&
     each_once (length m.methods) (direct m.body) && length (direct m.body) == length m.methods && length (methods_in m.body) == length m.methods
 
-abbrev pub site_of : World → List Header → Module → Site
+abbrev pub site_of : World → List Header → Module → ModuleContext
 site_of w headers m = record { world = w; headers = headers; rules = m.rules; methods = m.methods; wanted = methods w.shapes (kind m.interface) }
 
 abbrev pub param_right : World → Param → Bool

@@ -79,7 +79,7 @@ abbrev pub slice_kind : ℕ → ℕ → Kind → Option Kind
 slice_kind h l (bit n) = when (nat_le l h && nat_lt h n) (bit (h - l + 1))
 slice_kind h l _ = None
 
--- an operator that stands behind its operand: `[i]`, `[h:l]` or `.f`
+-- an operator that comes after its operand: `[i]`, `[h:l]` or `.f`
 abbrev pub is_suffix : Op → Bool
 is_suffix op.Index = true
 is_suffix (op.Slice h l) = true

@@ -17,16 +17,16 @@ use Rattle.bsv_types.specs.Operators.{◌>>=◌}
 use Rattle.bsv_types.specs.Methods.{Signature, Effect, value, action, action_value}
 use Rattle.bsv_types.specs.Expressions.{Frame, one, World, one_at, typing, place_typing, has_type, have_types, method_at}
 
--- what the body is that a statement stands in
+-- what the body is that a statement is in
 pub record Task : Type 0 where
-  -- action calls and binds may stand in it
+  -- action calls and binds may be in it
   pub acts : Bool
   -- what its `return` gives, where it has one
   pub result : Option Kind
   -- the level of its first variable
   pub base : ℕ
 
--- the variables in scope behind a statement, where it is in order
+-- the variables in scope after a statement, where it is in order
 abbrev pub Run : Type 0
 Run = Frame → Option Frame
 
@@ -40,7 +40,7 @@ abbrev pub run : List Run → Run
 run [] frame = Some frame
 run (x ∷ xs) frame = x frame >>= λ next. run xs next
 
--- a part is in order; its variables are out of scope behind it
+-- a part is in order; its variables are out of scope after it
 abbrev pub inner : Run → Frame → Bool
 inner x frame = goes (x frame) where
   goes : Option Frame → Bool
@@ -71,14 +71,14 @@ abbrev pub gives_bound : Effect → Kind → Bool
 gives_bound (action_value j) k = same_kind j k
 gives_bound _ k = false
 
--- a method of what stands in front, its arguments, and a test of its effect
+-- a method of what is in front, its arguments, and a test of its effect
 abbrev pub calls : World → Frame → Place → ℕ → List Expr → (Effect → Bool) → Bool
 calls w frame place m xs p = to (method_at w.shapes (place_typing w place frame) m) where
   to : Option Signature → Bool
   to None = false
   to (Some s) = have_types w frame xs s.params && p s.effect
 
--- the scope of the arm behind a condition
+-- the scope of the arm after a condition
 abbrev pub in_arm : World → Condition → Run
 in_arm w (condition.Test e) frame = if_right (has_type w frame e bool) frame
 in_arm w (condition.Matches e) frame = bound (typing w e frame) where
@@ -136,8 +136,8 @@ case_step a = record { labels = a.labels; arm = a.arm }
 abbrev pub stmt_run : World → Task → Stmt → Run
 stmt_run w t = fold-Stmt Run Run Arm (stmt_step w t) (branch_step w) case_step
 
--- How a path through a statement ends: it goes on behind it, or it has returned. None where paths differ, or
--- something stands behind a `return`.
+-- How a path through a statement ends: it goes on after it, or it has returned. None where paths differ, or
+-- something comes after a `return`.
 pub data Ending : Type 0 where
   goes_on : Ending
   returned : Ending
@@ -150,7 +150,7 @@ agree (Some goes_on) (Some goes_on) = Some goes_on
 agree (Some returned) (Some returned) = Some returned
 agree _ _ = None
 
--- one behind the other
+-- one after the other
 abbrev pub behind : Ends → Ends → Ends
 behind (Some goes_on) e = e
 behind _ e = None

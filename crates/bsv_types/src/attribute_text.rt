@@ -11,16 +11,16 @@ use std::alloc::{AllocError, Global};
 
 /// What the text of an attribute is made of, apart from blanks.
 #[derive(Drop)]
-pub enum Piece {
-    /// As many letters, digits and `_` as stand together.
+pub enum AttributeToken {
+    /// As many letters, digits and `_` as are together.
     Word(Name),
     Comma,
     Open,
     Close,
 }
 
-/// Names, and the pieces behind them.
-type Names<'a> = (Items<Name>, &'a [Piece]);
+/// Names, and the pieces after them.
+type Names<'a> = (Items<Name>, &'a [AttributeToken]);
 
 /// How many bytes at the front go on with a word.
 fn word_len(bytes: &[u8]) -> usize
@@ -30,13 +30,13 @@ fn word_len(bytes: &[u8]) -> usize
     bytes.iter().take_while(|b| is_word(**b)).count()
 }
 
-fn mark(b: u8) -> Option<Piece>
+fn mark(b: u8) -> Option<AttributeToken>
     ensures { result ≡ spec.mark b }
 {
     match b {
-        b',' => Some(Piece::Comma),
-        b'(' => Some(Piece::Open),
-        b')' => Some(Piece::Close),
+        b',' => Some(AttributeToken::Comma),
+        b'(' => Some(AttributeToken::Open),
+        b')' => Some(AttributeToken::Close),
         _ => None,
     }
 }
@@ -49,7 +49,7 @@ fn copied(alloc: Global, text: &[u8]) -> Result<Name, AllocError>
 
 /// The words and the marks of a text; None where a byte stands that is of neither, and no blank.
 #[tactic(auto, using(crate::proofs::Pieces::reading))]
-fn words_and_marks(alloc: Global, text: &[u8]) -> Result<Option<Items<Piece>>, AllocError>
+fn words_and_marks(alloc: Global, text: &[u8]) -> Result<Option<Items<AttributeToken>>, AllocError>
     ensures { IfOk result (λ found. found ≡ spec.words_and_marks text.now) }
 {
     let mut found = Items::new(alloc);
@@ -57,7 +57,7 @@ fn words_and_marks(alloc: Global, text: &[u8]) -> Result<Option<Items<Piece>>, A
     while let Some((first, after)) = rest.split_first() {
         if is_word(*first) {
             let (word, behind) = rest.split_at(word_len(rest));
-            found.push(Piece::Word(copied(alloc, word)?))?;
+            found.push(AttributeToken::Word(copied(alloc, word)?))?;
             rest = behind;
         } else if *first == b' ' {
             rest = after;
@@ -73,19 +73,19 @@ fn words_and_marks(alloc: Global, text: &[u8]) -> Result<Option<Items<Piece>>, A
 }
 
 /// A word is a name, where no digit begins it.
-fn is_good(piece: &Piece) -> bool
+fn is_good(piece: &AttributeToken) -> bool
     ensures { result ≡ spec.is_good piece.now }
 {
     match piece {
-        Piece::Word(word) => match word.bytes() {
+        AttributeToken::Word(word) => match word.bytes() {
             [first, ..] => begins_name(*first),
             [] => false,
         },
-        Piece::Comma | Piece::Open | Piece::Close => true,
+        AttributeToken::Comma | AttributeToken::Open | AttributeToken::Close => true,
     }
 }
 
-fn are_good(pieces: &[Piece]) -> bool
+fn are_good(pieces: &[AttributeToken]) -> bool
     ensures { result ≡ list_all spec.is_good pieces.now }
 {
     pieces.iter().all(|piece| is_good(piece))
@@ -93,7 +93,7 @@ fn are_good(pieces: &[Piece]) -> bool
 
 /// The names and the marks of a text.
 #[tactic(auto, unfolding(crate::specs::AttributeTexts::pieces))]
-fn pieces(alloc: Global, text: &[u8]) -> Result<Option<Items<Piece>>, AllocError>
+fn pieces(alloc: Global, text: &[u8]) -> Result<Option<Items<AttributeToken>>, AllocError>
     ensures { IfOk result (λ found. found ≡ spec.pieces text.now) }
 {
     match words_and_marks(alloc, text)? {
@@ -103,15 +103,15 @@ fn pieces(alloc: Global, text: &[u8]) -> Result<Option<Items<Piece>>, AllocError
 }
 
 /// The names at the front, one or more, with commas between them.
-fn names_at(alloc: Global, pieces: &[Piece]) -> Result<Option<Names<'_>>, AllocError>
+fn names_at(alloc: Global, pieces: &[AttributeToken]) -> Result<Option<Names<'_>>, AllocError>
     ensures { IfOk result (λ found. option_map spec.shown found ≡ spec.names_at pieces.now) }
 {
     let mut names = Items::new(alloc);
     let mut rest = pieces;
-    while let Some((Piece::Word(name), behind)) = rest.split_first() {
+    while let Some((AttributeToken::Word(name), behind)) = rest.split_first() {
         names.push(copied(alloc, name.bytes())?)?;
         match behind.split_first() {
-            Some((Piece::Comma, after)) => rest = after,
+            Some((AttributeToken::Comma, after)) => rest = after,
             _ => return Ok(Some((names, behind))),
         }
     }
@@ -119,17 +119,17 @@ fn names_at(alloc: Global, pieces: &[Piece]) -> Result<Option<Names<'_>>, AllocE
 }
 
 /// A side at the front: one name, or names in brackets.
-fn side_at(alloc: Global, pieces: &[Piece]) -> Result<Option<Names<'_>>, AllocError>
+fn side_at(alloc: Global, pieces: &[AttributeToken]) -> Result<Option<Names<'_>>, AllocError>
     ensures { IfOk result (λ found. option_map spec.shown found ≡ spec.side_at pieces.now) }
 {
     match pieces.split_first() {
-        Some((Piece::Word(name), rest)) => {
+        Some((AttributeToken::Word(name), rest)) => {
             let mut side = Items::new(alloc);
             side.push(copied(alloc, name.bytes())?)?;
             Ok(Some((side, rest)))
         }
-        Some((Piece::Open, rest)) => match names_at(alloc, rest)? {
-            Some((names, [Piece::Close, behind @ ..])) => Ok(Some((names, behind))),
+        Some((AttributeToken::Open, rest)) => match names_at(alloc, rest)? {
+            Some((names, [AttributeToken::Close, behind @ ..])) => Ok(Some((names, behind))),
             _ => Ok(None),
         },
         _ => Ok(None),
@@ -158,7 +158,7 @@ pub fn sides(alloc: Global, text: &[u8]) -> Result<Option<(Items<Name>, Items<Na
     let Some(pieces) = pieces(alloc, text)? else {
         return Ok(None);
     };
-    let Some((left, [Piece::Comma, rest @ ..])) = side_at(alloc, pieces.as_slice())? else {
+    let Some((left, [AttributeToken::Comma, rest @ ..])) = side_at(alloc, pieces.as_slice())? else {
         return Ok(None);
     };
     match side_at(alloc, rest)? {

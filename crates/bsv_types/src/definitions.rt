@@ -103,7 +103,7 @@ impl Enum {
 }
 
 impl Struct {
-    /// A struct behind these enums and structs, as wide as its fields together; None where a field has
+    /// A struct after these enums and structs, as wide as its fields together; None where a field has
     /// no bits. A width that no `u32` holds counts as the greatest one.
     pub fn new(
         enums: &Items<Enum>,

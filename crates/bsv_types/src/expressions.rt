@@ -15,13 +15,13 @@ pub enum Expr {
     Variable(Ty, u32),
     /// Operators and their operands from left to right. One operator takes all operands. The operators
     /// of one level, one fewer than operands, take them two by two from the left. The suffixes of one
-    /// expression (`Op::Index`, `Op::Slice`, `Op::Field`) stand in the order of the text; behind that
+    /// expression (`Op::Index`, `Op::Slice`, `Op::Field`) are in the order of the text; after that
     /// expression stands the place of each `Op::Index`. In the construction of a struct there is one
     /// `Op::Set` for each operand.
     Apply(Ty, Items<Op>, Items<Expr>),
     /// A call of a function, by its place.
     Call(Ty, u32, Items<Expr>),
-    /// A call of a value method, by its place in the interface of what stands in front. A read of a
+    /// A call of a value method, by its place in the interface of what is in front. A read of a
     /// register or a wire is one.
     Method(Ty, Place, u32, Items<Expr>),
     /// `a ? b : c ? d : e` has the conditions a and c, and the values b, d and e.

@@ -8,7 +8,7 @@
 //! `packing` (laws of widths), `typed` (a whole program, its invariant, widths and packing).
 //!
 //! Contracts see a tree by value: a `Boxed<T>` as a `T`, an `Items<T>` as the list of its items, a
-//! `Name` as its bytes. A variable is named by its level: how many variables stand before it in scope,
+//! `Name` as its bytes. A variable is named by its level: how many variables come before it in scope,
 //! those of the module first. A definition is named by its place in its list of `Typed`, a method by
 //! its place in its interface, a rule and a method of a module by its place in the module's list.
 #![tactic(auto)]

@@ -7,7 +7,7 @@ use crate::types::Ty;
 use bsv_bits::Name;
 use sqlite_items::{Boxed, Items};
 
-/// A rule. The levels of its module's variables that stand before it come first in its scope.
+/// A rule. The levels of its module's variables that come before it come first in its scope.
 #[derive(Drop)]
 pub struct Rule {
     pub name: Name,
@@ -16,8 +16,8 @@ pub struct Rule {
     pub body: Items<Stmt>,
 }
 
-/// A method of a module. In its condition the module's variables that stand before it are in scope, and
-/// in its body its parameters are the levels behind them.
+/// A method of a module. In its condition the module's variables that come before it are in scope, and
+/// in its body its parameters are the levels after them.
 #[derive(Drop)]
 pub struct Method {
     pub name: Name,
@@ -42,7 +42,7 @@ pub enum ModuleStmt {
     /// `v = e;`, by the level of v.
     Assign(u32, Expr),
     Block(Items<ModuleStmt>),
-    /// The arms of an `if`, one or more, and the arm behind a last `else`.
+    /// The arms of an `if`, one or more, and the arm after a last `else`.
     If(Items<ModuleBranch>, Option<Boxed<ModuleStmt>>),
     For(Head, Boxed<ModuleStmt>),
     /// A rule, by its place among the rules of the module.

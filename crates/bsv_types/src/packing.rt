@@ -3,7 +3,7 @@
 ghost use Rattle.std.specs.Prelude.{◌≡◌, ◌*◌, ◌+◌, ◌/◌, ◌%◌, ◌^◌, ◌<◌, drop, slice_get, None, Some, ℕ, List};
 ghost use Rattle.bsv_types.specs.Packing.{Bits, AllFit, bits_together, packed, packed_maybe};
 
-/// A law of packing: the bits of a field stand above those of the fields behind it, and are the number
+/// A law of packing: the bits of a field are above those of the fields after it, and are the number
 /// of the field.
 pub fn fields_are_read_back()
     ensures { (xs : List Bits) (k : ℕ) (x : Bits) → AllFit xs → slice_get xs k ≡ Some x

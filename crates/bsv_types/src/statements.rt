@@ -18,10 +18,10 @@ pub enum Stmt {
     Return(Expr),
     NoAction,
     Block(Items<Stmt>),
-    /// The arms of an `if`, one or more, and the arm behind a last `else`.
+    /// The arms of an `if`, one or more, and the arm after a last `else`.
     If(Items<Branch>, Option<Boxed<Stmt>>),
     For(Head, Boxed<Stmt>),
-    /// The subject, the arms, and the arm behind `default`.
+    /// The subject, the arms, and the arm after `default`.
     Case(Expr, Items<CaseArm>, Option<Boxed<Stmt>>),
 }
 

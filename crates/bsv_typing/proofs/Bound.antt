@@ -4,7 +4,7 @@ use Rattle.std.proofs.lemmas.Option.{same_Some}
 use Rattle.bsv_types.specs.Kinds.{Kind, same_kind}
 use Rattle.bsv_types.specs.Operators.{◌>>=◌}
 use Rattle.bsv_types.proofs.Same.{same_is}
-use Rattle.bsv_context.specs.Env.{Made, wanted}
+use Rattle.bsv_context.specs.Env.{TypedExpr, wanted}
 use Rattle.bsv_typing.specs.Operands.{Check, check_if}
 use Rattle.bsv_typing.specs.Forms.{if_true}
 
@@ -18,7 +18,7 @@ pub tested : {A : Type 0} (b : Bool) (x y : A) → if_true b x ≡ Some y → (b
 tested true x y e = (refl, same_Some x y e)
 tested false x y e = absurd cc
 
--- and a step behind a test, or behind one that failed
+-- and a step after a test, or after one that failed
 pub tested_step : {A : Type 0} (b : Bool) (r : Option A) (y : A) → cond b r None ≡ Some y → (b ≡ true) × (r ≡ Some y)
 tested_step true r y e = (refl, e)
 tested_step false r y e = absurd cc
@@ -27,7 +27,7 @@ pub failed_step : {A : Type 0} (b : Bool) (r : Option A) (y : A) → cond b None
 failed_step true r y e = absurd cc
 failed_step false r y e = (refl, e)
 
-pub checked : (b : Bool) (check : Check) (want : Option Kind) (m : Made) → check_if b check want ≡ Some m → (b ≡ true) × (check want ≡ Some m)
+pub checked : (b : Bool) (check : Check) (want : Option Kind) (m : TypedExpr) → check_if b check want ≡ Some m → (b ≡ true) × (check want ≡ Some m)
 checked true check want m e = (refl, e)
 checked false check want m e = absurd cc
 
@@ -40,7 +40,7 @@ pub has_kind : (want : Option Kind) (k : Kind) → HasKind want k → (j : Kind)
 has_kind None k h j e = absurd cc
 has_kind (Some i) k h j e = cc
 
-pub wanted_is : (want : Option Kind) (t m : Made) → wanted want t ≡ Some m → (t ≡ m) × HasKind want m.kind
+pub wanted_is : (want : Option Kind) (t m : TypedExpr) → wanted want t ≡ Some m → (t ≡ m) × HasKind want m.kind
 wanted_is None t m e = (same_Some t m e, tt)
 wanted_is (Some k) t m e =
     let h = tested_step (same_kind t.kind k) (Some t) m e in

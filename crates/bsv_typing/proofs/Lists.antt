@@ -5,7 +5,7 @@ use Rattle.bsv_ast.specs.declared.expressions.Expr as source
 use Rattle.bsv_ast.specs.Depths.{expr_depth, greatest}
 use Rattle.bsv_types.specs.declared.expressions.Expr.{Expr}
 use Rattle.bsv_types.specs.Operators.{◌>>=◌}
-use Rattle.bsv_context.specs.Env.{Made}
+use Rattle.bsv_context.specs.Env.{TypedExpr}
 
 -- what was made before, and what is left
 abbrev pub with_front : List Expr → Option (List Expr) → Option (List Expr)
@@ -26,7 +26,7 @@ pub front_turn : (o : Option Expr) (rest : Option (List Expr)) (front : List Exp
 front_turn None rest front = refl
 front_turn (Some x) rest front = sym (front_more front x rest)
 
-pub made_turn : (o : Option Made) (rest : Option (List Expr)) (front : List Expr) → with_front front (o >>= λ m. rest >>= λ xs. Some (m.expr ∷ xs)) ≡ (o >>= λ m. with_front (front ++ m.expr ∷ []) rest)
+pub made_turn : (o : Option TypedExpr) (rest : Option (List Expr)) (front : List Expr) → with_front front (o >>= λ m. rest >>= λ xs. Some (m.expr ∷ xs)) ≡ (o >>= λ m. with_front (front ++ m.expr ∷ []) rest)
 made_turn None rest front = refl
 made_turn (Some m) rest front = sym (front_more front m.expr rest)
 

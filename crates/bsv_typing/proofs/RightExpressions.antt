@@ -18,8 +18,8 @@ use Rattle.bsv_types.specs.Expressions.{World, Frame}
 use Rattle.bsv_typing.specs.Operands.{Check, Operand, only_if}
 use Rattle.bsv_context.specs.Env.{Env}
 use Rattle.bsv_typing.specs.Forms as forms
-use Rattle.bsv_typing.specs.Places.{Front, whole, name_front, member_behind, index_behind, slice_behind}
-use Rattle.bsv_typing.specs.Typing.{Term, Suffixed, form_of, operator, is_chain, is_choice, chain_operand, choice_operand, literal_case, label_case, call_case, postfix_front, all_behind, front_case, front_term, operands, step, suffix_step, field_step, term, typed}
+use Rattle.bsv_typing.specs.Places.{Front, whole, name_front, member_after, index_after, slice_after}
+use Rattle.bsv_typing.specs.Typing.{Term, Suffixed, form_of, operator, is_chain, is_choice, chain_operand, choice_operand, literal_case, label_case, call_case, postfix_front, all_after, front_case, front_term, operands, step, suffix_step, field_step, term, typed}
 use Rattle.bsv_typing.specs.Laws.{FitsWorld, Fits, Right}
 use Rattle.bsv_typing.proofs.Bound.{taken, checked, has_kind}
 use Rattle.bsv_typing.proofs.RightOperands.{strictly, TypedAs, Good, EachGood, ordered_good}
@@ -28,7 +28,7 @@ use Rattle.bsv_typing.proofs.RightChains.{chain_right, unary_right}
 use Rattle.bsv_typing.proofs.RightStructs.{FieldsGood, construct_right}
 use Rattle.bsv_typing.proofs.RightGiven.{literal_right, LabelRight, label_right, valid_right, invalid_right, FunctionRight, call_right}
 use Rattle.bsv_typing.proofs.RightPlaces.{GoodFront, front_ordered}
-use Rattle.bsv_typing.proofs.RightSuffixes.{VariableRight, name_good, member_formed, method_formed, index_formed, slice_formed, SuffixGood, EachSuffix, behind_good, front_formed}
+use Rattle.bsv_typing.proofs.RightSuffixes.{VariableRight, name_good, member_formed, method_formed, index_formed, slice_formed, SuffixGood, EachSuffix, after_good, front_formed}
 
 module _ (w : World) (frame : Frame) where
   abbrev pub TermGood : Term → Type 0
@@ -42,7 +42,7 @@ module _ (w : World) (frame : Frame) where
   front_good o good = (ordered_good w frame (front_case (strictly w) o) (front_formed w frame o good), good)
 
   postfix_good : (t : Term) (xs : List Suffixed) → TermGood t → EachSuffix w frame xs → TermGood (front_term (strictly w) (postfix_front t xs))
-  postfix_good t xs good each = front_good (postfix_front t xs) (λ f e. let h = taken t.front (all_behind xs) f e in behind_good w frame xs h.0 f each (good.1 h.0 h.1) h.2)
+  postfix_good t xs good each = front_good (postfix_front t xs) (λ f e. let h = taken t.front (all_after xs) f e in after_good w frame xs h.0 f each (good.1 h.0 h.1) h.2)
 
   chain_good : (l : Level) (signs : List Operator) (ts : List Term) → EachGood w frame (operands ts) → Good w frame (only_if (is_chain l signs (length ts)) (chain_operand (strictly w) l (map operator signs) (operands ts)))
   chain_good l signs ts good = subst (λ n. Good w frame (only_if (is_chain l signs n) (chain_operand (strictly w) l (map operator signs) (operands ts)))) (length-map ts (λ t. t.operand)) (chain_right w frame l signs (operands ts) good)
@@ -106,13 +106,13 @@ module _ (w : World) (frame : Frame) where
 
     suffix_layer : (y : Suffix-F Child SuffixChild FieldChild) →
         SuffixGood w frame (suffix_step strict (map-Suffix Expr Suffix FieldValue Term Suffixed (List ℕ × Operand) (term strict) suffix field (map-Suffix Child SuffixChild FieldChild Expr Suffix FieldValue (λ x. x.0) (λ x. x.0) (λ x. x.0) y)))
-    suffix_layer (Suffix-F.Member s name) f g good e = front_ordered w frame (member_behind (strictly w) name.name f) g (λ h is. member_formed w frame name.name f h good is) e
+    suffix_layer (Suffix-F.Member s name) f g good e = front_ordered w frame (member_after (strictly w) name.name f) g (λ h is. member_formed w frame name.name f h good is) e
     suffix_layer (Suffix-F.Method s name xs) f g good e = front_ordered w frame _ g (λ h is. method_formed w frame name.name _ f h (each xs) good is) e
-    suffix_layer (Suffix-F.Index s x) f g good e = front_ordered w frame (index_behind (strictly w) (term strict x.0).operand f) g (λ h is. index_formed w frame (term strict x.0).operand f h x.1.0 good is) e
+    suffix_layer (Suffix-F.Index s x) f g good e = front_ordered w frame (index_after (strictly w) (term strict x.0).operand f) g (λ h is. index_formed w frame (term strict x.0).operand f h x.1.0 good is) e
     suffix_layer (Suffix-F.Slice s x y) f g good e =
         let high = (term strict x.0).operand.literal in
         let low = (term strict y.0).operand.literal in
-        front_ordered w frame (slice_behind (strictly w) high low f) g (λ h is. slice_formed w frame high low f h good is) e
+        front_ordered w frame (slice_after (strictly w) high low f) g (λ h is. slice_formed w frame high low f h good is) e
 
     term_good : (e : Expr) → TermGood (term strict e)
     term_good = ind-Expr (λ e. TermGood (term strict e)) (λ x. SuffixGood w frame (suffix x)) (λ f. Good w frame (field f).1)
@@ -136,7 +136,7 @@ terms_good env w frame fits e =
 pub expressions_good : (env : Env) (w : World) (frame : Frame) → Fits env w frame → (e : Expr) → Good w frame (term env e).operand
 expressions_good env w frame fits e = (terms_good env w frame fits e).0
 
--- what stands in front of a suffix is in order
+-- what comes before a suffix is in order
 pub fronts_good : (env : Env) (w : World) (frame : Frame) → Fits env w frame → (e : Expr) (f : Front) → (term env e).front ≡ Some f → GoodFront w frame f
 fronts_good env w frame fits e = (terms_good env w frame fits e).1
 

@@ -14,7 +14,7 @@ use Rattle.bsv_types.specs.Operators.{gives, is_kind, all_bit}
 use Rattle.bsv_types.specs.Expressions.{World, Frame, typing, holds, all_of}
 use Rattle.bsv_types.proofs.Counted.{widths_start, widths_turn, widths_done}
 use Rattle.bsv_types.proofs.Same.{same_self}
-use Rattle.bsv_context.specs.Env.{Made, wanted, literal, applied, chosen, beside, fits, fits_negated}
+use Rattle.bsv_context.specs.Env.{TypedExpr, wanted, literal, applied, chosen, beside, fits, fits_negated}
 use Rattle.bsv_typing.specs.Operands.{Operand, Agreed, all_as, agree, agree_with_result}
 use Rattle.bsv_typing.specs.Forms.{if_kind, if_true, number_case, sized_case, truth_case, number_op_case, bits_op_case, negated_case, amount, amounts, shift_case, order_case, equality_case, choice_case, joined, concat_case}
 use Rattle.bsv_typing.specs.Laws.{Typed}
@@ -22,7 +22,7 @@ use Rattle.bsv_typing.proofs.Bound.{taken, tested, HasKind}
 use Rattle.bsv_typing.proofs.Typings.{Each, value_typed, literal_typed, apply_typed, choice_typed}
 use Rattle.bsv_typing.proofs.RightOperands.{strictly, alike, Formed, FormedAs, Good, EachGood, wanted_formed, AllOf, each_more, each_of, each_joined, all_as_right, agree_right, result_right}
 
-if_kind_is : (test : Kind → Bool) (a : Agreed) (f : Kind → List Expr → Option Made) (m : Made) → if_kind test a f ≡ Some m →
+if_kind_is : (test : Kind → Bool) (a : Agreed) (f : Kind → List Expr → Option TypedExpr) (m : TypedExpr) → if_kind test a f ≡ Some m →
     (r : Kind × List Expr) × (a ≡ Some r) × (test r.0 ≡ true) × (f r.0 r.1 ≡ Some m)
 if_kind_is test None f m e = absurd cc
 if_kind_is test (Some r) f m e = by (test r.0) refl e where
@@ -54,7 +54,7 @@ module _ (w : World) (frame : Frame) where
   fits_holds number integer e = e
   fits_holds number _ e = absurd cc
 
-  number_at : (number : ℕ) (k : Kind) (m : Made) → if_true (fits (strictly w) number k) (literal k number) ≡ Some m → Formed w frame m × (m.kind ≡ k)
+  number_at : (number : ℕ) (k : Kind) (m : TypedExpr) → if_true (fits (strictly w) number k) (literal k number) ≡ Some m → Formed w frame m × (m.kind ≡ k)
   number_at number k m e =
       let h = tested (fits (strictly w) number k) (literal k number) m e in
       subst (λ z. Formed w frame z × (z.kind ≡ k)) h.1 (literal_formed k number (fits_holds number k h.0), refl)
@@ -87,10 +87,10 @@ module _ (w : World) (frame : Frame) where
   pub applied_formed : (k : Kind) (os : List Op) (xs : List Expr) (ks : List Kind) → Each w frame xs ks → gives w.shapes os ks k ≡ true → Formed w frame (applied k os xs)
   applied_formed k os xs ks each right value = apply_typed w frame k os xs ks value each right
 
-  pub one_typed : (m : Made) → Typed w frame m → Each w frame (m.expr ∷ []) (m.kind ∷ [])
+  pub one_typed : (m : TypedExpr) → Typed w frame m → Each w frame (m.expr ∷ []) (m.kind ∷ [])
   one_typed m h = each_more w frame m.expr [] m.kind [] h refl
 
-  negated_at : (number : ℕ) (k : Kind) (m : Made) → if_true (fits_negated (strictly w) number k) (applied k (op.Negate ∷ []) ((literal k number).expr ∷ [])) ≡ Some m → Formed w frame m × (m.kind ≡ k)
+  negated_at : (number : ℕ) (k : Kind) (m : TypedExpr) → if_true (fits_negated (strictly w) number k) (applied k (op.Negate ∷ []) ((literal k number).expr ∷ [])) ≡ Some m → Formed w frame m × (m.kind ≡ k)
   negated_at number k m e =
       let h = tested (fits_negated (strictly w) number k) (applied k (op.Negate ∷ []) ((literal k number).expr ∷ [])) m e in
       let f = fits_number number k h.0 in
@@ -106,7 +106,7 @@ module _ (w : World) (frame : Frame) where
   abbrev pub Give : List Op → ℕ → (Kind → Bool) → (Kind → Kind) → Type 0
   Give os count test result = (k : Kind) (ms : List Expr) → test k ≡ true → length ms ≡ count → gives w.shapes os (alike k ms) (result k) ≡ true
 
-  agreed_formed : (test : Kind → Bool) (os : List Op) (xs : List Operand) → EachGood w frame xs → Give os (length xs) test (λ k. k) → (want : Option Kind) (m : Made) →
+  agreed_formed : (test : Kind → Bool) (os : List Op) (xs : List Operand) → EachGood w frame xs → Give os (length xs) test (λ k. k) → (want : Option Kind) (m : TypedExpr) →
       if_kind test (agree_with_result xs want) (λ k ms. Some (applied k os ms)) ≡ Some m → Formed w frame m × HasKind want m.kind
   agreed_formed test os xs good give want m e =
       let h = if_kind_is test (agree_with_result xs want) (λ k ms. Some (applied k os ms)) m e in
@@ -132,7 +132,7 @@ module _ (w : World) (frame : Frame) where
 
   -- ---- shifts and comparisons
 
-  either_typed : (x : Operand) (b : Bool) (m : Made) → Good w frame x → cond b (x.check (Some integer)) (x.check None) ≡ Some m → Typed w frame m
+  either_typed : (x : Operand) (b : Bool) (m : TypedExpr) → Good w frame x → cond b (x.check (Some integer)) (x.check None) ≡ Some m → Typed w frame m
   either_typed x true m good e = (good (Some integer) m e).0
   either_typed x false m good e = (good None m e).0
 
@@ -219,7 +219,7 @@ module _ (w : World) (frame : Frame) where
   beside_is a (bit n) j value e = (n, refl, same_Some (bit (counted (a + n))) j e)
   beside_is a _ j value e = absurd cc
 
-  -- bits of these types, side by side, behind so many others
+  -- bits of these types, side by side, after so many others
   abbrev pub Joined : ℕ → Kind × List Expr → Type 0
   Joined a r = (n : ℕ) × (ks : List Kind) × (bit n ≡ r.0) × Each w frame r.1 ks × (all_bit ks ≡ true) × (plus (Some a) (widths_by w.shapes.enums w.shapes.structs ks) ≡ Some n)
 

@@ -16,7 +16,7 @@ use Rattle.bsv_types.proofs.Same.{same_self}
 use Rattle.bsv_types.specs.GivenFunctions.{given_function}
 use Rattle.bsv_types.specs.declared.given.GivenFunction.{GivenFunction}
 use Rattle.bsv_types.specs.declared.given.GivenFunction.TheVariants as given
-use Rattle.bsv_context.specs.Env.{Made, wanted, literal, applied, called, beside, packed}
+use Rattle.bsv_context.specs.Env.{TypedExpr, wanted, literal, applied, called, beside, packed}
 use Rattle.bsv_typing.specs.Operands.{Operand}
 use Rattle.bsv_typing.specs.Forms.{resized_case, no_narrower, pack_case, unpack_case, from_integer_case, valid_case, invalid_case, payload, is_valid_case, valid_value_case, from_maybe_case, arguments, function_case, sized_case}
 use Rattle.bsv_typing.specs.Typing.{literal_case, label_case, one_case, two_case, given_case, call_case}
@@ -87,7 +87,7 @@ module _ (w : World) (frame : Frame) where
 
   -- ---- values of Maybe
 
-  as_kind : (x : Operand) (k : Kind) (m : Made) → Good w frame x → x.check (Some k) ≡ Some m → typing w m.expr frame ≡ Some k
+  as_kind : (x : Operand) (k : Kind) (m : TypedExpr) → Good w frame x → x.check (Some k) ≡ Some m → typing w m.expr frame ≡ Some k
   as_kind x k m good e = let h = good (Some k) m e in h.0 ∙ ap Some h.1
 
   -- an operator on one operand of this type
@@ -196,7 +196,7 @@ module _ (w : World) (frame : Frame) where
   called_formed f ms is each value = call_typed w frame f.2 f.0 ms f.1 value each (subst (λ o. is_call o f.1 f.2 ≡ true) (sym is) (and_from _ _ (same_kinds_self f.1) (same_self f.2)))
 
   -- its result has a type of values
-  pub function_typed : (function : Option (ℕ × List Kind × Kind)) (xs : List Operand) (want : Option Kind) (m : Made) → FunctionRight function → EachGood w frame xs → function_case function xs want ≡ Some m →
+  pub function_typed : (function : Option (ℕ × List Kind × Kind)) (xs : List Operand) (want : Option Kind) (m : TypedExpr) → FunctionRight function → EachGood w frame xs → function_case function xs want ≡ Some m →
       Formed w frame m × HasKind want m.kind × (is_value w.shapes m.kind ≡ true)
   unfolding function_case
   function_typed function xs want m right good e =

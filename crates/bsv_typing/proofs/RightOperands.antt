@@ -7,7 +7,7 @@ use Rattle.bsv_types.specs.Kinds.{Kind, integer}
 use Rattle.bsv_types.specs.Shapes.{is_value}
 use Rattle.bsv_types.specs.Operators.{◌>>=◌}
 use Rattle.bsv_types.specs.Expressions.{World, Frame, typing, all_typed}
-use Rattle.bsv_context.specs.Env.{Made, wanted, Limits, has_bits, is_typed_value, in_order}
+use Rattle.bsv_context.specs.Env.{TypedExpr, wanted, Limits, has_bits, is_typed_value, in_order}
 use Rattle.bsv_typing.specs.Operands.{Check, Operand, all_as, are_literals, are_open, open_front, agreed, beside, around, by_first, agree_with_result, agree}
 use Rattle.bsv_typing.specs.Typing.{ordered}
 use Rattle.bsv_typing.specs.Laws.{Typed}
@@ -30,14 +30,14 @@ alike k (x ∷ xs) = k ∷ alike k xs
 
 module _ (w : World) (frame : Frame) where
   -- in order, if it has a type of values
-  abbrev pub Formed : Made → Type 0
+  abbrev pub Formed : TypedExpr → Type 0
   Formed m = is_value w.shapes m.kind ≡ true → Typed w frame m
 
   abbrev pub FormedAs : Check → Type 0
-  FormedAs check = (want : Option Kind) (m : Made) → check want ≡ Some m → Formed m × HasKind want m.kind
+  FormedAs check = (want : Option Kind) (m : TypedExpr) → check want ≡ Some m → Formed m × HasKind want m.kind
 
   abbrev pub TypedAs : Check → Type 0
-  TypedAs check = (want : Option Kind) (m : Made) → check want ≡ Some m → Typed w frame m × HasKind want m.kind
+  TypedAs check = (want : Option Kind) (m : TypedExpr) → check want ≡ Some m → Typed w frame m × HasKind want m.kind
 
   abbrev pub Good : Operand → Type 0
   Good x = TypedAs x.check
@@ -46,7 +46,7 @@ module _ (w : World) (frame : Frame) where
   EachGood [] = Unit {0}
   EachGood (x ∷ xs) = Good x × EachGood xs
 
-  pub ordered_typed : (t m : Made) → Formed t → in_order (strictly w) t ≡ Some m → Typed w frame m × (t ≡ m)
+  pub ordered_typed : (t m : TypedExpr) → Formed t → in_order (strictly w) t ≡ Some m → Typed w frame m × (t ≡ m)
   unfolding in_order
   ordered_typed t m formed e =
       let h = tested_step (is_typed_value (strictly w) t.kind) (Some t) m e in
@@ -60,7 +60,7 @@ module _ (w : World) (frame : Frame) where
       let o = ordered_typed t.0 m f.0 t.2 in
       (o.0, subst (λ z. HasKind want z.kind) o.1 f.1)
 
-  pub wanted_formed : (want : Option Kind) (t m : Made) → wanted want t ≡ Some m → Formed t → Formed m × HasKind want m.kind
+  pub wanted_formed : (want : Option Kind) (t m : TypedExpr) → wanted want t ≡ Some m → Formed t → Formed m × HasKind want m.kind
   wanted_formed want t m e f = let h = wanted_is want t m e in (subst Formed h.0 f, h.1)
 
   -- typed expressions, all of one type

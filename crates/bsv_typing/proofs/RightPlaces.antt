@@ -12,7 +12,7 @@ use Rattle.bsv_types.specs.Operators.{slice_kind}
 use Rattle.bsv_types.specs.Methods.{Signature, Effect, value, action, action_value, methods}
 use Rattle.bsv_types.specs.Expressions.{one, World, Frame, place_typing, many_at, is_value_call, gives_value, method_at}
 use Rattle.bsv_types.proofs.Same.{same_self}
-use Rattle.bsv_context.specs.Env.{Made, below, in_order}
+use Rattle.bsv_context.specs.Env.{TypedExpr, below, in_order}
 use Rattle.bsv_typing.specs.Operands.{Operand}
 use Rattle.bsv_typing.specs.Forms.{arguments}
 use Rattle.bsv_context.specs.Methods.{method_from, method_named, value_of}
@@ -123,7 +123,7 @@ module _ (w : World) (frame : Frame) where
 
   -- ---- calls and reads
 
-  pub call_formed : (i : Instance) (q : ℕ × Signature) (xs : List Operand) (m : Made) → GoodInstance i → slice_get (methods w.shapes i.kind) q.0 ≡ Some q.1 → EachGood w frame xs → call_of i q xs ≡ Some m → Formed w frame m
+  pub call_formed : (i : Instance) (q : ℕ × Signature) (xs : List Operand) (m : TypedExpr) → GoodInstance i → slice_get (methods w.shapes i.kind) q.0 ≡ Some q.1 → EachGood w frame xs → call_of i q xs ≡ Some m → Formed w frame m
   unfolding call_of
   call_formed i q xs m here is good e =
       let v = taken (value_of q.1.effect) _ m e in
@@ -135,7 +135,7 @@ module _ (w : World) (frame : Frame) where
       subst (Formed w frame) (same_Some (method_call i q.0 k a.0) m a.2)
       (λ right. method_typed w frame k (place_of i) q.0 a.0 q.1.params right (arguments_right w frame q.1.params xs a.0 good a.1) called)
 
-  pub read_typed : (i : Instance) (m : Made) → GoodInstance i → read (strictly w) i ≡ Some m → Typed w frame m
+  pub read_typed : (i : Instance) (m : TypedExpr) → GoodInstance i → read (strictly w) i ≡ Some m → Typed w frame m
   unfolding read call_of
   read_typed i m here e =
       let h = tested_step (is_read i.kind) _ m e in
@@ -145,7 +145,7 @@ module _ (w : World) (frame : Frame) where
       let right = read_value w i.kind v.0 q.0 h.0 here.1 q.1 v.1 in
       call_formed i q.0 [] m here (method_is w i.kind (codes "_read") q.0 q.1) tt q.2 (subst (λ z. is_value w.shapes z.kind ≡ true) (same_Some (method_call i q.0.0 v.0 a.0) m a.2) right)
 
-  pub value_at_typed : (f : Front) (m : Made) → GoodFront f → value_at (strictly w) f ≡ Some m → Typed w frame m
+  pub value_at_typed : (f : Front) (m : TypedExpr) → GoodFront f → value_at (strictly w) f ≡ Some m → Typed w frame m
   unfolding value_at
   value_at_typed (whole t) m good e = subst (Typed w frame) (same_Some t m e) good
   value_at_typed (instance i) m good e = read_typed i m good e

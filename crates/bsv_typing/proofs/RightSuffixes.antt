@@ -1,4 +1,4 @@
--- Names, and suffixes behind what is in order, give what is in order.
+-- Names, and suffixes after what is in order, give what is in order.
 use Rattle.std.proofs.Common.{◌≡◌, ◌∙◌, ℕ, Bool, true, false, cond, ◌&&◌, List, [], ◌∷◌, Option, Some, None, refl, sym, ap, subst}
 use Rattle.std.specs.Prelude.{slice_get}
 use Rattle.std.proofs.lemmas.Option.{same_Some as some_is}
@@ -12,13 +12,13 @@ use Rattle.bsv_types.specs.Operators.{◌>>=◌, is_kind, suffixed}
 use Rattle.bsv_types.specs.Methods.{Signature, methods}
 use Rattle.bsv_types.specs.Expressions.{Slot, one, many, World, Frame, Typing, typing, place_typing, expr_step, place_step, place_at, one_at, many_at}
 use Rattle.bsv_types.proofs.Same.{same_self}
-use Rattle.bsv_context.specs.Env.{Made}
+use Rattle.bsv_context.specs.Env.{TypedExpr}
 use Rattle.bsv_typing.specs.Operands.{Operand}
 use Rattle.bsv_typing.specs.Forms.{field_named, function_case}
 use Rattle.bsv_context.specs.Methods.{method_named}
 use Rattle.bsv_context.specs.Suffixes.{with_suffix}
-use Rattle.bsv_typing.specs.Places.{Instance, Front, whole, instance, array, place_of, call_of, read, value_at, variable_front, name_front, field_of, member_behind, method_behind, bit_of, index_behind, slice_type, slice_fits, bits_of, slice_behind}
-use Rattle.bsv_typing.specs.Typing.{Suffixed, all_behind, front_case}
+use Rattle.bsv_typing.specs.Places.{Instance, Front, whole, instance, array, place_of, call_of, read, value_at, variable_front, name_front, field_of, member_after, method_after, bit_of, index_after, slice_type, slice_fits, bits_of, slice_after}
+use Rattle.bsv_typing.specs.Typing.{Suffixed, all_after, front_case}
 use Rattle.bsv_typing.specs.Laws.{Typed, slot_right}
 use Rattle.bsv_typing.proofs.Bound.{taken, tested_step}
 use Rattle.bsv_typing.proofs.Typings.{when_true, value_typed, variable_typed}
@@ -68,7 +68,7 @@ module _ (w : World) (frame : Frame) where
 
   -- ---- suffixes
 
-  field_formed : (name : List ℕ) (m : Made) (f : Front) → Typed w frame m → field_of (strictly w) name m ≡ Some f → FormedFront w frame f
+  field_formed : (name : List ℕ) (m : TypedExpr) (f : Front) → Typed w frame m → field_of (strictly w) name m ≡ Some f → FormedFront w frame f
   unfolding field_of
   field_formed name m f typed e =
       let q = taken (field_named (strictly w) m.kind name) _ f e in
@@ -80,8 +80,8 @@ module _ (w : World) (frame : Frame) where
       let t = taken (call_of i q xs) _ f e in
       subst (FormedFront w frame) (some_is (whole t.0) f t.2) (call_formed w frame i q xs t.0 here is good t.1)
 
-  pub member_formed : (name : List ℕ) (f g : Front) → GoodFront w frame f → member_behind (strictly w) name f ≡ Some g → FormedFront w frame g
-  unfolding member_behind
+  pub member_formed : (name : List ℕ) (f g : Front) → GoodFront w frame f → member_after (strictly w) name f ≡ Some g → FormedFront w frame g
+  unfolding member_after
   member_formed name (instance i) g good e = by (method_named (strictly w) i.kind name) refl where
     by : (o : Option (ℕ × Signature)) → method_named (strictly w) i.kind name ≡ o → FormedFront w frame g
     by (Some q) is = called_formed i q [] g good (method_is w i.kind name q is) tt (rw is at e)
@@ -91,14 +91,14 @@ module _ (w : World) (frame : Frame) where
   member_formed name (whole m) g good e = field_formed name m g good e
   member_formed name (array level k) g good e = absurd cc
 
-  pub method_formed : (name : List ℕ) (xs : List Operand) (f g : Front) → EachGood w frame xs → GoodFront w frame f → method_behind (strictly w) name xs f ≡ Some g → FormedFront w frame g
-  unfolding method_behind
+  pub method_formed : (name : List ℕ) (xs : List Operand) (f g : Front) → EachGood w frame xs → GoodFront w frame f → method_after (strictly w) name xs f ≡ Some g → FormedFront w frame g
+  unfolding method_after
   method_formed name xs (instance i) g good_xs good e =
       let q = taken (method_named (strictly w) i.kind name) _ g e in
       called_formed i q.0 xs g good (method_is w i.kind name q.0 q.1) good_xs q.2
   method_formed name xs _ g good_xs good e = absurd cc
 
-  bit_formed : (x : Operand) (m : Made) (g : Front) → Good w frame x → Typed w frame m → bit_of x m ≡ Some g → FormedFront w frame g
+  bit_formed : (x : Operand) (m : TypedExpr) (g : Front) → Good w frame x → Typed w frame m → bit_of x m ≡ Some g → FormedFront w frame g
   unfolding bit_of
   bit_formed x m g good typed e =
       let b = tested_step (is_bit m.kind) (x.check (Some integer) >>= λ i. Some (whole (with_suffix (bit 1) op.Index (i.expr ∷ []) m.expr))) g e in
@@ -108,14 +108,14 @@ module _ (w : World) (frame : Frame) where
       (suffix_formed w frame (bit 1) op.Index (t.0.expr ∷ []) (integer ∷ []) m refl typed (each_more w frame t.0.expr [] integer [] (h.0 ∙ ap Some h.1) refl)
       (ap (λ o. o >>= λ r. Some r) (when_true (is_bit m.kind && true) (bit 1) (and_from (is_bit m.kind) true b.0 refl))))
 
-  -- an index behind what has a value
+  -- an index after what has a value
   value_index : (x : Operand) (f g : Front) → Good w frame x → GoodFront w frame f → (value_at (strictly w) f >>= bit_of x) ≡ Some g → FormedFront w frame g
   value_index x f g good good_f e =
       let t = taken (value_at (strictly w) f) (bit_of x) g e in
       bit_formed x t.0 g good (value_at_typed w frame f t.0 good_f t.1) t.2
 
-  pub index_formed : (x : Operand) (f g : Front) → Good w frame x → GoodFront w frame f → index_behind (strictly w) x f ≡ Some g → FormedFront w frame g
-  unfolding index_behind
+  pub index_formed : (x : Operand) (f g : Front) → Good w frame x → GoodFront w frame f → index_after (strictly w) x f ≡ Some g → FormedFront w frame g
+  unfolding index_after
   index_formed x (array level k) g good here e =
       let t = taken (x.check (Some integer)) _ g e in
       let h = good (Some integer) t.0 t.1 in
@@ -124,7 +124,7 @@ module _ (w : World) (frame : Frame) where
   index_formed x (whole m) g good here e = value_index x (whole m) g good here e
   index_formed x (instance i) g good here e = value_index x (instance i) g good here e
 
-  bits_formed : (h l : ℕ) (m : Made) (g : Front) → Typed w frame m → bits_of (strictly w) h l m ≡ Some g → FormedFront w frame g
+  bits_formed : (h l : ℕ) (m : TypedExpr) (g : Front) → Typed w frame m → bits_of (strictly w) h l m ≡ Some g → FormedFront w frame g
   unfolding bits_of
   bits_formed h l m g typed e = by m.kind refl where
     by : (k : Kind) → m.kind ≡ k → FormedFront w frame g
@@ -137,15 +137,15 @@ module _ (w : World) (frame : Frame) where
         (subst (λ k. suffixed w.shapes k (op.Slice (counted h) (counted l) ∷ []) [] ≡ Some (slice_type h l)) (sym is) (ap (λ o. o >>= λ r. Some r) bits)))
     by _ is = let none = rw is at e in absurd cc
 
-  pub slice_formed : (high low : Option ℕ) (f g : Front) → GoodFront w frame f → slice_behind (strictly w) high low f ≡ Some g → FormedFront w frame g
-  unfolding slice_behind
+  pub slice_formed : (high low : Option ℕ) (f g : Front) → GoodFront w frame f → slice_after (strictly w) high low f ≡ Some g → FormedFront w frame g
+  unfolding slice_after
   slice_formed high low f g good e =
       let h = taken high _ g e in
       let l = taken low _ g h.2 in
       let t = taken (value_at (strictly w) f) _ g l.2 in
       bits_formed h.0 l.0 t.0 g (value_at_typed w frame f t.0 good t.1) t.2
 
-  -- ---- one behind the other
+  -- ---- one after the other
 
   abbrev pub SuffixGood : Suffixed → Type 0
   SuffixGood x = (f g : Front) → GoodFront w frame f → x f ≡ Some g → GoodFront w frame g
@@ -154,11 +154,11 @@ module _ (w : World) (frame : Frame) where
   EachSuffix [] = Unit {0}
   EachSuffix (x ∷ xs) = SuffixGood x × EachSuffix xs
 
-  pub behind_good : (xs : List Suffixed) (f g : Front) → EachSuffix xs → GoodFront w frame f → all_behind xs f ≡ Some g → GoodFront w frame g
-  behind_good [] f g good here e = subst (GoodFront w frame) (some_is f g e) here
-  behind_good (x ∷ xs) f g good here e =
-      let t = taken (x f) (all_behind xs) g e in
-      behind_good xs t.0 g good.1 (good.0 f t.0 here t.1) t.2
+  pub after_good : (xs : List Suffixed) (f g : Front) → EachSuffix xs → GoodFront w frame f → all_after xs f ≡ Some g → GoodFront w frame g
+  after_good [] f g good here e = subst (GoodFront w frame) (some_is f g e) here
+  after_good (x ∷ xs) f g good here e =
+      let t = taken (x f) (all_after xs) g e in
+      after_good xs t.0 g good.1 (good.0 f t.0 here t.1) t.2
 
   pub front_formed : (o : Option Front) → ((f : Front) → o ≡ Some f → GoodFront w frame f) → FormedAs w frame (front_case (strictly w) o)
   front_formed o good want m e =

@@ -1,4 +1,4 @@
--- Suffixes of one expression, in one list, give what each gives behind the others.
+-- Suffixes of one expression, in one list, give what each gives after the others.
 use Rattle.std.proofs.Common.{◌≡◌, ◌∙◌, Bool, true, false, cond, List, [], ◌∷◌, ◌++◌, map, Option, Some, None, refl, sym, ap}
 use Rattle.std.proofs.lemmas.Option.{same_Some}
 use Rattle.bsv_types.specs.declared.operators.Op.{Op}
@@ -11,7 +11,7 @@ use Rattle.bsv_types.specs.Shapes.{Shapes}
 use Rattle.bsv_types.specs.Operators.{◌>>=◌, is_kind, bit_kind, slice_kind, field_kind, is_suffix, suffixed, gives}
 use Rattle.bsv_types.specs.Expressions.{World, Frame, typing, all_typed, is_typed}
 use Rattle.bsv_types.proofs.Same.{same_self}
-use Rattle.bsv_context.specs.Env.{Made}
+use Rattle.bsv_context.specs.Env.{TypedExpr}
 use Rattle.bsv_context.specs.Suffixes.{are_suffixes, suffixes_in, suffixes, with_suffix}
 use Rattle.bsv_typing.specs.Laws.{Typed}
 use Rattle.bsv_typing.proofs.Bound.{taken}
@@ -29,7 +29,7 @@ begins [] o e = absurd cc
 begins (p ∷ os) o e = e
 
 module _ (s : Shapes) where
-  -- those at the end stand behind what the others give
+  -- those at the end come after what the others give
   suffixed_on : (os ps : List Op) (k : Kind) (ks js : List Kind) (r : Kind) → suffixed s k os ks ≡ Some r → suffixed s k (os ++ ps) (ks ++ js) ≡ suffixed s r ps js
   suffixed_on [] ps k [] js r e = ap (λ j. suffixed s j ps js) (same_Some k r e)
   suffixed_on [] ps k (j ∷ ks) js r e = absurd cc
@@ -67,28 +67,28 @@ module _ (s : Shapes) where
   suffixes_given (o ∷ os) (k ∷ ks) t e g = ((k, ks), refl, kind_given (suffixed s k (o ∷ os) ks) t (sym (gives_suffixed o os k ks t e) ∙ g))
 
 module _ (w : World) (frame : Frame) where
-  -- the suffixes give the type, behind the first of these expressions
+  -- the suffixes give the type, after the first of these expressions
   abbrev Behind : Kind → List Op × List Expr → Type 0
   Behind k r = (q : Kind × List Kind) × Each w frame r.1 (q.0 ∷ q.1) × (suffixed w.shapes q.0 r.0 q.1 ≡ Some k) × ((o : Op) → is_suffix o ≡ true → are_suffixes (r.0 ++ o ∷ []) ≡ true)
 
   in_front : (e : Expr) (k : Kind) → typing w e frame ≡ Some k → Behind k ([], e ∷ [])
   in_front e k h = ((k, []), each_more w frame e [] k [] h refl, refl, λ o is. is)
 
-  behind_in : (e : Expr) (k : Kind) → typing w e frame ≡ Some k → (y : Expr-F Expr Place) → out-Expr e ≡ y → Behind k (suffixes_in e y)
-  behind_in e k h (Expr-F.Apply t os xs) is = by (are_suffixes os) refl where
+  after_in : (e : Expr) (k : Kind) → typing w e frame ≡ Some k → (y : Expr-F Expr Place) → out-Expr e ≡ y → Behind k (suffixes_in e y)
+  after_in e k h (Expr-F.Apply t os xs) is = by (are_suffixes os) refl where
     by : (b : Bool) → are_suffixes os ≡ b → Behind k (cond b (os, xs) ([], e ∷ []))
     by true some =
         let r = typed_is (all_typed (map (typing w) xs) frame) (λ ks. gives w.shapes os ks k) (apply_right w frame e t os xs k is h) in
         let g = suffixes_given w.shapes os r.0 k some r.2 in
         (g.0, r.1 ∙ ap Some g.1, g.2, λ o suffix. begins os o some)
     by false none = in_front e k h
-  behind_in e k h _ is = in_front e k h
+  after_in e k h _ is = in_front e k h
 
   behind : (e : Expr) (k : Kind) → typing w e frame ≡ Some k → Behind k (suffixes e)
   unfolding suffixes
-  behind e k h = behind_in e k h (out-Expr e) refl
+  behind e k h = after_in e k h (out-Expr e) refl
 
-  pub suffix_formed : (k : Kind) (o : Op) (places : List Expr) (js : List Kind) (m : Made) → is_suffix o ≡ true → Typed w frame m → Each w frame places js → suffixed w.shapes m.kind (o ∷ []) js ≡ Some k → Formed w frame (with_suffix k o places m.expr)
+  pub suffix_formed : (k : Kind) (o : Op) (places : List Expr) (js : List Kind) (m : TypedExpr) → is_suffix o ≡ true → Typed w frame m → Each w frame places js → suffixed w.shapes m.kind (o ∷ []) js ≡ Some k → Formed w frame (with_suffix k o places m.expr)
   suffix_formed k o places js m suffix typed each given =
       let b = behind m.expr m.kind typed in
       let q = b.0 in

@@ -10,7 +10,7 @@ use Rattle.bsv_types.specs.declared.definitions.Field.{Field}
 use Rattle.bsv_types.specs.declared.definitions.Struct.{Struct}
 use Rattle.bsv_types.specs.Kinds.{Kind, bit, uint, int, bool, struct, maybe, integer, kind, has_family, is_number, is_amount, no_wider}
 use Rattle.bsv_types.specs.Operators.{◌>>=◌}
-use Rattle.bsv_context.specs.Env.{Made, wanted, Limits, beside, packed, literal, applied, called, chosen, fits, fits_negated}
+use Rattle.bsv_context.specs.Env.{TypedExpr, wanted, Limits, beside, packed, literal, applied, called, chosen, fits, fits_negated}
 use Rattle.bsv_typing.specs.Operands.{Check, Operand, Agreed, agree, agree_with_result, all_as}
 
 abbrev pub if_true : {A : Type 0} → Bool → A → Option A
@@ -32,7 +32,7 @@ sized_case size number want = wanted want (literal (bit size) number)
 unfoldable pub truth_case : List Op → List Operand → Check
 truth_case os xs want = all_as bool xs >>= λ ms. wanted want (applied bool os ms)
 
-abbrev pub if_kind : (Kind → Bool) → Agreed → (Kind → List Expr → Option Made) → Option Made
+abbrev pub if_kind : (Kind → Bool) → Agreed → (Kind → List Expr → Option TypedExpr) → Option TypedExpr
 if_kind test None f = None
 if_kind test (Some r) f = if test r.0 then f r.0 r.1 else None
 
@@ -47,7 +47,7 @@ bits_op_case os xs want = if_kind has_family (agree_with_result xs want) (λ k m
 -- `-` in front of an unsized literal
 unfoldable pub negated_case : Limits → ℕ → Check
 negated_case g number want = by want where
-  negated : Kind → Option Made
+  negated : Kind → Option TypedExpr
   negated k = if_true (fits_negated g number k) (applied k (op.Negate ∷ []) ((literal k number).expr ∷ []))
 
   by : Check
@@ -81,7 +81,7 @@ equality_case os _ want = None
 unfoldable pub choice_case : List Operand → List Operand → Check
 choice_case cs xs want = all_as bool cs >>= λ ms. agree_with_result xs want >>= λ r. Some (chosen r.0 ms r.1)
 
--- parts of Bit types, side by side, behind one of this type
+-- parts of Bit types, side by side, after one of this type
 unfoldable pub joined : Kind → List Operand → Option (Kind × List Expr)
 joined k [] = Some (k, [])
 joined k (x ∷ xs) = x.check None >>= λ m. beside k m.kind >>= λ j. joined j xs >>= λ r. Some (r.0, m.expr ∷ r.1)

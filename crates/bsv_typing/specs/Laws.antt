@@ -4,7 +4,7 @@ use Rattle.bsv_types.specs.Kinds.{Kind}
 use Rattle.bsv_types.specs.Shapes.{Shapes, is_value, is_instance}
 use Rattle.bsv_types.specs.Expressions.{Slot, one, many, Frame, World, label_count, typing}
 use Rattle.bsv_types.specs.Programs.{shapes_right}
-use Rattle.bsv_context.specs.Env.{Made, Env}
+use Rattle.bsv_context.specs.Env.{TypedExpr, Env}
 use Rattle.bsv_typing.specs.Operands.{Check}
 
 -- a variable is a value, an instance or an array of instances
@@ -15,7 +15,7 @@ slot_right s (many k) = is_instance s k
 abbrev pub SlotsRight : Shapes → Frame → Type 0
 SlotsRight s frame = (level : ℕ) (slot : Slot) → slice_get frame level ≡ Some slot → IsTrue (slot_right s slot)
 
--- what expressions may name beside variables is what stands in the world, where types are asked to be in range
+-- what expressions may name beside variables is what is in the world, where types are asked to be in range
 pub record FitsWorld (env : Env) (w : World) : Type 0 where
   pub strict : env.limits.strict ≡ true
   pub shapes : env.limits.shapes ≡ w.shapes
@@ -31,9 +31,9 @@ pub record Fits (env : Env) (w : World) (frame : Frame) : Type 0 where
   pub variables : (name : List ℕ) (v : ℕ × Slot) → env.variable name ≡ Some v → slice_get frame v.0 ≡ Some v.1
 
 -- the typed expression has the type that it carries
-abbrev pub Typed : World → Frame → Made → Type 0
+abbrev pub Typed : World → Frame → TypedExpr → Type 0
 Typed w frame m = typing w m.expr frame ≡ Some m.kind
 
 -- what a check gives is in order, and has the type that was expected
 abbrev pub Right : World → Frame → Check → Type 0
-Right w frame check = (want : Option Kind) (m : Made) → check want ≡ Some m → Typed w frame m × ((k : Kind) → want ≡ Some k → m.kind ≡ k)
+Right w frame check = (want : Option Kind) (m : TypedExpr) → check want ≡ Some m → Typed w frame m × ((k : Kind) → want ≡ Some k → m.kind ≡ k)

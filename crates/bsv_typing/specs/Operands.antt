@@ -5,11 +5,11 @@ use Rattle.std.specs.List.{list_all}
 use Rattle.bsv_types.specs.declared.expressions.Expr.{Expr}
 use Rattle.bsv_types.specs.Kinds.{Kind, integer}
 use Rattle.bsv_types.specs.Operators.{◌>>=◌}
-use Rattle.bsv_context.specs.Env.{Made}
+use Rattle.bsv_context.specs.Env.{TypedExpr}
 
 -- an expression as a typing sees it: with an expected type, or without one
 abbrev pub Check : Type 0
-Check = Option Kind → Option Made
+Check = Option Kind → Option TypedExpr
 
 pub record Operand : Type 0 where
   -- it has no type of its own

@@ -1,4 +1,4 @@
--- What the definitions see of expressions, and of what stands in front of suffixes.
+-- What the definitions see of expressions, and of what comes before suffixes.
 use Rattle.std.specs.Prelude.{ℕ, List, map}
 use Rattle.std.specs.Borrow.{Bor}
 use Rattle.bsv_ast.specs.declared.expressions.Expr.{Expr}

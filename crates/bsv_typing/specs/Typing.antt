@@ -21,9 +21,9 @@ use Rattle.bsv_types.specs.declared.given.GivenFunction.TheVariants as given
 use Rattle.bsv_context.specs.Env.{wanted, Env, Limits, literal, in_order}
 use Rattle.bsv_typing.specs.Operands.{Check, Operand, closed, opened, check_if, only_if, are_open, are_literals}
 use Rattle.bsv_typing.specs.Forms as forms
-use Rattle.bsv_typing.specs.Places.{Front, whole, name_front, value_at, member_behind, method_behind, index_behind, slice_behind, Instance, the_instance}
+use Rattle.bsv_typing.specs.Places.{Front, whole, name_front, value_at, member_after, method_after, index_after, slice_after, Instance, the_instance}
 
--- an expression with what stands in front of a suffix: a name keeps its instance, unless it stands in brackets
+-- an expression with what comes before a suffix: a name keeps its instance, unless it is in brackets
 pub record Term : Type 0 where
   pub operand : Operand
   pub front : Option Front
@@ -182,7 +182,7 @@ call_case g function name xs = by (given_function name) where
 abbrev pub call_operand : Limits → Option (ℕ × List Kind × Kind) → List ℕ → List Operand → Operand
 call_operand g function name xs = record { is_open = is_open_call name; literals = false; literal = None; check = ordered g (call_case g function name xs) }
 
--- a suffix, behind what stands in front of it
+-- a suffix, after what comes before it
 abbrev pub Suffixed : Type 0
 Suffixed = Front → Option Front
 
@@ -192,22 +192,22 @@ ordered_front g (Some (whole m)) = in_order g m >>= λ x. Some (whole x)
 ordered_front g (Some f) = Some f
 
 abbrev pub suffix_step : Env → Suffix-F Term Suffixed (List ℕ × Operand) → Suffixed
-suffix_step env (Suffix-F.Member s name) f = ordered_front env.limits (member_behind env.limits name.name f)
-suffix_step env (Suffix-F.Method s name xs) f = ordered_front env.limits (method_behind env.limits name.name (map (λ x. x.operand) xs) f)
-suffix_step env (Suffix-F.Index s x) f = ordered_front env.limits (index_behind env.limits x.operand f)
-suffix_step env (Suffix-F.Slice s x y) f = ordered_front env.limits (slice_behind env.limits x.operand.literal y.operand.literal f)
+suffix_step env (Suffix-F.Member s name) f = ordered_front env.limits (member_after env.limits name.name f)
+suffix_step env (Suffix-F.Method s name xs) f = ordered_front env.limits (method_after env.limits name.name (map (λ x. x.operand) xs) f)
+suffix_step env (Suffix-F.Index s x) f = ordered_front env.limits (index_after env.limits x.operand f)
+suffix_step env (Suffix-F.Slice s x y) f = ordered_front env.limits (slice_after env.limits x.operand.literal y.operand.literal f)
 
-abbrev pub all_behind : List Suffixed → Front → Option Front
-all_behind [] f = Some f
-all_behind (x ∷ xs) f = x f >>= all_behind xs
+abbrev pub all_after : List Suffixed → Front → Option Front
+all_after [] f = Some f
+all_after (x ∷ xs) f = x f >>= all_after xs
 
 abbrev pub postfix_front : Term → List Suffixed → Option Front
-postfix_front t xs = t.front >>= all_behind xs
+postfix_front t xs = t.front >>= all_after xs
 
 abbrev pub front_case : Limits → Option Front → Check
 front_case g f want = f >>= λ x. value_at g x >>= wanted want
 
--- what stands behind names and suffixes
+-- what comes after names and suffixes
 abbrev pub front_term : Limits → Option Front → Term
 front_term g f = record { operand = closed (ordered g (front_case g f)); front = f }
 

@@ -19,14 +19,14 @@ use crate::forms::{
     operators, payload, sets, tagged, without_type,
 };
 use crate::front::{
-    Front, Instance, field_named, in_order_front, member_behind, method_call, name_front,
-    place_number, read, slice_behind,
+    Front, Instance, field_named, in_order_front, member_after, method_call, name_front,
+    place_number, read, slice_after,
 };
 use crate::openness::{are_literals, are_open, is_open, literal, split_open};
 use bsv_ast::{Expr, FieldValue, Level, Operator, Suffix, UnaryOperator};
 use bsv_bits::Name;
 use bsv_context::{
-    Context, Fail, FunctionHeader, Made, Params, Variable, applied, applied_to_one, applied_to_two,
+    Context, Fail, FunctionHeader, TypedExpr, Params, Variable, applied, applied_to_one, applied_to_two,
     as_wanted, beside, called, chosen, has_family, is_amount, is_bit, is_number, method_named,
     no_wider, one, with_suffix,
 };
@@ -43,7 +43,7 @@ pub fn typing(
     variables: &Scopes<Variable>,
     expr: &Expr,
     want: Option<&Ty>,
-) -> Result<Made, Fail>
+) -> Result<TypedExpr, Fail>
     ensures { Gives made result (typed (env context.now variables.now) expr.now
         (expected want.entry)) }
 {
@@ -120,7 +120,7 @@ fn chain(
     signs: &[Operator],
     operands: &[Expr],
     want: Option<&Ty>,
-) -> Result<Made, Fail>
+) -> Result<TypedExpr, Fail>
     ensures { Gives made result (check_if (table.is_chain level signs.now
         (length (terms_seen context.now variables.now operands.now)))
         (table.chain_operand (limits context.now) level (map table.operator signs.now)
@@ -144,7 +144,7 @@ fn chained(
     ops: Items<Op>,
     operands: &[Expr],
     want: Option<&Ty>,
-) -> Result<Made, Fail>
+) -> Result<TypedExpr, Fail>
     ensures { Gives made result ((table.chain_operand (limits context.now) level ops
         (all_seen context.now variables.now operands.now)).check (expected want.entry)) }
 {
@@ -168,7 +168,7 @@ fn unary(
     operator: UnaryOperator,
     operand: &Expr,
     want: Option<&Ty>,
-) -> Result<Made, Fail>
+) -> Result<TypedExpr, Fail>
     ensures { Gives made result ((table.unary_operand (limits context.now) operator
         (seen context.now variables.now operand.now)).check (expected want.entry)) }
 {
@@ -239,7 +239,7 @@ fn around(
         (seen context.now variables.now operand.now ∷ all_seen context.now variables.now
         after.now)) }
 {
-    let Made { ty, expr } = typing(alloc, context, variables, operand, None)?;
+    let TypedExpr { ty, expr } = typing(alloc, context, variables, operand, None)?;
     let operand = Boxed::new(alloc, expr)?;
     let mut found = all_as(alloc, context, variables, front, &ty)?;
     let rest = all_as(alloc, context, variables, after, &ty)?;
@@ -322,7 +322,7 @@ fn truths(
     operands: &[Expr],
     ops: Items<Op>,
     want: Option<&Ty>,
-) -> Result<Made, Fail>
+) -> Result<TypedExpr, Fail>
     ensures { Gives made result (ordered (limits context.now)
         (spec.truth_case ops (all_seen context.now variables.now operands.now))
         (expected want.entry)) }
@@ -342,7 +342,7 @@ fn numbers(
     operands: &[Expr],
     ops: Items<Op>,
     want: Option<&Ty>,
-) -> Result<Made, Fail>
+) -> Result<TypedExpr, Fail>
     ensures { Gives made result (ordered (limits context.now)
         (spec.number_op_case ops (all_seen context.now variables.now operands.now))
         (expected want.entry)) }
@@ -365,7 +365,7 @@ fn bits(
     operands: &[Expr],
     ops: Items<Op>,
     want: Option<&Ty>,
-) -> Result<Made, Fail>
+) -> Result<TypedExpr, Fail>
     ensures { Gives made result (ordered (limits context.now)
         (spec.bits_op_case ops (all_seen context.now variables.now operands.now))
         (expected want.entry)) }
@@ -431,7 +431,7 @@ fn shift(
     operands: &[Expr],
     ops: Items<Op>,
     want: Option<&Ty>,
-) -> Result<Made, Fail>
+) -> Result<TypedExpr, Fail>
     ensures { Gives made result (ordered (limits context.now)
         (spec.shift_case ops (all_seen context.now variables.now operands.now))
         (expected want.entry)) }
@@ -439,7 +439,7 @@ fn shift(
     let Some((left, rights)) = operands.split_first() else {
         return Err(Fail::Fault);
     };
-    let Made { ty, expr } = typing(alloc, context, variables, left, want)?;
+    let TypedExpr { ty, expr } = typing(alloc, context, variables, left, want)?;
     let mut found = one(alloc, expr)?;
     let rest = amounts(alloc, context, variables, rights)?;
     if !has_family(&ty) {
@@ -459,7 +459,7 @@ fn order(
     operands: &[Expr],
     ops: Items<Op>,
     want: Option<&Ty>,
-) -> Result<Made, Fail>
+) -> Result<TypedExpr, Fail>
     ensures { Gives made result (ordered (limits context.now)
         (spec.order_case ops (all_seen context.now variables.now operands.now))
         (expected want.entry)) }
@@ -491,7 +491,7 @@ fn equality(
     operands: &[Expr],
     ops: Items<Op>,
     want: Option<&Ty>,
-) -> Result<Made, Fail>
+) -> Result<TypedExpr, Fail>
     ensures { Gives made result (ordered (limits context.now)
         (spec.equality_case ops (all_seen context.now variables.now operands.now))
         (expected want.entry)) }
@@ -520,7 +520,7 @@ fn choice(
     conditions: &[Expr],
     values: &[Expr],
     want: Option<&Ty>,
-) -> Result<Made, Fail>
+) -> Result<TypedExpr, Fail>
     ensures { Gives made result (check_if (table.is_choice
         (length (terms_seen context.now variables.now conditions.now))
         (length (terms_seen context.now variables.now values.now)))
@@ -572,7 +572,7 @@ fn concat(
     variables: &Scopes<Variable>,
     parts: &[Expr],
     want: Option<&Ty>,
-) -> Result<Made, Fail>
+) -> Result<TypedExpr, Fail>
     ensures { Gives made result (ordered (limits context.now)
         (spec.concat_case (all_seen context.now variables.now parts.now)) (expected want.entry)) }
 {
@@ -591,7 +591,7 @@ fn valid(
     variables: &Scopes<Variable>,
     payload: &Expr,
     want: Option<&Ty>,
-) -> Result<Made, Fail>
+) -> Result<TypedExpr, Fail>
     ensures { Gives made result (ordered (limits context.now)
         (spec.valid_case (limits context.now) (seen context.now variables.now payload.now))
         (expected want.entry)) }
@@ -608,7 +608,7 @@ fn valid(
             if packed.is_none() {
                 return Err(Fail::Fault);
             }
-            let Made { ty, expr } = typed;
+            let TypedExpr { ty, expr } = typed;
             context.in_order(tagged(alloc, &ty, expr)?)
         }
     }
@@ -624,7 +624,7 @@ fn call(
     name: &Name,
     given: &[Expr],
     want: Option<&Ty>,
-) -> Result<Made, Fail>
+) -> Result<TypedExpr, Fail>
     ensures { Gives made result (table.call_case (limits context.now)
         (function_named context.now name.now) name.now
         (all_seen context.now variables.now given.now) (expected want.entry)) }
@@ -645,7 +645,7 @@ fn given_call(
     function: GivenFunction,
     given: &[Expr],
     want: Option<&Ty>,
-) -> Result<Made, Fail>
+) -> Result<TypedExpr, Fail>
     ensures { Gives made result (table.given_case (limits context.now) function
         (all_seen context.now variables.now given.now) (expected want.entry)) }
 {
@@ -674,7 +674,7 @@ fn call_of_one(
     function: GivenFunction,
     operand: &Expr,
     want: Option<&Ty>,
-) -> Result<Made, Fail>
+) -> Result<TypedExpr, Fail>
     ensures { Gives made result (table.one_case (limits context.now) function
         (seen context.now variables.now operand.now) (expected want.entry)) }
 {
@@ -704,7 +704,7 @@ fn truncate(
     variables: &Scopes<Variable>,
     operand: &Expr,
     want: Option<&Ty>,
-) -> Result<Made, Fail>
+) -> Result<TypedExpr, Fail>
     ensures { Gives made result (spec.resized_case op.Truncate spec.no_narrower
         (seen context.now variables.now operand.now) (expected want.entry)) }
 {
@@ -730,7 +730,7 @@ fn extend(
     extension: Op,
     operand: &Expr,
     want: Option<&Ty>,
-) -> Result<Made, Fail>
+) -> Result<TypedExpr, Fail>
     ensures { Gives made result (spec.resized_case extension no_wider
         (seen context.now variables.now operand.now) (expected want.entry)) }
 {
@@ -755,7 +755,7 @@ fn unpack(
     variables: &Scopes<Variable>,
     operand: &Expr,
     want: Option<&Ty>,
-) -> Result<Made, Fail>
+) -> Result<TypedExpr, Fail>
     ensures { Gives made result (spec.unpack_case (limits context.now)
         (seen context.now variables.now operand.now) (expected want.entry)) }
 {
@@ -779,7 +779,7 @@ fn from_integer(
     variables: &Scopes<Variable>,
     operand: &Expr,
     want: Option<&Ty>,
-) -> Result<Made, Fail>
+) -> Result<TypedExpr, Fail>
     ensures { Gives made result (spec.from_integer_case (seen context.now variables.now operand.now)
         (expected want.entry)) }
 {
@@ -803,7 +803,7 @@ fn pack(
     variables: &Scopes<Variable>,
     operand: &Expr,
     want: Option<&Ty>,
-) -> Result<Made, Fail>
+) -> Result<TypedExpr, Fail>
     ensures { Gives made result (spec.pack_case (limits context.now)
         (seen context.now variables.now operand.now) (expected want.entry)) }
 {
@@ -823,7 +823,7 @@ fn is_valid(
     variables: &Scopes<Variable>,
     operand: &Expr,
     want: Option<&Ty>,
-) -> Result<Made, Fail>
+) -> Result<TypedExpr, Fail>
     ensures { Gives made result (spec.is_valid_case (seen context.now variables.now operand.now)
         (expected want.entry)) }
 {
@@ -846,7 +846,7 @@ fn valid_value(
     variables: &Scopes<Variable>,
     operand: &Expr,
     want: Option<&Ty>,
-) -> Result<Made, Fail>
+) -> Result<TypedExpr, Fail>
     ensures { Gives made result (spec.valid_value_case (seen context.now variables.now operand.now)
         (expected want.entry)) }
 {
@@ -869,7 +869,7 @@ fn from_maybe(
     default: &Expr,
     operand: &Expr,
     want: Option<&Ty>,
-) -> Result<Made, Fail>
+) -> Result<TypedExpr, Fail>
     ensures { Gives made result (spec.from_maybe_case (seen context.now variables.now default.now)
         (seen context.now variables.now operand.now) (expected want.entry)) }
 {
@@ -896,7 +896,7 @@ fn function_call(
     name: &Name,
     given: &[Expr],
     want: Option<&Ty>,
-) -> Result<Made, Fail>
+) -> Result<TypedExpr, Fail>
     ensures { Gives made result (spec.function_case (function_named context.now name.now)
         (all_seen context.now variables.now given.now) (expected want.entry)) }
 {
@@ -916,7 +916,7 @@ fn call_of_header(
     function: &FunctionHeader,
     given: &[Expr],
     want: Option<&Ty>,
-) -> Result<Made, Fail>
+) -> Result<TypedExpr, Fail>
     ensures { Gives made result (spec.function_case (Some (header function.now))
         (all_seen context.now variables.now given.now) (expected want.entry)) }
 {
@@ -967,7 +967,7 @@ fn construct(
     name: &Name,
     given: &[FieldValue],
     want: Option<&Ty>,
-) -> Result<Made, Fail>
+) -> Result<TypedExpr, Fail>
     ensures { Gives made result (ordered (limits context.now)
         (spec.construct_case (limits context.now) (structure_named context.now name.now)
         (fields_seen context.now variables.now given.now)) (expected want.entry)) }
@@ -1017,7 +1017,7 @@ fn field_values(
     Ok((numbers, found))
 }
 
-/// What stands in front of suffixes.
+/// What comes before suffixes.
 #[cycle(typing)]
 fn front(
     alloc: Global,
@@ -1058,7 +1058,7 @@ pub fn handed_instance(
     }
 }
 
-/// What stands behind suffixes.
+/// What comes after suffixes.
 #[cycle(typing)]
 fn postfix(
     alloc: Global,
@@ -1080,7 +1080,7 @@ fn postfix(
     Ok(found)
 }
 
-/// What stands behind one suffix.
+/// What comes after one suffix.
 #[cycle(typing)]
 fn behind(
     alloc: Global,
@@ -1094,22 +1094,22 @@ fn behind(
 {
     match suffix {
         Suffix::Member(_, name) => {
-            let found = member_behind(alloc, context, name.name.bytes(), front)?;
+            let found = member_after(alloc, context, name.name.bytes(), front)?;
             in_order_front(context, found)
         }
         Suffix::Method(_, name, given) => {
             let name = name.name.bytes();
-            let found = method_behind(alloc, context, variables, name, given.as_slice(), front)?;
+            let found = method_after(alloc, context, variables, name, given.as_slice(), front)?;
             in_order_front(context, found)
         }
         Suffix::Index(_, place) => {
-            let found = index_behind(alloc, context, variables, place, front)?;
+            let found = index_after(alloc, context, variables, place, front)?;
             in_order_front(context, found)
         }
         Suffix::Slice(_, high, low) => {
             let high = literal(context, variables, high);
             let low = literal(context, variables, low);
-            let found = slice_behind(alloc, context, high, low, front)?;
+            let found = slice_after(alloc, context, high, low, front)?;
             in_order_front(context, found)
         }
     }
@@ -1117,8 +1117,8 @@ fn behind(
 
 /// `.m(args)`: a value method.
 #[cycle(typing)]
-#[tactic(auto, unfolding(crate::specs::Places::method_behind, crate::specs::Places::call_of))]
-fn method_behind(
+#[tactic(auto, unfolding(crate::specs::Places::method_after, crate::specs::Places::call_of))]
+fn method_after(
     alloc: Global,
     context: &Context,
     variables: &Scopes<Variable>,
@@ -1126,7 +1126,7 @@ fn method_behind(
     given: &[Expr],
     front: Front,
 ) -> Result<Front, Fail>
-    ensures { Gives front_of result (places.method_behind (limits context.now) name.now
+    ensures { Gives front_of result (places.method_after (limits context.now) name.now
         (all_seen context.now variables.now given.now) (front_of front)) }
 {
     let Front::Instance(instance) = front else {
@@ -1145,15 +1145,15 @@ fn method_behind(
 
 /// `[i]`: a place of an array, or a bit.
 #[cycle(typing)]
-#[tactic(auto, unfolding(crate::specs::Places::index_behind, crate::specs::Places::value_at))]
-fn index_behind(
+#[tactic(auto, unfolding(crate::specs::Places::index_after, crate::specs::Places::value_at))]
+fn index_after(
     alloc: Global,
     context: &Context,
     variables: &Scopes<Variable>,
     place: &Expr,
     front: Front,
 ) -> Result<Front, Fail>
-    ensures { Gives front_of result (places.index_behind (limits context.now)
+    ensures { Gives front_of result (places.index_after (limits context.now)
         (seen context.now variables.now place.now) (front_of front)) }
 {
     match front {
@@ -1178,7 +1178,7 @@ fn bit_of(
     context: &Context,
     variables: &Scopes<Variable>,
     place: &Expr,
-    typed: Made,
+    typed: TypedExpr,
 ) -> Result<Front, Fail>
     ensures { Gives front_of result (places.bit_of (seen context.now variables.now place.now)
         (made typed)) }

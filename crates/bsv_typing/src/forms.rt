@@ -13,7 +13,7 @@ use crate::front::{Front, value_at};
 use bsv_ast::{Level, Literal, Operator};
 use bsv_bits::Name;
 use bsv_context::{
-    Context, Fail, Made, applied, applied_to_one, as_wanted, fits, fits_negated, is_below_power,
+    Context, Fail, TypedExpr, applied, applied_to_one, as_wanted, fits, fits_negated, is_below_power,
     literal, one,
 };
 use bsv_types::{Boxed, Expr as Typed, Items, Op, Ty};
@@ -36,7 +36,7 @@ fn unsized_number(
     context: &Context,
     number: u128,
     want: Option<&Ty>,
-) -> Result<Made, Fail>
+) -> Result<TypedExpr, Fail>
     ensures { Gives made result (spec.number_case (limits context.now) number
         (expected want.entry)) }
 {
@@ -50,7 +50,7 @@ fn unsized_number(
 
 /// A number with a size.
 #[tactic(auto, unfolding(crate::specs::Forms::sized_case))]
-fn sized_number(alloc: Global, size: u32, number: u128, want: Option<&Ty>) -> Result<Made, Fail>
+fn sized_number(alloc: Global, size: u32, number: u128, want: Option<&Ty>) -> Result<TypedExpr, Fail>
     ensures { Gives made result (spec.sized_case size number (expected want.entry)) }
 {
     match want {
@@ -79,7 +79,7 @@ pub(crate) fn number(
     context: &Context,
     written: Literal,
     want: Option<&Ty>,
-) -> Result<Made, Fail>
+) -> Result<TypedExpr, Fail>
     ensures { Gives made result (table.literal_case (limits context.now) written
         (expected want.entry)) }
 {
@@ -102,7 +102,7 @@ pub(crate) fn negated(
     context: &Context,
     number: u128,
     want: Option<&Ty>,
-) -> Result<Made, Fail>
+) -> Result<TypedExpr, Fail>
     ensures { Gives made result (spec.negated_case (limits context.now) number
         (expected want.entry)) }
 {
@@ -122,7 +122,7 @@ pub(crate) fn label(
     context: &Context,
     name: &Name,
     want: Option<&Ty>,
-) -> Result<Made, Fail>
+) -> Result<TypedExpr, Fail>
     ensures { Gives made result (table.label_case (label_named context.now name.now) name.now
         (expected want.entry)) }
 {
@@ -141,7 +141,7 @@ pub(crate) fn label(
 
 /// `tagged Invalid`.
 #[tactic(auto, unfolding(crate::specs::Forms::invalid_case))]
-pub(crate) fn invalid(alloc: Global, want: Option<&Ty>) -> Result<Made, Fail>
+pub(crate) fn invalid(alloc: Global, want: Option<&Ty>) -> Result<TypedExpr, Fail>
     ensures { Gives made result (spec.invalid_case (expected want.entry)) }
 {
     match want {
@@ -163,7 +163,7 @@ fn maybe_of(alloc: Global, ty: &Ty) -> Result<Ty, AllocError>
 }
 
 /// `tagged Valid e`, of a typed e of the type.
-pub(crate) fn tagged(alloc: Global, ty: &Ty, payload: Typed) -> Result<Made, AllocError>
+pub(crate) fn tagged(alloc: Global, ty: &Ty, payload: Typed) -> Result<TypedExpr, AllocError>
     ensures { IfOk result (λ m. made m ≡ applied (maybe (kind ty.now)) (op.Valid ∷ [])
         (payload ∷ [])) }
 {
@@ -177,7 +177,7 @@ pub(crate) fn front_value(
     context: &Context,
     front: Front,
     want: Option<&Ty>,
-) -> Result<Made, Fail>
+) -> Result<TypedExpr, Fail>
     ensures { Gives made result (ordered (limits context.now)
         (table.front_case (limits context.now) (Some (front_of front))) (expected want.entry)) }
 {

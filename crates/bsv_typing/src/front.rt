@@ -12,7 +12,7 @@ ghost use Rattle.bsv_context.specs.Seen.{function_named};
 
 use bsv_bits::Name;
 use bsv_context::{
-    Context, Fail, FoundMethod, FunctionHeader, Made, Params, Slot, Variable, below, called,
+    Context, Fail, FoundMethod, FunctionHeader, TypedExpr, Params, Slot, Variable, below, called,
     capped, is_interface, method_named, with_suffix,
 };
 use bsv_scopes::Scopes;
@@ -23,15 +23,15 @@ use std::alloc::{AllocError, Global};
 #[derive(Drop)]
 pub struct Instance {
     pub level: u32,
-    /// Its place in its array, where it stands in one.
+    /// Its place in its array, where it is in one.
     pub index: Option<Boxed<Expr>>,
     pub ty: Ty,
 }
 
-/// What stands in front of a suffix.
+/// What comes before a suffix.
 #[derive(Drop)]
 pub(crate) enum Front {
-    Whole(Made),
+    Whole(TypedExpr),
     Instance(Instance),
     Array(u32, Ty),
 }
@@ -54,7 +54,7 @@ pub(crate) fn method_call(
     number: usize,
     ty: Ty,
     operands: Items<Expr>,
-) -> Result<Made, Fail>
+) -> Result<TypedExpr, Fail>
     ensures { Gives made result (Some (spec.method_call (instance_of instance) number
         (kind ty) operands)) }
 {
@@ -64,7 +64,7 @@ pub(crate) fn method_call(
         level: instance.level,
         index: instance.index,
     };
-    Ok(Made {
+    Ok(TypedExpr {
         ty,
         expr: Expr::Method(own, place, number, operands),
     })
@@ -84,7 +84,7 @@ fn is_read(ty: &Ty) -> bool
 
 /// A call of a value method without arguments.
 #[tactic(auto, unfolding(crate::specs::Places::call_of, crate::specs::Forms::arguments))]
-fn plain_call(alloc: Global, instance: Instance, method: FoundMethod<'_>) -> Result<Made, Fail>
+fn plain_call(alloc: Global, instance: Instance, method: FoundMethod<'_>) -> Result<TypedExpr, Fail>
     ensures { Gives made result (spec.call_of (instance_of instance) (method_of method.entry) []) }
 {
     let ty = method.effect.value_type(alloc)?;
@@ -96,7 +96,7 @@ fn plain_call(alloc: Global, instance: Instance, method: FoundMethod<'_>) -> Res
 
 /// The read of a register, a wire or a pulse wire.
 #[tactic(auto, unfolding(crate::specs::Places::read))]
-pub(crate) fn read(alloc: Global, context: &Context, instance: Instance) -> Result<Made, Fail>
+pub(crate) fn read(alloc: Global, context: &Context, instance: Instance) -> Result<TypedExpr, Fail>
     ensures { Gives made result (spec.read (limits context.now) (instance_of instance)) }
 {
     if !is_read(&instance.ty) {
@@ -109,9 +109,9 @@ pub(crate) fn read(alloc: Global, context: &Context, instance: Instance) -> Resu
     }
 }
 
-/// The value of what stands in front of a suffix, or alone.
+/// The value of what comes before a suffix, or alone.
 #[tactic(auto, unfolding(crate::specs::Places::value_at))]
-pub(crate) fn value_at(alloc: Global, context: &Context, front: Front) -> Result<Made, Fail>
+pub(crate) fn value_at(alloc: Global, context: &Context, front: Front) -> Result<TypedExpr, Fail>
     ensures { Gives made result (spec.value_at (limits context.now) (front_of front)) }
 {
     match front {
@@ -121,7 +121,7 @@ pub(crate) fn value_at(alloc: Global, context: &Context, front: Front) -> Result
     }
 }
 
-/// What stands in front, if the type that it has is in order.
+/// What is in front, if the type that it has is in order.
 pub(crate) fn in_order_front(context: &Context, front: Front) -> Result<Front, Fail>
     ensures { Gives front_of result (ordered_front (limits context.now) (Some (front_of front))) }
 {
@@ -151,7 +151,7 @@ fn variable_front(alloc: Global, found: &Variable) -> Result<Front, AllocError>
                 }))
             } else {
                 let expr = Expr::Variable(ty.copy(alloc)?, level);
-                Ok(Front::Whole(Made { ty: own, expr }))
+                Ok(Front::Whole(TypedExpr { ty: own, expr }))
             }
         }
     }
@@ -159,7 +159,7 @@ fn variable_front(alloc: Global, found: &Variable) -> Result<Front, AllocError>
 
 /// A call of a function without arguments.
 #[tactic(auto, unfolding(crate::specs::Forms::function_case, crate::specs::Forms::arguments))]
-fn plain_function(alloc: Global, function: &FunctionHeader) -> Result<Made, Fail>
+fn plain_function(alloc: Global, function: &FunctionHeader) -> Result<TypedExpr, Fail>
     ensures { Gives made result (forms.function_case (Some (header function.now)) [] None) }
 {
     let params = Params::Types(function.params.as_slice());
@@ -218,7 +218,7 @@ pub(crate) fn field_named<'a>(context: &'a Context, ty: &Ty, name: &[u8]) -> Opt
 
 /// The field of the name of a typed expression.
 #[tactic(auto, unfolding(crate::specs::Places::field_of))]
-fn field_behind(alloc: Global, context: &Context, name: &[u8], typed: Made) -> Result<Front, Fail>
+fn field_after(alloc: Global, context: &Context, name: &[u8], typed: TypedExpr) -> Result<Front, Fail>
     ensures { Gives front_of result (spec.field_of (limits context.now) name.now (made typed)) }
 {
     let typed = Boxed::new(alloc, typed)?;
@@ -232,15 +232,15 @@ fn field_behind(alloc: Global, context: &Context, name: &[u8], typed: Made) -> R
     Ok(Front::Whole(typed))
 }
 
-/// `.m` behind an instance.
-#[tactic(auto, unfolding(crate::specs::Places::member_behind))]
+/// `.m` after an instance.
+#[tactic(auto, unfolding(crate::specs::Places::member_after))]
 fn member_of_instance(
     alloc: Global,
     context: &Context,
     name: &[u8],
     instance: Instance,
 ) -> Result<Front, Fail>
-    ensures { Gives front_of result (spec.member_behind (limits context.now) name.now
+    ensures { Gives front_of result (spec.member_after (limits context.now) name.now
         (spec.instance (instance_of instance))) }
 {
     let ty = instance.ty.copy(alloc)?;
@@ -248,25 +248,25 @@ fn member_of_instance(
         Some(method) => Ok(Front::Whole(plain_call(alloc, instance, method)?)),
         None => {
             let typed = read(alloc, context, instance)?;
-            field_behind(alloc, context, name, typed)
+            field_after(alloc, context, name, typed)
         }
     }
 }
 
 /// `.m`: a value method without arguments, else a field.
-#[tactic(auto, unfolding(crate::specs::Places::member_behind))]
-pub(crate) fn member_behind(
+#[tactic(auto, unfolding(crate::specs::Places::member_after))]
+pub(crate) fn member_after(
     alloc: Global,
     context: &Context,
     name: &[u8],
     front: Front,
 ) -> Result<Front, Fail>
-    ensures { Gives front_of result (spec.member_behind (limits context.now) name.now
+    ensures { Gives front_of result (spec.member_after (limits context.now) name.now
         (front_of front)) }
 {
     match front {
         Front::Instance(instance) => member_of_instance(alloc, context, name, instance),
-        Front::Whole(typed) => field_behind(alloc, context, name, typed),
+        Front::Whole(typed) => field_after(alloc, context, name, typed),
         Front::Array(_, _) => Err(Fail::Fault),
     }
 }
@@ -300,7 +300,7 @@ fn bits_of(
     context: &Context,
     high: u128,
     low: u128,
-    typed: Made,
+    typed: TypedExpr,
 ) -> Result<Front, Fail>
     ensures { Gives front_of result (spec.bits_of (limits context.now) high low (made typed)) }
 {
@@ -314,15 +314,15 @@ fn bits_of(
 }
 
 /// `[h:l]`, of unsized literals.
-#[tactic(auto, unfolding(crate::specs::Places::slice_behind))]
-pub(crate) fn slice_behind(
+#[tactic(auto, unfolding(crate::specs::Places::slice_after))]
+pub(crate) fn slice_after(
     alloc: Global,
     context: &Context,
     high: Option<u128>,
     low: Option<u128>,
     front: Front,
 ) -> Result<Front, Fail>
-    ensures { Gives front_of result (spec.slice_behind (limits context.now) high low
+    ensures { Gives front_of result (spec.slice_after (limits context.now) high low
         (front_of front)) }
 {
     let (Some(high), Some(low)) = (high, low) else {

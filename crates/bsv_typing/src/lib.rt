@@ -1,6 +1,6 @@
 //! Typing: the type of each expression, with an expected type or without one.
 //!
-//! Modules in reading order: `front` (what stands in front of a suffix), `openness` (which
+//! Modules in reading order: `front` (what comes before a suffix), `openness` (which
 //! expressions have no type of their own), `forms` (forms without operands, and what finishes the
 //! others), `expressions` (the forms), `law` (what the typing promises).
 //!
@@ -10,7 +10,7 @@
 //! `specs/Laws.antt` says what the typing promises, and `specs/Seen.antt` what the definitions see
 //! of the code.
 //!
-//! A typed expression that is held while something may still fail stands in a `Boxed`: an early end
+//! A typed expression that is held while something may still fail is in a `Boxed`: an early end
 //! then drops it in one step, which keeps the proof of the function short.
 #![tactic(auto)]
 

@@ -122,7 +122,7 @@ pub(crate) fn literal(context: &Context, variables: &Scopes<Variable>, expr: &Ex
     }
 }
 
-/// How many of them stand before the first that has a type of its own.
+/// How many of them come before the first that has a type of its own.
 fn open_front(context: &Context, variables: &Scopes<Variable>, exprs: &[Expr]) -> usize
     ensures count { result ≡ spec.open_front (all_seen context.now variables.now exprs.now) }
     ensures within { result ≤ length exprs.now }

@@ -11,10 +11,10 @@ use Rattle.bsv_design.specs.declared.element.Port.{Port}
 use Rattle.bsv_design.specs.declared.element.Role.{Role}
 use Rattle.bsv_design.specs.declared.element.Role.TheVariants as role
 use Rattle.bsv_design.specs.declared.schedule.Schedule.{Schedule}
-use Rattle.bsv_design.specs.Roles.{is_rule, is_value}
-use Rattle.bsv_design.specs.Schemes.{Scheme, Outline, Asking, Called, Look, all_hold, all_open, answers, filled, given, if_asked, ports_of, ready, seen, value}
-use Rattle.bsv_design.specs.States.{AreWordsOf, after_calls, emptied}
-use Rattle.bsv_design.specs.Traces.{Trace}
+use Rattle.bsv_design.specs.tree.Roles.{is_rule, is_value}
+use Rattle.bsv_design.specs.scheme.Schemes.{Scheme, Outline, Asking, Called, Look, all_hold, all_open, answers, filled, given, if_asked, ports_of, ready, seen, value}
+use Rattle.bsv_design.specs.scheme.States.{AreWordsOf, after_calls, emptied}
+use Rattle.bsv_design.specs.scheme.Traces.{Trace}
 use Rattle.bsv_graph.specs.Edges.{numbers_below}
 use Rattle.bsv_clock.specs.Clocks.{IsClock, is_in, is_asked, may_fire, may_fire_as}
 use Rattle.bsv_clock.specs.Grounds.{BelongTogether, Fit, IsLawful, IsScheduleOf}

@@ -9,13 +9,13 @@ use Rattle.bsv_vtext.specs.declared.tree.Atom.{Atom}
 use Rattle.bsv_vtext.specs.declared.tree.Atom.TheVariants as atom
 use Rattle.bsv_vtext.specs.declared.tree.Side.{Side}
 use Rattle.bsv_vtext.specs.declared.tree.Side.TheVariants as side
-use Rattle.bsv_vtext.specs.Signals.{Contents}
+use Rattle.bsv_vtext.specs.Signals.{VModuleData}
 use Rattle.bsv_vgen.specs.declared.known.Known.{Known}
 use Rattle.bsv_vgen.specs.Lines.{Written, Step, constant, with_line, slice, join, zeros, negative, filling, join_above, known_at, two_side, two_width, node, nodes}
 use Rattle.bsv_vgen.specs.Names.{numbered_wire}
 use Rattle.bsv_vgen.proofs.Fronts.{Reaches, reaches_before}
 
-module _ (m : Contents) where
+module _ (m : VModuleData) where
   line_before : (w : Written) (u : ℕ) (s : Side) → Reaches m (with_line w u s) → Reaches m w
   line_before w u s r = reaches_before m w (numbered_wire (length w.wires) u) s r
 

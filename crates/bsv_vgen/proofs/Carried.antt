@@ -11,43 +11,43 @@ use Rattle.bsv_prim.specs.declared.part.Part.{Part}
 use Rattle.bsv_design.specs.declared.element.Element.{Element}
 use Rattle.bsv_design.specs.declared.element.Port.{Port}
 use Rattle.bsv_design.specs.declared.schedule.Schedule.{Schedule}
-use Rattle.bsv_design.specs.Bodies.{at, words}
-use Rattle.bsv_design.specs.Designs.{Blueprint, IsDesign}
-use Rattle.bsv_design.specs.Roles.{is_rule, is_value, gives_value}
-use Rattle.bsv_design.specs.Schemes.{Scheme, Outline, AreAlike, Asking, Look, answers, design_scheme, given, kinds_of, outline, ports_of, ready, seen, trace_of, value}
-use Rattle.bsv_design.specs.States.{AreWordsOf, methods_in}
-use Rattle.bsv_design.specs.Traces.{body_trace}
-use Rattle.bsv_design.specs.Widths.{result_fits}
+use Rattle.bsv_design.specs.design.Bodies.{at, words}
+use Rattle.bsv_design.specs.design.Designs.{DesignData, IsDesign}
+use Rattle.bsv_design.specs.tree.Roles.{is_rule, is_value, gives_value}
+use Rattle.bsv_design.specs.scheme.Schemes.{Scheme, Outline, AreAlike, Asking, Look, answers, design_scheme, given, kinds_of, outline, ports_of, ready, seen, trace_of, value}
+use Rattle.bsv_design.specs.scheme.States.{AreWordsOf, methods_in}
+use Rattle.bsv_design.specs.scheme.Traces.{body_trace}
+use Rattle.bsv_design.specs.design.Widths.{result_fits}
 use Rattle.bsv_graph.specs.Edges.{numbers_below}
 use Rattle.bsv_guard.specs.Fitting.{HaveWidths}
 use Rattle.bsv_guard.proofs.Alike.{alike}
 use Rattle.bsv_guard.proofs.Given.{given_arguments}
 use Rattle.bsv_guard.proofs.Lists.{IsOf, item_of}
-use Rattle.bsv_clock.specs.Hardware.{Cell, Given, Shows, TellsClock, cell, cell_widths, cells_of, input_widths, inputs_of}
-use Rattle.bsv_clock.specs.Hardware as clocks
+use Rattle.bsv_clock.specs.Shows.{Cell, Given, Shows, TellsClock, cell, cell_widths, cells_of, input_widths, inputs_of}
+use Rattle.bsv_clock.specs.Shows as clocks
 use Rattle.bsv_clock.specs.Clocks.{IsClock, is_asked, is_in}
 use Rattle.bsv_clock.specs.Grounds.{Fit, IsLawful, IsScheduleOf}
 use Rattle.bsv_clock.specs.Looks.{clock_look}
 use Rattle.bsv_clock.specs.Values.{IsValueMethod}
 use Rattle.bsv_net.specs.declared.net.Net.{Net}
-use Rattle.bsv_net.specs.AtHand.{circuit}
-use Rattle.bsv_net.specs.Circuits.{register_widths}
-use Rattle.bsv_net.specs.Hardware.{gives, WordsCarry}
+use Rattle.bsv_net.specs.AtHand.{net_data}
+use Rattle.bsv_net.specs.Nets.{register_widths}
+use Rattle.bsv_net.specs.ShowsByNet.{gives, WordsCarry}
 use Rattle.bsv_net.proofs.WidthsFit.{cells_have, inputs_have}
 use Rattle.bsv_net.proofs.Numbers.{number_at}
 use Rattle.bsv_vtext.specs.declared.tree.Atom.{Atom}
 use Rattle.bsv_vtext.specs.declared.tree.Atom.TheVariants as atom
 use Rattle.bsv_vtext.specs.declared.tree.Target.TheVariants as target
-use Rattle.bsv_vtext.specs.Signals.{Contents}
+use Rattle.bsv_vtext.specs.Signals.{VModuleData}
 use Rattle.bsv_vtext.specs.VClock.{Inputs, Nets, VClock, atom_word, word_at}
 use Rattle.bsv_vgen.specs.declared.known.Known.{Known}
-use Rattle.bsv_vgen.specs.Hardware.{ModuleCarries, TellsFire, TellsModule, inputs}
+use Rattle.bsv_vgen.specs.ShowsByModule.{ModuleCarries, TellsFire, TellsModule, inputs}
 use Rattle.bsv_vgen.specs.Modules as modules
 use Rattle.bsv_vgen.specs.Modules.{argument_inputs, asked_input}
 use Rattle.bsv_vgen.specs.Names.{fire_wire}
 use Rattle.bsv_vgen.proofs.AskedToo.{ClockToo, asking_values, clock_too, fit_too, given_too, is_asked_too, is_value_at, ready_too, value_too}
 use Rattle.bsv_vgen.proofs.Computes.{Computes, TellsNet, input_words}
-use Rattle.bsv_design.specs.Running.{or_zero}
+use Rattle.bsv_design.specs.carrying.Running.{or_zero}
 
 -- ---- the words of the inputs
 
@@ -63,11 +63,11 @@ arguments_are word m k (p ∷ ps) (w ∷ ws) long are =
     (arguments_are word m (k + 1) ps ws (omega (arith, long))
     (λ j l. ap (λ i. word (atom.Argument m i)) (omega arith) ∙ are (suc j) (omega (arith, l))))
 
--- the words of a method behind which more inputs stand
-words_behind : (word : Atom → Bits) (xs : List Known) (x : Known) (more : List Known)
+-- the words of a method after which more inputs stand
+words_after : (word : Atom → Bits) (xs : List Known) (x : Known) (more : List Known)
     → input_words word ((xs ++ x ∷ []) ++ more) ≡ input_words word xs ++ (word x.atom ∷ input_words word more)
-words_behind word [] x more = refl
-words_behind word (y ∷ xs) x more = ap (λ (ws : List Bits). word y.atom ∷ ws) (words_behind word xs x more)
+words_after word [] x more = refl
+words_after word (y ∷ xs) x more = ap (λ (ws : List Bits). word y.atom ∷ ws) (words_after word xs x more)
 
 module _ (S : Scheme) (q : Asking) (count : ℕ) (registers : List Bits) (nets : Nets) where
   abbrev r : Asking
@@ -123,7 +123,7 @@ module _ (S : Scheme) (q : Asking) (count : ℕ) (registers : List Bits) (nets :
           ≡ cond b [] (given S r n ++ (bit (is_asked r n) ∷ clocks.inputs_from S r (n + 1) (map outline es)))
       of true l rest = refl
       of false l rest =
-          words_behind word (argument_inputs n 0 e.arguments) (asked_input n e.role) (modules.inputs_from (n + 1) (methods_in es))
+          words_after word (argument_inputs n 0 e.arguments) (asked_input n e.role) (modules.inputs_from (n + 1) (methods_in es))
           ∙ ap₂ (λ (us ws : List Bits). us ++ ws) (arguments_word n e (omega (arith, l)) here)
           (ap₂ (λ (x : Bits) (ws : List Bits). x ∷ ws) (asked_word n e (omega (arith, l)) here) (rest (omega (arith, l))))
 
@@ -137,7 +137,7 @@ gives_where_word widths false None word w fits is = absurd (let n : ⊥ = cc in 
 gives_where_word widths false (Some k) word w fits is = absurd (let n : ⊥ = cc in n)
 
 -- an element of a design that gives a word is a method that gives a value
-gives_from_word : (b : Blueprint) → ∥ IsDesign b ∥₁ → (q : Asking) (n : ℕ) (look : Look) (e : Element) → slice_get b.elements n ≡ Some e
+gives_from_word : (b : DesignData) → ∥ IsDesign b ∥₁ → (q : Asking) (n : ℕ) (look : Look) (e : Element) → slice_get b.elements n ≡ Some e
     → (w : Bits) → value (design_scheme b) q n look ≡ Some w → gives_value e.role ≡ true
 unfolding value seen design_scheme body_trace
 gives_from_word b made q n look e there w is =
@@ -148,7 +148,7 @@ gives_from_word b made q n look e there w is =
 
 -- ---- a clock
 
-module _ (b : Blueprint) (right : ∥ IsDesign b ∥₁) (net : Net) (m : Contents) (computes : Computes b (circuit net) m)
+module _ (b : DesignData) (right : ∥ IsDesign b ∥₁) (net : Net) (m : VModuleData) (computes : Computes b (net_data net) m)
     (count : length m.methods ≡ length (methods_in b.elements)) where
   module _ (g : Bool) (S : Scheme) (made : Schedule) (al : AreAlike S (design_scheme b)) (lawful : IsLawful S)
       (scheduled : IsScheduleOf S made) (net_carries : WordsCarry g S made net)
@@ -202,12 +202,12 @@ module _ (b : Blueprint) (right : ∥ IsDesign b ∥₁) (net : Net) (m : Conten
     -- ---- what is told of the clock, by the net and by the module
 
     abbrev told : Given
-    told = gives (circuit net) ws vs
+    told = gives (net_data net) ws vs
 
     clock_told : TellsClock g S p s too.others after told
     clock_told = net_carries.clock p s ws too.others after fit_asked cells_fit shows too.clock
 
-    net_told : TellsNet b (circuit net) m vs ws nets
+    net_told : TellsNet b (net_data net) m vs ws nets
     net_told = computes.tells vs ws ins true nets nexts inputs_fit registers_fit input_words_are steps
 
     nexts_are : nexts ≡ told.nexts

@@ -9,10 +9,10 @@ use Rattle.bsv_prim.specs.declared.primitive.RegisterInfo.{RegisterInfo}
 use Rattle.bsv_design.specs.declared.design.NamedPart.{NamedPart}
 use Rattle.bsv_design.specs.declared.kind.Kind.{Kind}
 use Rattle.bsv_design.specs.declared.kind.Kind.TheVariants.{Reg, RegU, Wire, DWire, RWire, Pulse, Plain, Pipeline, Bypass}
-use Rattle.bsv_design.specs.Kinds.{kind_table}
+use Rattle.bsv_design.specs.tree.Kinds.{kind_table}
 use Rattle.bsv_graph.specs.Edges.{numbers_below}
-use Rattle.bsv_clock.specs.Hardware as carrying
-use Rattle.bsv_clock.specs.Hardware.{Cell, cell_of, cells_in, cells_of}
+use Rattle.bsv_clock.specs.Shows as carrying
+use Rattle.bsv_clock.specs.Shows.{Cell, cell_of, cells_in, cells_of}
 use Rattle.bsv_vtext.specs.declared.tree.VRegister.{VRegister}
 use Rattle.bsv_vgen.specs.Interfaces.{cell}
 use Rattle.bsv_vgen.specs.Modules.{register_of, registers_of}

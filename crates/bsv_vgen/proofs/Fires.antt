@@ -1,21 +1,21 @@
--- The wires that tell what fires are right lines behind those of the nodes, and have the words that they are given.
+-- The wires that tell what fires are right lines after those of the nodes, and have the words that they are given.
 use Rattle.std.proofs.Common.{◌≡◌, ◌∙◌, ℕ, zero, suc, ◌+◌, ◌≤◌, Bool, true, false, cond, List, [], ◌∷◌, ◌++◌, length, map, Some, refl, sym, ap, subst, arith, length-append, append_assoc, append-nil}
 use Rattle.std.specs.Prelude.{slice_get}
 use Rattle.std.proofs.lemmas.Option.{same_Some}
 use Rattle.bsv_bits.specs.Words.{Bits}
 use Rattle.bsv_design.specs.declared.element.Element.{Element}
-use Rattle.bsv_design.specs.Roles.{is_value}
-use Rattle.bsv_design.specs.Schemes.{outline}
+use Rattle.bsv_design.specs.tree.Roles.{is_value}
+use Rattle.bsv_design.specs.scheme.Schemes.{outline}
 use Rattle.bsv_vtext.specs.declared.tree.Assign.{Assign}
 use Rattle.bsv_vtext.specs.declared.tree.Atom.{Atom}
 use Rattle.bsv_vtext.specs.declared.tree.Side.TheVariants as side
 use Rattle.bsv_vtext.specs.declared.tree.Target.TheVariants as target
 use Rattle.bsv_vtext.specs.declared.tree.VWire.{VWire}
 use Rattle.bsv_vtext.specs.Modules.{Stands}
-use Rattle.bsv_vtext.specs.Signals.{Contents}
+use Rattle.bsv_vtext.specs.Signals.{VModuleData}
 use Rattle.bsv_vtext.specs.VClock.{Inputs, Nets, atom_word}
 use Rattle.bsv_vgen.specs.declared.known.Known.{Known}
-use Rattle.bsv_vgen.specs.Hardware.{TellsFire}
+use Rattle.bsv_vgen.specs.ShowsByModule.{TellsFire}
 use Rattle.bsv_vgen.specs.Lines.{Written, with_wire}
 use Rattle.bsv_vgen.specs.Modules.{told_at, with_fire, with_fires}
 use Rattle.bsv_vgen.specs.Names.{fire_wire, fire_wires}
@@ -68,7 +68,7 @@ unfolding with_fires
 fires_many ks fires n [] w many = many
 fires_many ks fires n (e ∷ es) w many = fires_many ks fires (n + 1) es (with_fire e (told_at ks fires n).atom w) (many_fire e (told_at ks fires n).atom w many)
 
-module _ (m : Contents) where
+module _ (m : VModuleData) where
   -- ---- before a wire
 
   fire_before : (e : Element) (a : Atom) (w : Written) → Reaches m (with_fire e a w) → Reaches m w
@@ -86,7 +86,7 @@ module _ (m : Contents) where
 
   -- ---- right lines
 
-  -- behind a wire that tells what fires
+  -- after a wire that tells what fires
   record IsFireRight (w v : Written) : Type 0 where
     longer : length w.wires ≤ length v.wires
     right : AreRight m (length v.wires)
@@ -104,7 +104,7 @@ module _ (m : Contents) where
             right = subst (AreRight m) (sym long) (one_more m n (fire_wire e.name) (side.Is a) (line_there m w (fire_wire e.name) (side.Is a) h) right stands refl);
           }
 
-  -- the atoms may stand behind the nodes
+  -- the atoms may come after the nodes
   pub fires_right : (ks : List Known) (fires : List ℕ) (n : ℕ) (es : List Element) (w : Written) → AreRight m (length w.wires)
       → ((i : ℕ) → Stands m (length w.wires) (told_at ks fires i).atom 1) → Reaches m (with_fires ks fires n es w)
       → AreRight m (length (with_fires ks fires n es w).wires)

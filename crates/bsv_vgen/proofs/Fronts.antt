@@ -1,4 +1,4 @@
--- Lines stand in the module where they were written, and what is written behind them leaves them.
+-- Lines are in the module where they were written, and what is written after them leaves them.
 use Rattle.std.proofs.Common.{◌≡◌, ◌∙◌, ℕ, ◌+◌, ◌<◌, ◌≤◌, IsTrue, List, [], ◌∷◌, ◌++◌, length, Some, refl, sym, ap, subst, arith, append_assoc, length-append, ◌⊎◌, inl, inr}
 use Rattle.std.specs.Prelude.{slice_get, option_map}
 use Rattle.std.proofs.Math.Nat.{eq-or-lt_of_le}
@@ -11,7 +11,7 @@ use Rattle.bsv_vtext.specs.declared.tree.Side.{Side}
 use Rattle.bsv_vtext.specs.declared.tree.Target.TheVariants as target
 use Rattle.bsv_vtext.specs.declared.tree.VWire.{VWire}
 use Rattle.bsv_vtext.specs.Modules.{IsKnown, Stands, IsAssign}
-use Rattle.bsv_vtext.specs.Signals.{Contents}
+use Rattle.bsv_vtext.specs.Signals.{VModuleData}
 use Rattle.bsv_vtext.specs.Widths.{Fits, width_fits}
 use Rattle.bsv_vgen.specs.Lines.{Written, with_wire}
 
@@ -21,7 +21,7 @@ last_there {A} xs x more all e =
     ap (λ (ys : List A). slice_get ys (length xs)) (e ∙ append_assoc xs (x ∷ []) more)
     ∙ ap (slice_get (xs ++ x ∷ more)) place ∙ at_right xs (x ∷ more) 0
 
-module _ (m : Contents) where
+module _ (m : VModuleData) where
   -- what is written is the front of the module
   pub record Reaches (w : Written) : Type 0 where
     pub as_many : length w.assigns ≡ length w.wires
@@ -82,7 +82,7 @@ module _ (m : Contents) where
   pub stands_later : (n j : ℕ) (a : Atom) (u : ℕ) → n ≤ j → Stands m n a u → Stands m j a u
   stands_later n j a u l h = (h.0, known_later n j a l h.1)
 
-  -- the wire of a line may stand behind it
+  -- the wire of a line may come after it
   pub wire_stands : (n : ℕ) (wire : VWire) (s : Side) → IsLine n wire s → Stands m (n + 1) (atom.Wire n) wire.width
   wire_stands n wire s is = (
     record { has_width = ap (option_map (λ (w : VWire). w.width)) is.wire_there; word = tt },
@@ -96,7 +96,7 @@ module _ (m : Contents) where
     side = fits;
   }
 
-  -- one more line, of sides that may stand there
+  -- one more line, of sides that may be there
   pub one_more : (n : ℕ) (wire : VWire) (s : Side) → IsLine n wire s → AreRight n → Fits (Stands m n) s wire.width → IsTrue (width_fits wire.width) → AreRight (n + 1)
   one_more n wire s is right fits width = record {
     lines = λ l x few e. elim (before_or_last l few) [

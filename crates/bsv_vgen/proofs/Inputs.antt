@@ -7,14 +7,14 @@ use Rattle.bsv_bits.specs.Words.{bit}
 use Rattle.bsv_design.specs.declared.element.Element.{Element}
 use Rattle.bsv_design.specs.declared.element.Port.{Port}
 use Rattle.bsv_design.specs.declared.element.Role.{Role}
-use Rattle.bsv_design.specs.Roles.{is_rule, is_value}
-use Rattle.bsv_design.specs.Schemes.{outline}
-use Rattle.bsv_design.specs.States.{methods_in}
-use Rattle.bsv_clock.specs.Hardware.{input_widths_of}
+use Rattle.bsv_design.specs.tree.Roles.{is_rule, is_value}
+use Rattle.bsv_design.specs.scheme.Schemes.{outline}
+use Rattle.bsv_design.specs.scheme.States.{methods_in}
+use Rattle.bsv_clock.specs.Shows.{input_widths_of}
 use Rattle.bsv_vtext.specs.declared.tree.Atom.TheVariants as atom
 use Rattle.bsv_vtext.specs.declared.tree.VMethod.{VMethod}
 use Rattle.bsv_vtext.specs.declared.tree.VWire.{VWire}
-use Rattle.bsv_vtext.specs.Signals.{Contents, arguments_of}
+use Rattle.bsv_vtext.specs.Signals.{VModuleData, arguments_of}
 use Rattle.bsv_vtext.specs.Widths.{enable_width}
 use Rattle.bsv_vgen.specs.declared.known.Known.{Known}
 use Rattle.bsv_vgen.specs.Interfaces.{argument_of}
@@ -22,7 +22,7 @@ use Rattle.bsv_vgen.specs.Lines.{known_at}
 use Rattle.bsv_vgen.specs.Modules.{argument_inputs, asked_input, method_inputs, inputs_from}
 use Rattle.bsv_vgen.proofs.Knowing.{IsKnownRight, constant_right}
 
-module _ (m : Contents) where
+module _ (m : VModuleData) where
   -- each of these has its width, wherever it stands
   abbrev pub Inner : List Known → List ℕ → Type 0
   Inner [] [] = Unit {0}
@@ -101,8 +101,8 @@ module _ (m : Contents) where
       (v, there, ap (slice_get v.args) place ∙ ap (λ (vs : List VWire). slice_get vs j) args ∙ mapped_at argument_of e.arguments j p at)))
       ((λ n. asked_right i n e.role v there acts), tt)
 
-  abbrev widths_behind : Bool → Element → List Element → List ℕ
-  widths_behind b e es = cond b [] (map (λ (p : Port). p.width) e.arguments ++ 1 ∷ input_widths_of (map outline es))
+  abbrev widths_after : Bool → Element → List Element → List ℕ
+  widths_after b e es = cond b [] (map (λ (p : Port). p.width) e.arguments ++ 1 ∷ input_widths_of (map outline es))
 
   pub inputs_inner : (i : ℕ) (es : List Element) → HasPorts i (methods_in es) → Inner (inputs_from i (methods_in es)) (input_widths_of (map outline es))
   inputs_inner i [] has = tt
@@ -110,7 +110,7 @@ module _ (m : Contents) where
     where
       of : (b : Bool) → HasPorts i (cond b [] (e ∷ methods_in es))
           → (HasPorts (i + 1) (methods_in es) → Inner (inputs_from (i + 1) (methods_in es)) (input_widths_of (map outline es)))
-          → Inner (inputs_from i (cond b [] (e ∷ methods_in es))) (widths_behind b e es)
+          → Inner (inputs_from i (cond b [] (e ∷ methods_in es))) (widths_after b e es)
       of true h behind = tt
       of false h behind =
           let first = h 0 e refl in

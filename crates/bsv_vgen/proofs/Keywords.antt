@@ -10,7 +10,7 @@ abbrev pub has_dollar : List ℕ → Bool
 has_dollar [] = false
 has_dollar (b ∷ bytes) = b == 36 || has_dollar bytes
 
--- a capital letter stands behind a `$`
+-- a capital letter comes after a `$`
 abbrev pub marked : List ℕ → Bool
 marked [] = false
 marked (b ∷ bytes) = (b == 36 && is_capital bytes) || marked bytes

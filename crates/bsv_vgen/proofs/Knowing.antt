@@ -1,4 +1,4 @@
--- What is known of nodes is right: each atom has the node's width, and may stand on the lines behind.
+-- What is known of nodes is right: each atom has the node's width, and may stand on the lines after.
 use Rattle.std.proofs.Common.{◌≡◌, ◌∙◌, ℕ, ◌+◌, ◌-◌, ◌<◌, ◌≤◌, Bool, true, false, ◌&&◌, IsTrue, [], ◌∷◌, ◌++◌, length, Some, refl, sym, ap, ap₂, subst, arith, length-append}
 use Rattle.std.specs.Prelude.{◌==◌, ◌^◌, nat_le, nat_lt, if◌then◌else◌}
 use Rattle.std.proofs.lemmas.Bool.{and_parts, leb-true, ltb-true, eqb-true, le-leb, lt-ltb, ltb-false}
@@ -8,9 +8,9 @@ use Rattle.bsv_bits.specs.Words.{Bits, bit, word_not}
 use Rattle.bsv_bits.specs.declared.operator.Operator.{Operator}
 use Rattle.bsv_bits.specs.declared.operator.Operator.TheVariants as operator
 use Rattle.bsv_prim.specs.Table.{IsWordOf}
-use Rattle.bsv_design.specs.Computing.{word, sliced}
-use Rattle.bsv_design.specs.Widths as widths
-use Rattle.bsv_design.specs.Widths.{if_width, gives_bit, word_width, pick_width, slice_width, join_width, extend_width}
+use Rattle.bsv_design.specs.carrying.Computing.{word, sliced}
+use Rattle.bsv_design.specs.design.Widths as widths
+use Rattle.bsv_design.specs.design.Widths.{if_width, gives_bit, word_width, pick_width, slice_width, join_width, extend_width}
 use Rattle.bsv_guard.proofs.Nodes.{where_width}
 use Rattle.bsv_guard.proofs.Words.{not_fits, slice_fits}
 use Rattle.bsv_vtext.specs.declared.tree.Atom.{Atom}
@@ -18,7 +18,7 @@ use Rattle.bsv_vtext.specs.declared.tree.Atom.TheVariants as atom
 use Rattle.bsv_vtext.specs.declared.tree.Side.{Side}
 use Rattle.bsv_vtext.specs.declared.tree.Side.TheVariants as side
 use Rattle.bsv_vtext.specs.Modules.{Stands}
-use Rattle.bsv_vtext.specs.Signals.{Contents}
+use Rattle.bsv_vtext.specs.Signals.{VModuleData}
 use Rattle.bsv_vtext.specs.Widths.{Fits, FitsTwo, IsNamed, Even, Comparing, Shifting, FitsJoined, none, more, width_fits}
 use Rattle.bsv_vgen.specs.declared.known.Known.{Known}
 use Rattle.bsv_vgen.specs.Lines.{Written, Step, constant, line, with_line, two_side, two_width, slice, join, zeros, extend, negative, filling, join_above, sign_extend}
@@ -41,7 +41,7 @@ pub zeros_word : (u : ℕ) → 1 ≤ u → u ≤ 128 → IsWordOf u (zeros u)
 zeros_word u some most =
     subst (IsWordOf u) (sym (zeros_are u some most)) (record { word = record { some = some; most = most; below = pow_pos u }; same_width = refl })
 
-module _ (m : Contents) where
+module _ (m : VModuleData) where
   -- what is known of a node of this width
   pub record IsKnownRight (n : ℕ) (x : Known) (u : ℕ) : Type 0 where
     pub width : x.width ≡ u

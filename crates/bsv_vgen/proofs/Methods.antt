@@ -7,11 +7,11 @@ use Rattle.std.proofs.lemmas.Option.{same_Some}
 use Rattle.bsv_design.specs.declared.element.Element.{Element}
 use Rattle.bsv_design.specs.declared.element.Role.{Role}
 use Rattle.bsv_design.specs.declared.element.Role.TheVariants as role
-use Rattle.bsv_design.specs.Designs.{Blueprint, IsDesign}
-use Rattle.bsv_design.specs.Roles.{is_rule, gives_value}
-use Rattle.bsv_design.specs.Schemes.{outline}
-use Rattle.bsv_design.specs.States.{methods_in}
-use Rattle.bsv_net.specs.declared.circuit.Circuit.{Circuit}
+use Rattle.bsv_design.specs.design.Designs.{DesignData, IsDesign}
+use Rattle.bsv_design.specs.tree.Roles.{is_rule, gives_value}
+use Rattle.bsv_design.specs.scheme.Schemes.{outline}
+use Rattle.bsv_design.specs.scheme.States.{methods_in}
+use Rattle.bsv_net.specs.declared.net_data.NetData.{NetData}
 use Rattle.bsv_vtext.specs.declared.tree.VMethod.{VMethod}
 use Rattle.bsv_vgen.specs.declared.known.Known.{Known}
 use Rattle.bsv_vgen.specs.Interfaces.{IsMethodOf}
@@ -19,30 +19,30 @@ use Rattle.bsv_vgen.specs.Modules.{method_of, methods_from, result_of}
 
 -- ---- the elements before the first rule
 
-abbrev begun : Bool → Element → List Element → List Element
-begun b e es = cond b [] (e ∷ methods_in es)
+abbrev methods_with : Bool → Element → List Element → List Element
+methods_with b e es = cond b [] (e ∷ methods_in es)
 
--- they stand where they stand among all elements
+-- they are where they stand among all elements
 pub among_all : (es : List Element) (i : ℕ) (e : Element) → slice_get (methods_in es) i ≡ Some e → (slice_get es i ≡ Some e) × (is_rule e.role ≡ false)
 among_all [] i e there = absurd (let h : ⊥ = cc in h)
 among_all (y ∷ es) i e there = of (is_rule y.role) i refl there (λ k h. among_all es k e h)
   where
-    of : (b : Bool) (i : ℕ) → is_rule y.role ≡ b → slice_get (begun b y es) i ≡ Some e
+    of : (b : Bool) (i : ℕ) → is_rule y.role ≡ b → slice_get (methods_with b y es) i ≡ Some e
         → ((k : ℕ) → slice_get (methods_in es) k ≡ Some e → (slice_get es k ≡ Some e) × (is_rule e.role ≡ false))
         → (slice_get (y ∷ es) i ≡ Some e) × (is_rule e.role ≡ false)
     of true i r h rest = absurd (let n : ⊥ = cc in n)
     of false zero r h rest = (h, ap (λ (x : Element). is_rule x.role) (sym (same_Some y e h)) ∙ r)
     of false (suc k) r h rest = rest k h
 
--- no rule stands before them
+-- no rule comes before them
 abbrev NoRuleBefore : List Element → ℕ → Type 0
 NoRuleBefore es i = (k : ℕ) (d : Element) → k ≤ i → slice_get es k ≡ Some d → is_rule d.role ≡ false
 
 pub among_methods : (es : List Element) (i : ℕ) (e : Element) → slice_get es i ≡ Some e → NoRuleBefore es i → slice_get (methods_in es) i ≡ Some e
 among_methods [] i e there before = absurd (let h : ⊥ = cc in h)
-among_methods (y ∷ es) zero e there before = ap (λ (b : Bool). slice_get (begun b y es) 0) (before 0 y (omega arith) refl) ∙ there
+among_methods (y ∷ es) zero e there before = ap (λ (b : Bool). slice_get (methods_with b y es) 0) (before 0 y (omega arith) refl) ∙ there
 among_methods (y ∷ es) (suc i) e there before =
-    ap (λ (b : Bool). slice_get (begun b y es) (suc i)) (before 0 y (omega arith) refl)
+    ap (λ (b : Bool). slice_get (methods_with b y es) (suc i)) (before 0 y (omega arith) refl)
     ∙ among_methods es i e there (λ k d l h. before (suc k) d (omega (arith, l)) h)
 
 rule_role : (e : Element) → is_rule e.role ≡ true → e.role ≡ role.Rule
@@ -55,7 +55,7 @@ rule_role e h = of e.role h
     of role.ActionValue f = absurd (let n : ⊥ = cc in n)
 
 -- in a design an element that is a method is one of them
-pub is_among : (b : Blueprint) → ∥ IsDesign b ∥₁ → (i : ℕ) (e : Element) → slice_get b.elements i ≡ Some e → is_rule e.role ≡ false → slice_get (methods_in b.elements) i ≡ Some e
+pub is_among : (b : DesignData) → ∥ IsDesign b ∥₁ → (i : ℕ) (e : Element) → slice_get b.elements i ≡ Some e → is_rule e.role ≡ false → slice_get (methods_in b.elements) i ≡ Some e
 is_among b made i e there own =
     among_methods b.elements i e there (λ k d l h. ∥∥₁_elim made (Bool-set _ _) (λ (right : IsDesign b). of right k d l h (is_rule d.role) refl))
   where
@@ -65,7 +65,7 @@ is_among b made i e there own =
         absurd (let later : e.role ≡ role.Rule = right.methods_first k i d e h there l (rule_role d r) in
         let n : true ≡ false = sym (ap is_rule later) ∙ own in let m : ⊥ = cc in m)
 
-module _ (ks : List Known) (c : Circuit) where
+module _ (ks : List Known) (c : NetData) where
   -- ---- their ports
 
   pub ports_there : (es : List Element) (n i : ℕ) (e : Element) → slice_get es i ≡ Some e → slice_get (methods_from ks c n es) i ≡ Some (method_of ks c (n + i) e)

@@ -12,12 +12,12 @@ use Rattle.bsv_prim.specs.Table.{IsWordOf}
 use Rattle.bsv_prim.specs.declared.part.Part.{Part}
 use Rattle.bsv_design.specs.declared.element.Port.{Port}
 use Rattle.bsv_design.specs.declared.schedule.Schedule.{Schedule}
-use Rattle.bsv_design.specs.Roles.{is_rule}
-use Rattle.bsv_design.specs.Schemes.{Scheme, Asking, Outline, given, ports_of}
-use Rattle.bsv_design.specs.States.{AreWordsOf, FitsKinds, opening}
+use Rattle.bsv_design.specs.tree.Roles.{is_rule}
+use Rattle.bsv_design.specs.scheme.Schemes.{Scheme, Asking, Outline, given, ports_of}
+use Rattle.bsv_design.specs.scheme.States.{AreWordsOf, FitsKinds, opening}
 use Rattle.bsv_graph.specs.Edges.{numbers_below}
 use Rattle.bsv_guard.specs.Fitting.{HaveWidths, RequestFits}
-use Rattle.bsv_clock.specs.Hardware.{Shows, cell_widths, cells_of}
+use Rattle.bsv_clock.specs.Shows.{Shows, cell_widths, cells_of}
 use Rattle.bsv_clock.specs.Grounds.{IsLawful}
 use Rattle.bsv_clock.specs.Runs.{Row, AllFit, Continues}
 use Rattle.bsv_clock.proofs.InTurn.{run_fits}
@@ -29,10 +29,10 @@ use Rattle.bsv_vtext.specs.declared.tree.VMethod.{VMethod}
 use Rattle.bsv_vtext.specs.declared.tree.VRegister.{VRegister}
 use Rattle.bsv_vtext.specs.declared.tree.VWire.{VWire}
 use Rattle.bsv_vtext.specs.Modules.{IsModule, IsRegister}
-use Rattle.bsv_vtext.specs.Signals.{Contents, arguments_of}
+use Rattle.bsv_vtext.specs.Signals.{VModuleData, arguments_of}
 use Rattle.bsv_vtext.specs.VClock.{Inputs, Nets, VClock, initial, word_at}
 use Rattle.bsv_vtext.specs.Widths.{atom_width}
-use Rattle.bsv_vgen.specs.Hardware.{ModuleCarries, inputs}
+use Rattle.bsv_vgen.specs.ShowsByModule.{ModuleCarries, inputs}
 use Rattle.bsv_vgen.specs.Interfaces.{HasMethod, IsMethodAt, argument_of, cell}
 use Rattle.bsv_vgen.specs.Resetting.{BeginsOpen}
 use Rattle.bsv_vgen.specs.Runs.{ModuleRow, ModuleContinues, TellsFrom, RunsAs}
@@ -82,7 +82,7 @@ made_fits ps ws h k u e = of (slice_get ps k) refl (sym (ap (option_map (λ (a :
     of None there e = absurd (let n : ⊥ = cc in n)
     of (Some p) there e = subst (λ (v : ℕ). IsWordOf v (word_at ws k)) (same_Some p.width u e) (argument_fits ps ws h k p there)
 
-module _ (S : Scheme) (c : Contents)
+module _ (S : Scheme) (c : VModuleData)
     (methods : (n : ℕ) (o : Outline) → slice_get S.elements n ≡ Some o → is_rule o.role ≡ false → HasMethod c n o)
     (no_more : (n : ℕ) (m : VMethod) → slice_get c.methods n ≡ Some m → IsMethodAt S.elements n) where
   abbrev ins_of : Asking → Inputs
@@ -108,7 +108,7 @@ module _ (S : Scheme) (c : Contents)
           (made_fits at.outline.ports (given S q m) words k u
           (sym (ap (λ (vs : List VWire). option_map (λ (a : VWire). a.width) (slice_get vs k)) args) ∙ e))
 
-  -- the registers behind a clock have words of their widths
+  -- the registers after a clock have words of their widths
   next_fits : IsModule c → (q : Asking) → ((n : ℕ) → RequestFits S q n) → (ws : List Bits) → HaveWidths (widths_of c.registers) ws
       → (nets : Nets) (nexts : List Bits) → VClock c ws (ins_of q) true nets nexts → HaveWidths (widths_of c.registers) nexts
   next_fits is q fits ws have nets nexts clock =

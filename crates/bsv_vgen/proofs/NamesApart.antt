@@ -10,20 +10,20 @@ use Rattle.std.proofs.lemmas.Option.{slice_get_within, same_Some}
 use Rattle.bsv_lemmas.proofs.Places.{mapped_at}
 use Rattle.bsv_ast.specs.Names.{is_lower}
 use Rattle.bsv_types.specs.Names.{distinct}
-use Rattle.bsv_design.specs.Designs.{Blueprint, IsDesign}
-use Rattle.bsv_design.specs.Schemes.{outline}
+use Rattle.bsv_design.specs.design.Designs.{DesignData, IsDesign}
+use Rattle.bsv_design.specs.scheme.Schemes.{outline}
 use Rattle.bsv_vtext.specs.declared.tree.VMethod.{VMethod}
 use Rattle.bsv_vtext.specs.declared.tree.VRegister.{VRegister}
 use Rattle.bsv_vtext.specs.declared.tree.VWire.{VWire}
 use Rattle.bsv_vtext.specs.Modules.{Signal, Clock, Reset, Enable, Argument, Ready, Result, Register, Wire, signal_name, name_of_enable, name_of_argument, name_of_result}
-use Rattle.bsv_vtext.specs.Signals.{Contents, argument_name, enable_name, ready_name, fire_name}
+use Rattle.bsv_vtext.specs.Signals.{VModuleData, argument_name, enable_name, ready_name, fire_name}
 use Rattle.bsv_vgen.specs.Interfaces.{IsModuleOf, argument_of}
 use Rattle.bsv_vgen.specs.Names.{verilog_name, part_names, numbered_from, fire_wires}
 use Rattle.bsv_vgen.proofs.VerilogPaths.{path_told, dotted_route, verilog_same}
 use Rattle.bsv_vgen.proofs.Places.{Found, in_first, in_second, made_of, before, fires_before, fire_at}
 use Rattle.bsv_vgen.proofs.Spellings.{Sort, Clocks, Resets, Enables, Arguments, Readies, Results, Registers, Wires, sort, clock_sort, reset_sort, enable_sort, argument_sort, ready_sort, result_sort, register_sort, numbered_sort, fire_sort, argument_told, numbered_or_fire}
 use Rattle.bsv_vgen.proofs.Suffixes.{suffix_at, suffix_same}
-use Rattle.bsv_vgen.proofs.NamesRight.{method_of, method_right, argument_right, RegisterOf, register_at, register_small, register_behind, wire_at, wire_numbered, wire_route}
+use Rattle.bsv_vgen.proofs.NamesRight.{method_of, method_right, argument_right, RegisterOf, register_at, register_small, register_after, wire_at, wire_numbered, wire_route}
 use Rattle.bsv_types.proofs.Distinct.{distinct_places}
 
 -- ---- sorts of signals
@@ -118,7 +118,7 @@ giving_of : (o : Option VMethod) (name : List ℕ) → name_of_result o ≡ Some
 giving_of None name e = absurd cc
 giving_of (Some v) name e = record { method = v; at = refl; is = (mapped_of (λ (w : ℕ). v.name) v.result name e).is }
 
-module _ (b : Blueprint) (right : IsDesign b) (m : Contents) (made : IsModuleOf b.name b.parts (map outline b.elements) m)
+module _ (b : DesignData) (right : IsDesign b) (m : VModuleData) (made : IsModuleOf b.name b.parts (map outline b.elements) m)
     (few_registers : length m.registers < 2 ^ 64) (few_wires : length m.wires < 2 ^ 64) where
   -- ---- the sort of each name
 
@@ -137,7 +137,7 @@ module _ (b : Blueprint) (right : IsDesign b) (m : Contents) (made : IsModuleOf 
   sort_register : (k : ℕ) (r : VRegister) → slice_get m.registers k ≡ Some r → sort r.name ≡ Registers
   sort_register k r e =
       let o = register k r e in
-      let s = register_behind b right m made few_registers few_wires k r e o in
+      let s = register_after b right m made few_registers few_wires k r e o in
       ap sort (sym o.is ∙ ap (λ (t : List ℕ). verilog_name o.part.path ++ t) s.is)
       ∙ register_sort o.part.path s.rest (dotted_route o.part.path (right.paths o.number o.part o.at)) s.capital
 
@@ -200,8 +200,8 @@ module _ (b : Blueprint) (right : IsDesign b) (m : Contents) (made : IsModuleOf 
   registers_apart k l r s e f same =
       let o = register k r e in
       let p = register l s f in
-      let x = register_behind b right m made few_registers few_wires k r e o in
-      let y = register_behind b right m made few_registers few_wires l s f p in
+      let x = register_after b right m made few_registers few_wires k r e o in
+      let y = register_after b right m made few_registers few_wires l s f p in
       let first = sym (ap (λ (t : List ℕ). verilog_name o.part.path ++ t) x.is) ∙ o.is in
       let second = sym (ap (λ (t : List ℕ). verilog_name p.part.path ++ t) y.is) ∙ p.is in
       let parts = path_told o.part.path p.part.path x.rest y.rest (dotted_route o.part.path (right.paths o.number o.part o.at))

@@ -12,21 +12,21 @@ use Rattle.bsv_design.specs.declared.design.NamedPart.{NamedPart}
 use Rattle.bsv_design.specs.declared.element.Element.{Element}
 use Rattle.bsv_design.specs.declared.element.Role.{Role}
 use Rattle.bsv_design.specs.declared.element.Role.TheVariants as role
-use Rattle.bsv_design.specs.Designs.{Blueprint, IsDesign, IsNamed}
-use Rattle.bsv_design.specs.Roles.{is_rule, is_value}
-use Rattle.bsv_design.specs.Schemes.{Outline, outline}
-use Rattle.bsv_design.specs.Widths.{port_fits}
+use Rattle.bsv_design.specs.design.Designs.{DesignData, IsDesign, IsNamed}
+use Rattle.bsv_design.specs.tree.Roles.{is_rule, is_value}
+use Rattle.bsv_design.specs.scheme.Schemes.{Outline, outline}
+use Rattle.bsv_design.specs.design.Widths.{port_fits}
 use Rattle.bsv_vtext.specs.declared.tree.VMethod.{VMethod}
 use Rattle.bsv_vtext.specs.declared.tree.VRegister.{VRegister}
 use Rattle.bsv_vtext.specs.declared.tree.VWire.{VWire}
 use Rattle.bsv_vtext.specs.Modules.{is_signal_name, IsArgument, HasFire}
-use Rattle.bsv_vtext.specs.Signals.{Contents, fire_name}
+use Rattle.bsv_vtext.specs.Signals.{VModuleData, fire_name}
 use Rattle.bsv_vgen.specs.Interfaces.{IsModuleOf, IsMethodOf, argument_of}
 use Rattle.bsv_vgen.specs.Names.{register_names, part_names, suffixes, verilog_name, numbered_from, fire_wire, fire_wires}
 use Rattle.bsv_vgen.proofs.VerilogPaths.{IsRoute, lower_route, dotted_route, lower_stays}
 use Rattle.bsv_vgen.proofs.Spellings.{fire_named, numbered_named, register_named, numbered_or_fire}
 use Rattle.bsv_vgen.proofs.Places.{Found, in_first, in_second, found, made_of, before, from_one, numbered_at, IsFire, fire_at, fire_of}
-use Rattle.bsv_vgen.proofs.Suffixes.{suffix_at, IsBehind, suffix_behind}
+use Rattle.bsv_vgen.proofs.Suffixes.{suffix_at, IsAfter, suffix_after}
 
 -- ---- elements
 
@@ -49,7 +49,7 @@ pub record MethodOf (es : List Element) (k : ℕ) (v : VMethod) : Type 0 where
   pub method : is_rule element.role ≡ false
   pub is : IsMethodOf (outline element) v
 
--- the part of a register, and what stands behind its path
+-- the part of a register, and what comes after its path
 pub record RegisterOf (ps : List NamedPart) (k : ℕ) (name : List ℕ) : Type 0 where
   pub number : ℕ
   pub part : NamedPart
@@ -69,7 +69,7 @@ register_of ps k name e =
 
 -- ---- the names
 
-module _ (b : Blueprint) (right : IsDesign b) (m : Contents) (made : IsModuleOf b.name b.parts (map outline b.elements) m)
+module _ (b : DesignData) (right : IsDesign b) (m : VModuleData) (made : IsModuleOf b.name b.parts (map outline b.elements) m)
     (few_registers : length m.registers < 2 ^ 64) (few_wires : length m.wires < 2 ^ 64) where
   pub name_right : IsTrue (is_lower m.name)
   name_right = ap is_lower made.name_is ∙ right.name
@@ -111,13 +111,13 @@ module _ (b : Blueprint) (right : IsDesign b) (m : Contents) (made : IsModuleOf 
   pub register_small : (k : ℕ) (r : VRegister) → slice_get m.registers k ≡ Some r → (o : RegisterOf b.parts k r.name) → o.inner < 2 ^ 64
   register_small k r e o = omega (arith, o.place, slice_get_within m.registers k r e)
 
-  pub register_behind : (k : ℕ) (r : VRegister) → slice_get m.registers k ≡ Some r → (o : RegisterOf b.parts k r.name) → IsBehind o.suffix
-  register_behind k r e o = suffix_behind o.inner o.suffix (register_small k r e o) (suffix_at o.part.kind o.inner o.suffix o.has)
+  pub register_after : (k : ℕ) (r : VRegister) → slice_get m.registers k ≡ Some r → (o : RegisterOf b.parts k r.name) → IsAfter o.suffix
+  register_after k r e o = suffix_after o.inner o.suffix (register_small k r e o) (suffix_at o.part.kind o.inner o.suffix o.has)
 
   pub register_right : (k : ℕ) (r : VRegister) → slice_get m.registers k ≡ Some r → IsTrue (is_signal_name r.name)
   register_right k r e =
       let o = register_at k r e in
-      let s = register_behind k r e o in
+      let s = register_after k r e o in
       let whole : r.name ≡ verilog_name o.part.path ++ 36 ∷ s.rest = sym o.is ∙ ap (λ (t : List ℕ). verilog_name o.part.path ++ t) s.is in
       ap is_signal_name whole ∙ register_named o.part.path s.rest (dotted_route o.part.path (right.paths o.number o.part o.at)) s.bytes
 

@@ -1,4 +1,4 @@
--- Where registers and arguments have words of their widths, so has each net, and so have the registers behind the clock.
+-- Where registers and arguments have words of their widths, so has each net, and so have the registers after the clock.
 use Rattle.std.proofs.Common.{◌≡◌, ◌∙◌, ℕ, zero, suc, ◌<◌, ◌≤◌, Bool, true, false, List, [], ◌∷◌, length, map, Option, Some, None, refl, sym, ap, subst, arith}
 use Rattle.std.specs.Prelude.{nat_le, slice_get, unwrap_or, if◌then◌else◌}
 use Rattle.std.specs.Option.{option_map, option_and_then}
@@ -16,7 +16,7 @@ use Rattle.bsv_vtext.specs.declared.tree.VMethod.{VMethod}
 use Rattle.bsv_vtext.specs.declared.tree.VRegister.{VRegister}
 use Rattle.bsv_vtext.specs.declared.tree.VWire.{VWire}
 use Rattle.bsv_vtext.specs.Modules.{IsModule, IsAtom, IsAssignedBefore, IsKnown, Stands}
-use Rattle.bsv_vtext.specs.Signals.{Contents}
+use Rattle.bsv_vtext.specs.Signals.{VModuleData}
 use Rattle.bsv_vtext.specs.VClock.{Inputs, Nets, word_at}
 use Rattle.bsv_vtext.specs.Widths.{atom_width, enable_width, target_width, Fits}
 use Rattle.bsv_vgen.proofs.SideWords.{any_bit, side_fits}
@@ -44,7 +44,7 @@ enable_one (Some m) u e = of m.action e
     of true e = sym (same_Some 1 u e)
     of false e = absurd (let n : ⊥ = cc in n)
 
-module _ (c : Contents) (is : IsModule c) (ws : List Bits) (ins : Inputs)
+module _ (c : VModuleData) (is : IsModule c) (ws : List Bits) (ins : Inputs)
     (registers_fit : (k : ℕ) (r : VRegister) → slice_get c.registers k ≡ Some r → IsWordOf r.start.width (word_at ws k))
     (arguments_fit : (m k u : ℕ) → atom_width c (atom.Argument m k) ≡ Some u → IsWordOf u (word_at (unwrap_or (slice_get ins.arguments m) []) k))
     (nets : Nets) (all : (line : ℕ) → Holds c ws ins nets line) where

@@ -9,17 +9,17 @@ use Rattle.bsv_bits.specs.declared.operator.Operator.{Operator}
 use Rattle.bsv_prim.specs.declared.primitive.RegisterInfo.{RegisterInfo}
 use Rattle.bsv_design.specs.declared.element.Port.{Port}
 use Rattle.bsv_design.specs.declared.node.Node.{Node}
-use Rattle.bsv_design.specs.Widths as widths
-use Rattle.bsv_design.specs.Widths.{pick_width, slice_width, join_width, extend_width, node_width, widths_from}
+use Rattle.bsv_design.specs.design.Widths as widths
+use Rattle.bsv_design.specs.design.Widths.{pick_width, slice_width, join_width, extend_width, node_width, widths_from}
 use Rattle.bsv_guard.proofs.Nodes.{chained, where_width}
 use Rattle.bsv_guard.proofs.Words.{constant_fits}
 use Rattle.bsv_net.specs.declared.node.NetNode.{NetNode}
 use Rattle.bsv_net.specs.declared.node.NetNode.TheVariants as net
-use Rattle.bsv_net.specs.Circuits.{as_node, as_nodes, port, ports, register_widths, is_within}
+use Rattle.bsv_net.specs.Nets.{as_node, as_nodes, port, ports, register_widths, is_within}
 use Rattle.bsv_vtext.specs.declared.tree.Atom.TheVariants as atom
 use Rattle.bsv_vtext.specs.declared.tree.Side.TheVariants as side
 use Rattle.bsv_vtext.specs.Modules.{Stands, IsAtom}
-use Rattle.bsv_vtext.specs.Signals.{Contents}
+use Rattle.bsv_vtext.specs.Signals.{VModuleData}
 use Rattle.bsv_vgen.specs.declared.known.Known.{Known}
 use Rattle.bsv_vgen.specs.Lines.{Written, Step, Nodes, or_nothing, known_at, register, two_side, two_width, node, nodes}
 use Rattle.bsv_vgen.proofs.Fronts.{Reaches, AreRight, last_there}
@@ -32,14 +32,14 @@ port_width [] k = refl
 port_width (u ∷ us) zero = refl
 port_width (u ∷ us) (suc k) = port_width us k
 
--- an entry behind others
-pub entry_behind : {A : Type 0} (xs : List A) (x : A) (k : ℕ) (y : A) → slice_get (xs ++ x ∷ []) k ≡ Some y → (slice_get xs k ≡ Some y) ⊎ ((k ≡ length xs) × (x ≡ y))
-entry_behind [] x zero y e = inr (refl, same_Some x y e)
-entry_behind [] x (suc k) y e = absurd (let n : ⊥ = cc in n)
-entry_behind (z ∷ zs) x zero y e = inl e
-entry_behind (z ∷ zs) x (suc k) y e = elim (entry_behind zs x k y e) [ inl h ↦ inl h | inr h ↦ inr (ap suc h.0, h.1) ]
+-- an entry after others
+pub entry_after : {A : Type 0} (xs : List A) (x : A) (k : ℕ) (y : A) → slice_get (xs ++ x ∷ []) k ≡ Some y → (slice_get xs k ≡ Some y) ⊎ ((k ≡ length xs) × (x ≡ y))
+entry_after [] x zero y e = inr (refl, same_Some x y e)
+entry_after [] x (suc k) y e = absurd (let n : ⊥ = cc in n)
+entry_after (z ∷ zs) x zero y e = inl e
+entry_after (z ∷ zs) x (suc k) y e = elim (entry_after zs x k y e) [ inl h ↦ inl h | inr h ↦ inr (ap suc h.0, h.1) ]
 
--- widths stay when more nodes stand behind
+-- widths stay when more nodes come after
 pub width_kept : (ps : List Port) (xs : List Node) (us ends : List ℕ) → widths_from ps [] [] us xs ≡ Some ends → (k u : ℕ) → slice_get us k ≡ Some u → slice_get ends k ≡ Some u
 unfolding widths_from
 width_kept ps [] us ends e k u there = ap (λ (vs : List ℕ). slice_get vs k) (sym (same_Some us ends e)) ∙ there
@@ -124,7 +124,7 @@ is_widened (Some a) width u e =
 abbrev pub AreWidths : List ℕ → Type 0
 AreWidths us = (k u : ℕ) → slice_get us k ≡ Some u → (1 ≤ u) × (u ≤ 128)
 
-module _ (m : Contents) where
+module _ (m : VModuleData) where
   -- of nodes of these widths, this is known before the line of this number
   pub record Knows (us : List ℕ) (ks : List Known) (n : ℕ) : Type 0 where
     pub as_many : length ks ≡ length us
@@ -134,7 +134,7 @@ module _ (m : Contents) where
   pub knows_more : (us : List ℕ) (ks : List Known) (n j : ℕ) (u : ℕ) (x : Known) → n ≤ j → Knows us ks n → IsKnownRight m j x u → Knows (us ++ u ∷ []) (ks ++ x ∷ []) j
   knows_more us ks n j u x l h own = record {
     as_many = omega (arith, h.as_many, length-append ks (x ∷ []), length-append us (u ∷ []));
-    each = λ k v e. elim (entry_behind us u k v e) [
+    each = λ k v e. elim (entry_after us u k v e) [
       | inl there ↦
           let few : k < length ks = let b = slice_get_within us k v there in omega (arith, b, h.as_many) in
           subst (λ (y : Known). IsKnownRight m j y v) (sym (ap or_nothing (at_left ks (x ∷ []) k few))) (right_later m n j (known_at ks k) v l (h.each k v there))
@@ -145,7 +145,7 @@ module _ (m : Contents) where
     ];
   }
 
-  -- what holds behind all nodes
+  -- what holds after all nodes
   pub record AreNodesRight (us : List ℕ) (n : Nodes) : Type 0 where
     pub knows : Knows us n.known (length n.written.wires)
     pub right : AreRight m (length n.written.wires)
@@ -219,9 +219,9 @@ module _ (m : Contents) where
           subst (λ (v : ℕ). Reaches m (step (net.SignExtend a v)).written → IsStepRight m w (step (net.SignExtend a v)) u) (sym is.same)
           (sign_extend_right m w (known_at ks a) is.own u one (least a is.own is.is_own) is.most right is.fits) r
 
-      -- what is known behind the node
-      pub knows_behind : (x : NetNode) (u : ℕ) → IsStepRight m w (step x) u → Knows (us ++ u ∷ []) (ks ++ (step x).known ∷ []) (length (step x).written.wires)
-      knows_behind x u h = knows_more us ks (length w.wires) (length (step x).written.wires) u (step x).known h.longer knows h.known
+      -- what is known after the node
+      pub knows_after : (x : NetNode) (u : ℕ) → IsStepRight m w (step x) u → Knows (us ++ u ∷ []) (ks ++ (step x).known ∷ []) (length (step x).written.wires)
+      knows_after x u h = knows_more us ks (length w.wires) (length (step x).written.wires) u (step x).known h.longer knows h.known
 
     -- ---- all nodes
 
@@ -241,7 +241,7 @@ module _ (m : Contents) where
         let least : (k u : ℕ) → slice_get us k ≡ Some u → 1 ≤ u = λ k u there. (bounds k u (width_kept ps (as_nodes n (x ∷ xs)) us ends e k u there)).0 in
         let both = and_parts (is_within n (length registers) x) (list_all (is_within n (length registers)) xs) within in
         let here = node_right us ks w knows right least x c.width bound.0 bound.1 both.0 c.first (reaches_first m inputs registers xs (ks ++ s.known ∷ []) s.written r) in
-        nodes_right_from xs (us ++ c.width ∷ []) (ks ++ s.known ∷ []) s.written ends c.rest bounds both.1 (knows_behind us ks w knows right least x c.width here) here.right r
+        nodes_right_from xs (us ++ c.width ∷ []) (ks ++ s.known ∷ []) s.written ends c.rest bounds both.1 (knows_after us ks w knows right least x c.width here) here.right r
 
     -- the nodes of a net whose widths are known
     pub nodes_right : (xs : List NetNode) (w : Written) (ends : List ℕ) → widths_from (ports ins registers) [] [] [] (as_nodes (length ins) xs) ≡ Some ends → AreWidths ends

@@ -10,28 +10,28 @@ use Rattle.bsv_bits.specs.Operators.{operate}
 use Rattle.bsv_prim.specs.Signals.{is_one}
 use Rattle.bsv_prim.specs.Table.{IsWordOf}
 use Rattle.bsv_prim.specs.declared.primitive.RegisterInfo.{RegisterInfo}
-use Rattle.bsv_design.specs.Bodies.{at}
-use Rattle.bsv_design.specs.Running.{or_zero}
-use Rattle.bsv_design.specs.Widths.{node_width, widths_from}
+use Rattle.bsv_design.specs.design.Bodies.{at}
+use Rattle.bsv_design.specs.carrying.Running.{or_zero}
+use Rattle.bsv_design.specs.design.Widths.{node_width, widths_from}
 use Rattle.bsv_design.specs.declared.element.Port.{Port}
 use Rattle.bsv_guard.proofs.Nodes.{chained}
 use Rattle.bsv_net.specs.declared.node.NetNode.{NetNode}
 use Rattle.bsv_net.specs.declared.node.NetNode.TheVariants as net
-use Rattle.bsv_net.specs.Circuits.{as_node, as_nodes, ports, is_within}
+use Rattle.bsv_net.specs.Nets.{as_node, as_nodes, ports, is_within}
 use Rattle.bsv_net.specs.Equations.{Values, operated, computed}
 use Rattle.bsv_vtext.specs.declared.tree.Atom.{Atom}
 use Rattle.bsv_vtext.specs.declared.tree.Side.TheVariants as side
-use Rattle.bsv_vtext.specs.Signals.{Contents}
+use Rattle.bsv_vtext.specs.Signals.{VModuleData}
 use Rattle.bsv_vtext.specs.VClock.{Inputs, Nets, atom_word}
 use Rattle.bsv_vgen.specs.declared.known.Known.{Known}
 use Rattle.bsv_vgen.specs.Lines.{Written, Step, or_nothing, known_at, register, two_width, node, nodes}
 use Rattle.bsv_vgen.proofs.Before.{reaches_first}
 use Rattle.bsv_vgen.proofs.Computes.{input_words}
-use Rattle.bsv_vgen.proofs.NodesRight.{are_two, are_picked, are_joined, is_cut, is_widened, entry_behind, width_kept}
+use Rattle.bsv_vgen.proofs.NodesRight.{are_two, are_picked, are_joined, is_cut, is_widened, entry_after, width_kept}
 use Rattle.bsv_vgen.proofs.Told.{Solved, line_told, two_told, slice_told, join_told, extend_told, sign_extend_told}
 use Rattle.bsv_vgen.proofs.Fronts.{Reaches}
 
-module _ (m : Contents) (ws : List Bits) (ins : Inputs) (nets : Nets) (solved : Solved m ws ins nets) where
+module _ (m : VModuleData) (ws : List Bits) (ins : Inputs) (nets : Nets) (solved : Solved m ws ins nets) where
   abbrev word : Atom → Bits
   word a = atom_word ws ins nets a
 
@@ -121,7 +121,7 @@ module _ (m : Contents) (ws : List Bits) (ins : Inputs) (nets : Nets) (solved : 
     told_more : (us : List ℕ) (ks : List Known) (u : ℕ) (x : Known) → AreTold us ks → word x.atom ≡ V (length us) → AreTold (us ++ u ∷ []) (ks ++ x ∷ [])
     told_more us ks u x h own = record {
       as_many = omega (arith, h.as_many, length-append ks (x ∷ []), length-append us (u ∷ []));
-      words = λ k v e. elim (entry_behind us u k v e) [
+      words = λ k v e. elim (entry_after us u k v e) [
         | inl there ↦
             let few : k < length ks = let b = slice_get_within us k v there in omega (arith, b, h.as_many) in
             ap (λ (o : Option Known). word (or_nothing o).atom) (at_left ks (x ∷ []) k few) ∙ h.words k v there

@@ -3,8 +3,8 @@ use Rattle.std.proofs.Common.{◌≡◌, ◌∙◌, ℕ, zero, suc, ◌+◌, ◌
 use Rattle.std.specs.Prelude.{slice_get}
 use Rattle.std.proofs.lemmas.Option.{same_Some}
 use Rattle.bsv_design.specs.declared.element.Element.{Element}
-use Rattle.bsv_design.specs.Roles.{gives_value}
-use Rattle.bsv_net.specs.declared.circuit.Circuit.{Circuit}
+use Rattle.bsv_design.specs.tree.Roles.{gives_value}
+use Rattle.bsv_net.specs.declared.net_data.NetData.{NetData}
 use Rattle.bsv_vtext.specs.declared.tree.Assign.{Assign}
 use Rattle.bsv_vtext.specs.declared.tree.Target.{Target}
 use Rattle.bsv_vtext.specs.declared.tree.Target.TheVariants as target
@@ -12,18 +12,18 @@ use Rattle.bsv_vgen.specs.declared.known.Known.{Known}
 use Rattle.bsv_vgen.specs.Modules.{assign, told_at, result_of, outputs_from}
 
 -- what an assignment of an output is
-pub data IsOutput (ks : List Known) (c : Circuit) (n : ℕ) (e : Element) (x : Assign) : Type 0 where
+pub data IsOutput (ks : List Known) (c : NetData) (n : ℕ) (e : Element) (x : Assign) : Type 0 where
   ready : x ≡ assign (target.Ready n) (told_at ks c.readies n) → IsOutput ks c n e x
   result : gives_value e.role ≡ true → x ≡ assign (target.Result n) (result_of ks c n) → IsOutput ks c n e x
 
 -- it is one of the method of this number
-pub record IsOutputIn (ks : List Known) (c : Circuit) (n : ℕ) (es : List Element) (x : Assign) : Type 0 where
+pub record IsOutputIn (ks : List Known) (c : NetData) (n : ℕ) (es : List Element) (x : Assign) : Type 0 where
   pub index : ℕ
   pub element : Element
   pub at : slice_get es index ≡ Some element
   pub is : IsOutput ks c (n + index) element x
 
-module _ (ks : List Known) (c : Circuit) where
+module _ (ks : List Known) (c : NetData) where
   later : (n : ℕ) (e : Element) (es : List Element) (x : Assign) → IsOutputIn ks c (n + 1) es x → IsOutputIn ks c n (e ∷ es) x
   later n e es x h =
       let place : n + 1 + h.index ≡ n + suc h.index = omega arith in
@@ -34,16 +34,16 @@ module _ (ks : List Known) (c : Circuit) where
       let place : n ≡ n + 0 = omega arith in
       record { index = 0; element = e; at = refl; is = subst (λ (k : ℕ). IsOutput ks c k e x) place h }
 
-  -- what stands behind the first assignment of a method
-  abbrev behind_ready : ℕ → Element → List Element → Bool → List Assign
-  behind_ready n e es b = cond b (assign (target.Result n) (result_of ks c n) ∷ []) [] ++ outputs_from ks c (n + 1) es
+  -- what comes after the first assignment of a method
+  abbrev after_ready : ℕ → Element → List Element → Bool → List Assign
+  after_ready n e es b = cond b (assign (target.Result n) (result_of ks c n) ∷ []) [] ++ outputs_from ks c (n + 1) es
 
   pub is_output : (es : List Element) (n j : ℕ) (x : Assign) → slice_get (outputs_from ks c n es) j ≡ Some x → IsOutputIn ks c n es x
   is_output [] n j x there = absurd (let h : ⊥ = cc in h)
   is_output (e ∷ es) n zero x there = first n e es x (ready (sym (same_Some (assign (target.Ready n) (told_at ks c.readies n)) x there)))
   is_output (e ∷ es) n (suc j) x there = of (gives_value e.role) refl j there (λ k h. is_output es (n + 1) k x h)
     where
-      of : (b : Bool) → gives_value e.role ≡ b → (j : ℕ) → slice_get (behind_ready n e es b) j ≡ Some x
+      of : (b : Bool) → gives_value e.role ≡ b → (j : ℕ) → slice_get (after_ready n e es b) j ≡ Some x
           → ((k : ℕ) → slice_get (outputs_from ks c (n + 1) es) k ≡ Some x → IsOutputIn ks c (n + 1) es x) → IsOutputIn ks c n (e ∷ es) x
       of true g zero h rest = first n e es x (result g (sym (same_Some (assign (target.Result n) (result_of ks c n)) x h)))
       of true g (suc k) h rest = later n e es x (rest k h)
@@ -58,8 +58,8 @@ module _ (ks : List Known) (c : Circuit) where
   behind n e es x h = of (gives_value e.role) refl
     where
       of : (b : Bool) → gives_value e.role ≡ b → IsPlaced n (e ∷ es) x
-      of true g = record { place = suc (suc h.place); there = ap (λ (b : Bool). slice_get (behind_ready n e es b) (suc h.place)) g ∙ h.there }
-      of false g = record { place = suc h.place; there = ap (λ (b : Bool). slice_get (behind_ready n e es b) h.place) g ∙ h.there }
+      of true g = record { place = suc (suc h.place); there = ap (λ (b : Bool). slice_get (after_ready n e es b) (suc h.place)) g ∙ h.there }
+      of false g = record { place = suc h.place; there = ap (λ (b : Bool). slice_get (after_ready n e es b) h.place) g ∙ h.there }
 
   pub ready_placed : (es : List Element) (n i : ℕ) (e : Element) → slice_get es i ≡ Some e → IsPlaced n es (assign (target.Ready (n + i)) (told_at ks c.readies (n + i)))
   ready_placed [] n i e there = absurd (let h : ⊥ = cc in h)
@@ -78,7 +78,7 @@ module _ (ks : List Known) (c : Circuit) where
       let same : gives_value y.role ≡ true = ap (λ (x : Element). gives_value x.role) (same_Some y e there) ∙ gives in
       let place : n ≡ n + 0 = omega arith in
       subst (λ (k : ℕ). IsPlaced n (y ∷ es) (assign (target.Result k) (result_of ks c k))) place
-      (record { place = 1; there = ap (λ (b : Bool). slice_get (behind_ready n y es b) 0) same })
+      (record { place = 1; there = ap (λ (b : Bool). slice_get (after_ready n y es b) 0) same })
   result_placed (y ∷ es) n (suc i) e there gives =
       let place : n + 1 + i ≡ n + suc i = omega arith in
       subst (λ (k : ℕ). IsPlaced n (y ∷ es) (assign (target.Result k) (result_of ks c k))) place
@@ -87,7 +87,7 @@ module _ (ks : List Known) (c : Circuit) where
   -- ---- each output is assigned once
 
   abbrev all : ℕ → Element → List Element → Bool → List Assign
-  all n e es b = assign (target.Ready n) (told_at ks c.readies n) ∷ behind_ready n e es b
+  all n e es b = assign (target.Ready n) (told_at ks c.readies n) ∷ after_ready n e es b
 
   -- the number of the method whose output it is
   abbrev pub number_of : Target → ℕ

@@ -1,4 +1,4 @@
--- What stands at a place of the lists that a module's names are made of.
+-- What is at a place of the lists that a module's names are made of.
 use Rattle.std.proofs.Common.{◌≡◌, ◌∙◌, ℕ, zero, suc, ◌+◌, Bool, true, false, cond, List, [], ◌∷◌, ◌++◌, map, take, length, Some, refl, sym, ap, arith, codes}
 use Rattle.std.specs.Prelude.{slice_get, decimal}
 use Rattle.std.specs.List.{flat_map, list_any}
@@ -8,8 +8,8 @@ use Rattle.std.proofs.lemmas.List.{length-append}
 use Rattle.std.proofs.lemmas.Option.{same_Some}
 use Rattle.std.proofs.lemmas.Slice.Eq.{bytes_eq-Decides}
 use Rattle.bsv_graph.specs.Edges.{numbers_below}
-use Rattle.bsv_design.specs.Roles.{is_value}
-use Rattle.bsv_design.specs.Schemes.{Outline}
+use Rattle.bsv_design.specs.tree.Roles.{is_value}
+use Rattle.bsv_design.specs.scheme.Schemes.{Outline}
 use Rattle.bsv_vtext.specs.declared.tree.VWire.{VWire}
 use Rattle.bsv_vgen.specs.Names.{numbered_wire, numbered_from, fire_wire, fire_wires}
 use Rattle.bsv_graph.proofs.Below.{count_below}
@@ -60,13 +60,13 @@ taken_there x y (z ∷ xs) zero none e same =
     ((bytes_eq-Decides x z).1 (same ∙ sym (same_Some z y e)))
 taken_there x y (z ∷ xs) (suc n) none e same = taken_there x y xs n (or_parts (bytes_eq x z) (list_any (bytes_eq x) xs) none).1 e same
 
--- ---- lists one behind the other
+-- ---- lists one after the other
 
--- how many elements stand before those of the n-th one
+-- how many elements come before those of the n-th one
 abbrev pub before : {A B : Type 0} → (A → List B) → List A → ℕ → ℕ
 before f xs n = length (flat_map f (take n xs))
 
--- the element of one of the lists that stands at this place of the whole
+-- the element of one of the lists that is at this place of the whole
 pub record FromOne {A B : Type 0} (f : A → List B) (xs : List A) (k : ℕ) (y : B) : Type 0 where
   pub number : ℕ
   pub one : A
@@ -110,7 +110,7 @@ numbered_at k (x ∷ ws) (suc n) w e =
 
 -- ---- wires that tell what fires
 
--- how many wires stand before that of the n-th element
+-- how many wires come before that of the n-th element
 abbrev pub fires_before : List Outline → ℕ → ℕ
 fires_before os n = length (fire_wires (take n os))
 
@@ -125,7 +125,7 @@ fire_later : (o : Outline) (os : List Outline) (k j : ℕ) (w : VWire) (h : IsFi
     → IsFire (o ∷ os) j w
 fire_later o os k j w h place = record { number = suc h.number; outline = h.outline; at = h.at; is = h.is; place = place }
 
--- how many stand before the next element, where this one has a wire or none
+-- how many come before the next element, where this one has a wire or none
 fires_more : (o : Outline) (os : List Outline) (b : Bool) (n : ℕ) → is_value o.role ≡ b
     → length (cond b (fire_wires (take n os)) (fire_wire o.name ∷ fire_wires (take n os))) ≡ fires_before (o ∷ os) (suc n)
 fires_more o os b n is = ap (λ c. length (cond c (fire_wires (take n os)) (fire_wire o.name ∷ fire_wires (take n os)))) (sym is)

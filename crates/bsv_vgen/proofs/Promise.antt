@@ -6,25 +6,25 @@ use Rattle.std.proofs.lemmas.Bool.{ltb-true}
 use Rattle.bsv_design.specs.declared.design.Design.{Design}
 use Rattle.bsv_design.specs.declared.kind.Kind.{Kind}
 use Rattle.bsv_design.specs.declared.schedule.Schedule.{Schedule}
-use Rattle.bsv_design.specs.Designs.{Blueprint, IsDesign}
-use Rattle.bsv_design.specs.Schemes.{Scheme, AreAlike, Outline, design_scheme, kinds_of, outline}
-use Rattle.bsv_design.specs.Seen.{blueprint}
-use Rattle.bsv_clock.specs.Hardware as carrying
-use Rattle.bsv_clock.specs.Hardware.{cells_of, input_widths, input_widths_of}
+use Rattle.bsv_design.specs.design.Designs.{DesignData, IsDesign}
+use Rattle.bsv_design.specs.scheme.Schemes.{Scheme, AreAlike, Outline, design_scheme, kinds_of, outline}
+use Rattle.bsv_design.specs.tree.Seen.{design_data}
+use Rattle.bsv_clock.specs.Shows as carrying
+use Rattle.bsv_clock.specs.Shows.{cells_of, input_widths, input_widths_of}
 use Rattle.bsv_clock.specs.Grounds.{IsLawful, IsScheduleOf}
-use Rattle.bsv_net.specs.declared.circuit.Circuit.{Circuit}
+use Rattle.bsv_net.specs.declared.net_data.NetData.{NetData}
 use Rattle.bsv_net.specs.declared.net.Net.{Net}
-use Rattle.bsv_net.specs.AtHand.{circuit}
-use Rattle.bsv_net.specs.Circuits.{IsCircuit}
-use Rattle.bsv_net.specs.Hardware.{WordsCarry}
+use Rattle.bsv_net.specs.AtHand.{net_data}
+use Rattle.bsv_net.specs.Nets.{IsNet}
+use Rattle.bsv_net.specs.ShowsByNet.{WordsCarry}
 use Rattle.bsv_vtext.specs.declared.tree.Assign.{Assign}
 use Rattle.bsv_vtext.specs.declared.tree.Atom.{Atom}
 use Rattle.bsv_vtext.specs.declared.tree.VMethod.{VMethod}
 use Rattle.bsv_vtext.specs.declared.tree.VRegister.{VRegister}
 use Rattle.bsv_vtext.specs.declared.tree.VWire.{VWire}
 use Rattle.bsv_vtext.specs.Modules.{IsModule}
-use Rattle.bsv_vtext.specs.Signals.{Contents}
-use Rattle.bsv_vgen.specs.Hardware.{ModuleCarries}
+use Rattle.bsv_vtext.specs.Signals.{VModuleData}
+use Rattle.bsv_vgen.specs.ShowsByModule.{ModuleCarries}
 use Rattle.bsv_vgen.specs.Interfaces.{IsModuleOf, cell}
 use Rattle.bsv_vgen.specs.Modules.{module_of}
 use Rattle.bsv_vgen.specs.Resetting.{BeginsOpen, Resets}
@@ -34,13 +34,13 @@ use Rattle.bsv_vgen.proofs.ModuleRuns.{runs_as}
 use Rattle.bsv_vgen.proofs.Registers.{begins_open, resets}
 use Rattle.bsv_vgen.proofs.Whole as whole
 
-module _ (d : Design) (n : Net) (v : Contents) (is : v ≡ module_of (blueprint d) (circuit n))
-    (registers : map carrying.cell n.registers ≡ cells_of (kinds_of (blueprint d))) (inputs : n.inputs ≡ input_widths (design_scheme (blueprint d))) where
-  abbrev b : Blueprint
-  b = blueprint d
+module _ (d : Design) (n : Net) (v : VModuleData) (is : v ≡ module_of (design_data d) (net_data n))
+    (registers : map carrying.cell n.registers ≡ cells_of (kinds_of (design_data d))) (inputs : n.inputs ≡ input_widths (design_scheme (design_data d))) where
+  abbrev b : DesignData
+  b = design_data d
 
-  abbrev c : Circuit
-  c = circuit n
+  abbrev c : NetData
+  c = net_data n
 
   widths : c.inputs ≡ input_widths_of (map outline b.elements)
   unfolding input_widths design_scheme
@@ -56,10 +56,10 @@ module _ (d : Design) (n : Net) (v : Contents) (is : v ≡ module_of (blueprint 
   pub is_module : IsTrue (nat_lt (length v.registers) (2 ^ 32)) → IsTrue (nat_lt (length v.wires) (2 ^ 32)) → ∥ IsModule v ∥₁
   is_module few_registers few_wires =
       ∥∥₁_elim d.right ∥∥₁_prop (λ (design : IsDesign b).
-      ∥∥₁_elim n.right ∥∥₁_prop (λ (right : IsCircuit c).
+      ∥∥₁_elim n.right ∥∥₁_prop (λ (right : IsNet c).
       ∣ subst IsModule same (whole.is_module b c registers widths right design
-      (few (length (whole.m b c registers widths).registers) (ap (λ (x : Contents). nat_lt (length x.registers) (2 ^ 32)) same ∙ few_registers))
-      (few (length (whole.m b c registers widths).wires) (ap (λ (x : Contents). nat_lt (length x.wires) (2 ^ 32)) same ∙ few_wires))) ∣₁))
+      (few (length (whole.m b c registers widths).registers) (ap (λ (x : VModuleData). nat_lt (length x.registers) (2 ^ 32)) same ∙ few_registers))
+      (few (length (whole.m b c registers widths).wires) (ap (λ (x : VModuleData). nat_lt (length x.wires) (2 ^ 32)) same ∙ few_wires))) ∣₁))
 
   pub is_its_module : IsModuleOf d.name d.parts (map outline d.elements) v
   is_its_module = subst (IsModuleOf d.name d.parts (map outline d.elements)) same (whole.is_its_module b c registers widths d.right)
@@ -97,6 +97,6 @@ module _ (d : Design) (n : Net) (v : Contents) (is : v ≡ module_of (blueprint 
       (subst (λ (ks : List Kind). BeginsOpen ks v) (sym (kinds_are S alike)) begins)
 
 -- modules of the same parts
-abbrev of_parts : List ℕ → List VMethod → List VRegister → List VWire → List Assign → List Atom → Contents
+abbrev of_parts : List ℕ → List VMethod → List VRegister → List VWire → List Assign → List Atom → VModuleData
 of_parts name methods registers wires assigns nexts =
     record { name = name; methods = methods; registers = registers; wires = wires; assigns = assigns; nexts = nexts }

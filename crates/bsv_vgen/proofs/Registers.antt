@@ -1,4 +1,4 @@
--- The registers of a module, which are those of its parts: what they show at the start and behind a reset.
+-- The registers of a module, which are those of its parts: what they show at the start and after a reset.
 use Rattle.std.proofs.Common.{◌≡◌, ◌∙◌, ◌<◌, ℕ, zero, suc, Bool, true, false, List, [], ◌∷◌, ◌++◌, Some, refl, sym, ap, subst, arith, length, length-append, map, drop}
 use Rattle.std.specs.Prelude.{cond, not, slice_get, if◌then◌else◌}
 use Rattle.std.proofs.lemmas.List.{drop_at, length-map, map-append}
@@ -8,21 +8,21 @@ use Rattle.bsv_prim.specs.Table.{word_at}
 use Rattle.bsv_prim.specs.declared.part.Part.{Part}
 use Rattle.bsv_design.specs.declared.kind.Kind.{Kind}
 use Rattle.bsv_design.specs.declared.kind.Kind.TheVariants.{Reg, RegU, Wire, DWire, RWire, Pulse, Plain, Pipeline, Bypass}
-use Rattle.bsv_design.specs.Kinds.{kind_table, kind_laws}
-use Rattle.bsv_design.specs.States.{FitsKinds, opening}
+use Rattle.bsv_design.specs.tree.Kinds.{kind_table, kind_laws}
+use Rattle.bsv_design.specs.scheme.States.{FitsKinds, opening}
 use Rattle.bsv_graph.specs.Edges.{numbers_below}
 use Rattle.bsv_guard.specs.Fitting.{HaveWidths}
-use Rattle.bsv_clock.specs.Hardware.{Cell, Shows, cell_of, cell_widths, cells_in, cells_of}
+use Rattle.bsv_clock.specs.Shows.{Cell, Shows, cell_of, cell_widths, cells_in, cells_of}
 use Rattle.bsv_net.proofs.Numbers.{number_at}
 use Rattle.bsv_net.proofs.ShownRegisters.{shows_same}
 use Rattle.bsv_vtext.specs.declared.tree.VRegister.{VRegister}
-use Rattle.bsv_vtext.specs.Signals.{Contents}
+use Rattle.bsv_vtext.specs.Signals.{VModuleData}
 use Rattle.bsv_vtext.specs.VClock.{reset_words}
 use Rattle.bsv_vgen.specs.Interfaces.{cell}
 use Rattle.bsv_vgen.specs.Resetting.{BeginsOpen, Resets, keeps, reset_part, reset_parts}
 use Rattle.bsv_graph.proofs.Below.{count_below}
 
--- ---- words behind a reset, by cells
+-- ---- words after a reset, by cells
 
 abbrev reset_word : Cell → Bits → Bits
 reset_word c w = if c.resets then c.start else w
@@ -44,11 +44,11 @@ reset_there (d ∷ cs) [] r c there l = absurd (omega (arith, l))
 reset_there (d ∷ cs) (w ∷ ws) zero c there l = let same : d ≡ c = cc in ap (λ (x : Cell). reset_word x w) same
 reset_there (d ∷ cs) (w ∷ ws) (suc r) c there l = reset_there cs ws r c there (omega (arith, l))
 
-reset_behind : (cs ds : List Cell) (ws : List Bits) → drop (length cs) (reset_cells (cs ++ ds) ws) ≡ reset_cells ds (drop (length cs) ws)
-reset_behind [] ds ws = refl
-reset_behind (c ∷ cs) [] [] = refl
-reset_behind (c ∷ cs) (d ∷ ds) [] = refl
-reset_behind (c ∷ cs) ds (w ∷ ws) = reset_behind cs ds ws
+reset_after : (cs ds : List Cell) (ws : List Bits) → drop (length cs) (reset_cells (cs ++ ds) ws) ≡ reset_cells ds (drop (length cs) ws)
+reset_after [] ds ws = refl
+reset_after (c ∷ cs) [] [] = refl
+reset_after (c ∷ cs) (d ∷ ds) [] = refl
+reset_after (c ∷ cs) ds (w ∷ ws) = reset_after cs ds ws
 
 -- ---- the cells of a kind
 
@@ -84,9 +84,9 @@ starts_are : (rs : List VRegister) → map (λ r. r.start) rs ≡ map (λ c. c.s
 starts_are [] = refl
 starts_are (r ∷ rs) = ap (λ (ws : List Bits). r.start ∷ ws) (starts_are rs)
 
-starts_behind : (k : Kind) (more : List Cell)
+starts_after : (k : Kind) (more : List Cell)
     → drop (kind_table k).registers (map (λ c. c.start) (cells_in k ++ more)) ≡ map (λ c. c.start) more
-starts_behind k more =
+starts_after k more =
     ap (drop (kind_table k).registers) (map-append (λ (c : Cell). c.start) (cells_in k) more)
     ∙ drop_at (map (λ c. c.start) (cells_in k)) (map (λ c. c.start) more) (kind_table k).registers
     (length-map (cells_in k) (λ (c : Cell). c.start) ∙ long_cells k)
@@ -99,12 +99,12 @@ starts_show (k ∷ ks) = (
       (kind_laws k).fit.opening
       (λ r l. sym (start_there (cells_in k ++ cells_of ks) r (cell_of (kind_table k) r) (cell_there k (cells_of ks) r l)))
       (kind_laws k).shows.opening,
-  subst (λ (ws : List Bits). Shows ks (opening ks) ws) (sym (starts_behind k (cells_of ks))) (starts_show ks),
+  subst (λ (ws : List Bits). Shows ks (opening ks) ws) (sym (starts_after k (cells_of ks))) (starts_show ks),
 )
 
--- ---- behind a reset
+-- ---- after a reset
 
--- the registers of a part behind a reset
+-- the registers of a part after a reset
 part_reset : (k : Kind) (p : Part) (f g : ℕ → Bits) → (kind_table k).Fits p
     → ((r : ℕ) → r < (kind_table k).registers → g r ≡ (if not (keeps k) then (kind_table k).register_start r else f r))
     → (kind_table k).Shows p f → (kind_table k).Shows (reset_part k p) g
@@ -123,10 +123,10 @@ long_words [] (w ∷ ws) h = absurd h
 long_words (c ∷ cs) [] h = absurd h
 long_words (c ∷ cs) (w ∷ ws) h = ap suc (long_words cs ws h.1)
 
-words_behind : (cs ds : List Cell) (ws : List Bits) → HaveWidths (cell_widths (cs ++ ds)) ws → HaveWidths (cell_widths ds) (drop (length cs) ws)
-words_behind [] ds ws h = h
-words_behind (c ∷ cs) ds [] h = absurd h
-words_behind (c ∷ cs) ds (w ∷ ws) h = words_behind cs ds ws h.1
+words_after : (cs ds : List Cell) (ws : List Bits) → HaveWidths (cell_widths (cs ++ ds)) ws → HaveWidths (cell_widths ds) (drop (length cs) ws)
+words_after [] ds ws h = h
+words_after (c ∷ cs) ds [] h = absurd h
+words_after (c ∷ cs) ds (w ∷ ws) h = words_after cs ds ws h.1
 
 resets_show : (ks : List Kind) (s : List Part) (ws : List Bits) → FitsKinds ks s → HaveWidths (cell_widths (cells_of ks)) ws → Shows ks s ws
     → Shows ks (reset_parts ks s) (reset_cells (cells_of ks) ws)
@@ -148,14 +148,14 @@ resets_show (k ∷ ks) (p ∷ s) ws fits have h = (
   behind : drop (kind_table k).registers (reset_cells (cells_in k ++ cells_of ks) ws) ≡ reset_cells (cells_of ks) (drop (kind_table k).registers ws)
   behind =
       subst (λ n. drop n (reset_cells (cells_in k ++ cells_of ks) ws) ≡ reset_cells (cells_of ks) (drop n ws)) (long_cells k)
-      (reset_behind (cells_in k) (cells_of ks) ws)
+      (reset_after (cells_in k) (cells_of ks) ws)
 
   rest : HaveWidths (cell_widths (cells_of ks)) (drop (kind_table k).registers ws)
-  rest = subst (λ n. HaveWidths (cell_widths (cells_of ks)) (drop n ws)) (long_cells k) (words_behind (cells_in k) (cells_of ks) ws have)
+  rest = subst (λ n. HaveWidths (cell_widths (cells_of ks)) (drop n ws)) (long_cells k) (words_after (cells_in k) (cells_of ks) ws have)
 
 -- ---- the module
 
-module _ (ks : List Kind) (m : Contents) (cells : map cell m.registers ≡ cells_of ks) where
+module _ (ks : List Kind) (m : VModuleData) (cells : map cell m.registers ≡ cells_of ks) where
   pub begins_open : BeginsOpen ks m
   begins_open =
       subst (λ (ws : List Bits). Shows ks (opening ks) ws)

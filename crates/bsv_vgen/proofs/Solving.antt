@@ -13,7 +13,7 @@ use Rattle.bsv_vtext.specs.declared.tree.Side.TheVariants as side
 use Rattle.bsv_vtext.specs.declared.tree.Target.{Target}
 use Rattle.bsv_vtext.specs.declared.tree.Target.TheVariants as target
 use Rattle.bsv_vtext.specs.Modules.{IsModule, IsAssignedBefore, Stands}
-use Rattle.bsv_vtext.specs.Signals.{Contents}
+use Rattle.bsv_vtext.specs.Signals.{VModuleData}
 use Rattle.bsv_vtext.specs.VClock.{Inputs, Nets, atom_word, joined, operated, side_word}
 use Rattle.bsv_vtext.specs.Widths.{target_width, Sort, Even, Comparing, Shifting, sort_of, FitsTwo, FitsJoined, Fits}
 use Rattle.bsv_vtext.specs.Widths as widths
@@ -72,13 +72,13 @@ own_target (target.Wire k) = eq-eqb k k refl
 own_target (target.Ready k) = eq-eqb k k refl
 own_target (target.Result k) = eq-eqb k k refl
 
--- ---- lines, one behind the other
+-- ---- lines, one after the other
 
 -- these nets, in which the target has this word
 abbrev with_word : Nets → Target → Bits → Nets
 with_word nets t w = λ s. if is_target t s then w else nets s
 
-module _ (c : Contents) (ws : List Bits) (ins : Inputs) where
+module _ (c : VModuleData) (ws : List Bits) (ins : Inputs) where
   abbrev pub words : Nets → Atom → Bits
   words nets a = atom_word ws ins nets a
 
@@ -86,7 +86,7 @@ module _ (c : Contents) (ws : List Bits) (ins : Inputs) where
   with_line None nets = nets
   with_line (Some x) nets = with_word nets x.target (side_word (words nets) x.side)
 
-  -- the nets behind so many lines
+  -- the nets after so many lines
   behind : ℕ → Nets
   behind zero = λ _. bit false
   behind (suc n) = with_line (slice_get c.assigns n) (behind n)
@@ -130,7 +130,7 @@ module _ (c : Contents) (ws : List Bits) (ins : Inputs) where
         of None e = refl
         of (Some y) e = ap (λ (truth : Bool). if truth then side_word (words (behind n)) y.side else behind n t) (other_target n y t e b)
 
-    -- the line sees the same nets behind one more line
+    -- the line sees the same nets after one more line
     side_kept : (n line : ℕ) (x : Assign) → line ≤ n → slice_get c.assigns line ≡ Some x
         → side_word (words (behind (suc n))) x.side ≡ side_word (words (behind n)) x.side
     side_kept n line x l at =

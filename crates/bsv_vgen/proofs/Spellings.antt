@@ -1,5 +1,5 @@
 -- How the signals of a module are spelled: eight sorts of names that differ by their first bytes, by a `$` and by a capital
--- letter behind it; and all of them are names in Verilog.
+-- letter after it; and all of them are names in Verilog.
 use Rattle.std.proofs.Common.{◌≡◌, ◌∙◌, ℕ, ◌^◌, ◌<◌, Bool, true, false, ◌&&◌, not, List, [], ◌∷◌, ◌++◌, refl, sym, ap, ap₂, codes, if◌then◌else◌}
 use Rattle.std.specs.Prelude.{◌==◌, decimal}
 use Rattle.std.specs.Char.{is_ascii_uppercase}
@@ -162,13 +162,13 @@ numbered_named n below = named_by 78 (decimal n) refl (words_named (decimal n) (
 both_bytes : (xs ys : List ℕ) → list_all is_name_byte xs ≡ true → list_all is_name_byte ys ≡ true → list_all is_name_byte (xs ++ ys) ≡ true
 both_bytes xs ys h k = list_all-append is_name_byte xs ys ∙ and_from (list_all is_name_byte xs) (list_all is_name_byte ys) h k
 
-behind_named : (text rest : List ℕ) → begins_small text ≡ true → list_all is_name_byte text ≡ true → list_all is_name_byte rest ≡ true
+after_named : (text rest : List ℕ) → begins_small text ≡ true → list_all is_name_byte text ≡ true → list_all is_name_byte rest ≡ true
     → is_signal_name (text ++ 36 ∷ rest) ≡ true
-behind_named [] rest first h k = absurd (false≢true first)
-behind_named (b ∷ text) rest first h k =
+after_named [] rest first h k = absurd (false≢true first)
+after_named (b ∷ text) rest first h k =
     named_by b (text ++ 36 ∷ rest) (and_parts (begins_name b) (not (is_ascii_uppercase b)) first).0
     (both_bytes text (36 ∷ rest) (and_parts (is_name_byte b) (list_all is_name_byte text) h).1 k)
     (dollar_free ((b ∷ text) ++ 36 ∷ rest) (dollar_in (b ∷ text) rest))
 
 pub register_named : (path rest : List ℕ) → IsRoute path → list_all is_name_byte rest ≡ true → is_signal_name (verilog_name path ++ 36 ∷ rest) ≡ true
-register_named path rest p h = behind_named (verilog_name path) rest (small_first path p.small) (verilog_bytes path p) h
+register_named path rest p h = after_named (verilog_name path) rest (small_first path p.small) (verilog_bytes path p) h

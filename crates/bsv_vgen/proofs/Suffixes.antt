@@ -1,4 +1,4 @@
--- What stands behind the path of a part in the names of its registers: `$` and a capital letter, and each suffix once.
+-- What comes after the path of a part in the names of its registers: `$` and a capital letter, and each suffix once.
 use Rattle.std.proofs.Common.{◌≡◌, ◌∙◌, ℕ, zero, suc, ◌^◌, ◌<◌, Bool, true, false, List, [], ◌∷◌, Some, refl, sym, ap, arith, codes}
 use Rattle.std.specs.Prelude.{◌==◌, slice_get, decimal}
 use Rattle.std.specs.List.{list_all}
@@ -68,16 +68,16 @@ suffix_same i j s p q (item k a e) (whole b f) = absurd (whole_or_item k (sym f 
 suffix_same i j s p q (item k a e) (count b f) = absurd (count_or_item k (sym f ∙ e))
 suffix_same i j s p q (item k a e) (item l b f) = a ∙ ap suc (item_same k l (omega arith) (omega arith) (sym e ∙ f)) ∙ sym b
 
-pub record IsBehind (s : List ℕ) : Type 0 where
+pub record IsAfter (s : List ℕ) : Type 0 where
   pub rest : List ℕ
   pub is : s ≡ 36 ∷ rest
   pub capital : is_capital rest ≡ true
   pub bytes : list_all is_name_byte rest ≡ true
 
-pub suffix_behind : (i : ℕ) (s : List ℕ) → i < 2 ^ 64 → SuffixAt i s → IsBehind s
-suffix_behind i s p (whole a e) = record { rest = codes "Q"; is = e; capital = refl; bytes = refl }
-suffix_behind i s p (count a e) = record { rest = codes "N"; is = e; capital = refl; bytes = refl }
-suffix_behind i s p (item k a e) = record {
+pub suffix_after : (i : ℕ) (s : List ℕ) → i < 2 ^ 64 → SuffixAt i s → IsAfter s
+suffix_after i s p (whole a e) = record { rest = codes "Q"; is = e; capital = refl; bytes = refl }
+suffix_after i s p (count a e) = record { rest = codes "N"; is = e; capital = refl; bytes = refl }
+suffix_after i s p (item k a e) = record {
   rest = 68 ∷ decimal k;
   is = e;
   capital = refl;

@@ -8,14 +8,14 @@ use Rattle.bsv_bits.specs.Signed.{word_less_signed, word_sign_extend}
 use Rattle.bsv_bits.specs.declared.operator.Operator.{Operator}
 use Rattle.bsv_bits.specs.declared.operator.Operator.TheVariants as operator
 use Rattle.bsv_prim.specs.Table.{IsWordOf}
-use Rattle.bsv_design.specs.Computing.{sliced}
+use Rattle.bsv_design.specs.carrying.Computing.{sliced}
 use Rattle.bsv_vtext.specs.declared.tree.Assign.{Assign}
 use Rattle.bsv_vtext.specs.declared.tree.Atom.{Atom}
 use Rattle.bsv_vtext.specs.declared.tree.Atom.TheVariants as atom
 use Rattle.bsv_vtext.specs.declared.tree.Side.{Side}
 use Rattle.bsv_vtext.specs.declared.tree.Side.TheVariants as side
 use Rattle.bsv_vtext.specs.declared.tree.Target.TheVariants as target
-use Rattle.bsv_vtext.specs.Signals.{Contents}
+use Rattle.bsv_vtext.specs.Signals.{VModuleData}
 use Rattle.bsv_vtext.specs.VClock.{Inputs, Nets, atom_word, side_word}
 use Rattle.bsv_vgen.specs.declared.known.Known.{Known}
 use Rattle.bsv_vgen.specs.Lines.{Written, Step, constant, with_line, two_side, slice, join, zeros, extend, negative, filling, join_above, sign_extend}
@@ -41,10 +41,10 @@ two_word word operator.Shr a b = refl
 two_word word operator.Sar a b = refl
 
 -- the assignments of a module are true as equations
-abbrev pub Solved : Contents → List Bits → Inputs → Nets → Type 0
+abbrev pub Solved : VModuleData → List Bits → Inputs → Nets → Type 0
 Solved m ws ins nets = (l : ℕ) (x : Assign) → slice_get m.assigns l ≡ Some x → nets x.target ≡ side_word (atom_word ws ins nets) x.side
 
-module _ (m : Contents) (ws : List Bits) (ins : Inputs) (nets : Nets) (solved : Solved m ws ins nets) where
+module _ (m : VModuleData) (ws : List Bits) (ins : Inputs) (nets : Nets) (solved : Solved m ws ins nets) where
   abbrev word : Atom → Bits
   word a = atom_word ws ins nets a
 

@@ -1,5 +1,5 @@
 -- Paths: Lower names joined by dots. With `$` for each dot they stay apart, they are made of bytes of a name, and no capital
--- letter stands behind a `$`.
+-- letter comes after a `$`.
 use Rattle.std.proofs.Common.{◌≡◌, ◌∙◌, ℕ, Bool, true, false, ◌&&◌, ◌||◌, not, List, [], ◌∷◌, ◌++◌, refl, sym, ap, ap₂, subst, if◌then◌else◌}
 use Rattle.std.specs.Prelude.{◌==◌}
 use Rattle.std.specs.Char.{is_ascii_uppercase}
@@ -8,14 +8,14 @@ use Rattle.std.proofs.lemmas.Bool.{false≢true, both_ways, and_parts, and_from,
 use Rattle.bsv_lemmas.proofs.Lists.{same_head, same_tail}
 use Rattle.bsv_ast.specs.Names.{is_lower, begins_name, is_word, is_capital}
 use Rattle.bsv_ast.proofs.Names.{begins_small, begins_word, word_no_dollar, word_no_dot, lower_words, lower_small}
-use Rattle.bsv_design.specs.Designs.{IsDotted}
-use Rattle.bsv_design.specs.Trees.{joined}
+use Rattle.bsv_design.specs.design.Designs.{IsDotted}
+use Rattle.bsv_design.specs.tree.Trees.{joined}
 use Rattle.bsv_vtext.specs.Modules.{is_name_byte}
 use Rattle.bsv_vgen.specs.Names.{written, verilog_name}
 
 -- ---- what is needed of a path
 
--- the byte may stand before these bytes
+-- the byte may come before these bytes
 abbrev fits_before : ℕ → List ℕ → Bool
 fits_before b bytes = is_word b || (b == 46 && begins_small bytes)
 
@@ -141,7 +141,7 @@ not_capital : (xs rest : List ℕ) → begins_small xs ≡ true → is_capital (
 not_capital [] rest h = absurd (false≢true h)
 not_capital (b ∷ xs) rest h = not-true (is_ascii_uppercase b) (and_parts (begins_name b) (not (is_ascii_uppercase b)) h).1
 
--- ---- a path, and behind it `$` and a capital letter
+-- ---- a path, and after it `$` and a capital letter
 
 -- the first dot is not where the other path ends
 dot_goes_on : (c : ℕ) (r s ys : List ℕ) → is_capital r ≡ true → fits_before c ys ≡ true → 36 ∷ r ≡ written c ∷ (verilog_name ys ++ s) → ⊥
@@ -161,7 +161,7 @@ cut (b ∷ xs) (c ∷ ys) r s p q h k e =
     let more = cut xs ys r s (and_parts (fits_before b xs) (routed xs) p).1 (and_parts (fits_before c ys) (routed ys) q).1 h k rest in
     (ap₂ (λ (d : ℕ) (bytes : List ℕ). d ∷ bytes) first more.0, more.1)
 
--- the path and what stands behind it are told
+-- the path and what comes after it are told
 pub path_told : (xs ys r s : List ℕ) → IsRoute xs → IsRoute ys → is_capital r ≡ true → is_capital s ≡ true
     → verilog_name xs ++ 36 ∷ r ≡ verilog_name ys ++ 36 ∷ s → (xs ≡ ys) × (r ≡ s)
 path_told xs ys r s p q h k e =

@@ -14,26 +14,26 @@ use Rattle.bsv_bits.specs.Words.{Bits, bit}
 use Rattle.bsv_prim.specs.Table.{IsWordOf}
 use Rattle.bsv_prim.specs.declared.primitive.RegisterInfo.{RegisterInfo}
 use Rattle.bsv_design.specs.declared.element.Element.{Element}
-use Rattle.bsv_design.specs.Bodies.{at}
-use Rattle.bsv_design.specs.Designs.{Blueprint, IsDesign}
-use Rattle.bsv_design.specs.Running as running
+use Rattle.bsv_design.specs.design.Bodies.{at}
+use Rattle.bsv_design.specs.design.Designs.{DesignData, IsDesign}
+use Rattle.bsv_design.specs.carrying.Running as running
 use Rattle.bsv_design.specs.declared.element.Role.{Role}
 use Rattle.bsv_design.specs.declared.element.Role.TheVariants as role
-use Rattle.bsv_design.specs.Roles.{is_rule, is_value, gives_value}
-use Rattle.bsv_design.specs.Schemes.{Outline, outline}
-use Rattle.bsv_design.specs.States.{methods_in}
-use Rattle.bsv_design.specs.Widths.{has_width}
+use Rattle.bsv_design.specs.tree.Roles.{is_rule, is_value, gives_value}
+use Rattle.bsv_design.specs.scheme.Schemes.{Outline, outline}
+use Rattle.bsv_design.specs.scheme.States.{methods_in}
+use Rattle.bsv_design.specs.design.Widths.{has_width}
 use Rattle.bsv_guard.specs.Fitting.{HaveWidths}
 use Rattle.bsv_guard.proofs.BodyFits.{width_is}
 use Rattle.bsv_guard.proofs.Lists.{holds_at_all, item_of}
-use Rattle.bsv_net.specs.declared.circuit.Circuit.{Circuit}
-use Rattle.bsv_net.specs.Circuits.{IsCircuit, is_bit, is_within, names, nexts_fit, register_widths, words}
-use Rattle.bsv_net.specs.Circuits as circuits
+use Rattle.bsv_net.specs.declared.net_data.NetData.{NetData}
+use Rattle.bsv_net.specs.Nets.{IsNet, is_bit, is_within, names, nexts_fit, register_widths, words}
+use Rattle.bsv_net.specs.Nets as nets
 use Rattle.bsv_net.specs.Equations.{Satisfies}
 use Rattle.bsv_net.proofs.Solution.{satisfies, words_have, same_length}
-use Rattle.bsv_net.specs.Hardware.{gives}
-use Rattle.bsv_clock.specs.Hardware as carrying
-use Rattle.bsv_clock.specs.Hardware.{cells_of, input_widths_of}
+use Rattle.bsv_net.specs.ShowsByNet.{gives}
+use Rattle.bsv_clock.specs.Shows as carrying
+use Rattle.bsv_clock.specs.Shows.{cells_of, input_widths_of}
 use Rattle.bsv_vtext.specs.declared.tree.Assign.{Assign}
 use Rattle.bsv_vtext.specs.declared.tree.Atom.{Atom}
 use Rattle.bsv_vtext.specs.declared.tree.Atom.TheVariants as atom
@@ -43,11 +43,11 @@ use Rattle.bsv_vtext.specs.declared.tree.VMethod.{VMethod}
 use Rattle.bsv_vtext.specs.declared.tree.VRegister.{VRegister}
 use Rattle.bsv_vtext.specs.declared.tree.VWire.{VWire}
 use Rattle.bsv_vtext.specs.Modules.{IsModule, IsAtom, IsAssign, IsAssigned, Stands}
-use Rattle.bsv_vtext.specs.Signals.{Contents}
+use Rattle.bsv_vtext.specs.Signals.{VModuleData}
 use Rattle.bsv_vtext.specs.VClock.{Inputs, Nets, atom_word, side_word}
 use Rattle.bsv_vtext.specs.Widths.{target_width, width_fits}
 use Rattle.bsv_vgen.specs.declared.known.Known.{Known}
-use Rattle.bsv_vgen.specs.Hardware.{TellsFire}
+use Rattle.bsv_vgen.specs.ShowsByModule.{TellsFire}
 use Rattle.bsv_vgen.specs.Interfaces.{IsMethodOf, IsModuleOf, argument_of}
 use Rattle.bsv_vgen.specs.Lines.{Written, Nodes, or_nothing, known_at}
 use Rattle.bsv_vgen.specs.Modules.{assign, inputs, known_of, lines, method_of, module_with, nothing_written, outputs_from, result_of, told_at, with_fires}
@@ -66,15 +66,15 @@ use Rattle.bsv_vgen.proofs.Outputs.{IsOutput, IsOutputIn, IsPlaced, ready, resul
 use Rattle.bsv_vgen.proofs.NamesApart.{apart}
 use Rattle.bsv_vgen.proofs.NamesRight.{name_right, method_right, argument_right, register_right, wire_right, wire_fires, fires}
 use Rattle.bsv_vgen.proofs.Told.{Solved}
-use Rattle.bsv_design.specs.Running.{or_zero}
+use Rattle.bsv_design.specs.carrying.Running.{or_zero}
 use Rattle.bsv_clock.proofs.Propositions.{bits_set}
 
 -- ---- the widths of a net
 
-zero_words : (us : List ℕ) → list_all circuits.width_fits us ≡ true → (vs : List Bits) × HaveWidths us vs
+zero_words : (us : List ℕ) → list_all nets.width_fits us ≡ true → (vs : List Bits) × HaveWidths us vs
 zero_words [] h = ([], tt)
 zero_words (u ∷ us) h =
-    let both = and_parts (circuits.width_fits u) (list_all circuits.width_fits us) h in
+    let both = and_parts (nets.width_fits u) (list_all nets.width_fits us) h in
     let bounds = and_parts (nat_le 1 u) (nat_le u 128) both.0 in
     let rest = zero_words us both.1 in
     let w : Bits = record { width = u; value = 0 } in
@@ -92,25 +92,25 @@ none_past [] k e = omega arith
 none_past (x ∷ xs) zero e = absurd (let h : ⊥ = cc in h)
 none_past (x ∷ xs) (suc k) e = let l = none_past xs k e in omega (arith, l)
 
--- what stands beside the nodes of a circuit
-record IsOrdered (us : List ℕ) (c : Circuit) : Type 0 where
-  inputs : list_all circuits.width_fits c.inputs ≡ true
+-- what is beside the nodes of a circuit
+record IsOrdered (us : List ℕ) (c : NetData) : Type 0 where
+  inputs : list_all nets.width_fits c.inputs ≡ true
   nexts : nexts_fit us c.nexts c.registers ≡ true
   fires : list_all (is_bit us) c.fires ≡ true
   readies : list_all (is_bit us) c.readies ≡ true
 
-ordered : (c : Circuit) (right : IsCircuit c) → IsOrdered right.widths c
+ordered : (c : NetData) (right : IsNet c) → IsOrdered right.widths c
 ordered c right =
     let us : List ℕ = right.widths in
-    let a = and_parts (list_all circuits.width_fits c.inputs && nexts_fit us c.nexts c.registers && list_all (is_bit us) c.fires && list_all (is_bit us) c.readies && list_all (names us) c.results) (list_all (list_all (circuits.is_site us)) c.sites) right.in_order in
-    let b = and_parts (list_all circuits.width_fits c.inputs && nexts_fit us c.nexts c.registers && list_all (is_bit us) c.fires && list_all (is_bit us) c.readies) (list_all (names us) c.results) a.0 in
-    let d = and_parts (list_all circuits.width_fits c.inputs && nexts_fit us c.nexts c.registers && list_all (is_bit us) c.fires) (list_all (is_bit us) c.readies) b.0 in
-    let e = and_parts (list_all circuits.width_fits c.inputs && nexts_fit us c.nexts c.registers) (list_all (is_bit us) c.fires) d.0 in
-    let f = and_parts (list_all circuits.width_fits c.inputs) (nexts_fit us c.nexts c.registers) e.0 in
+    let a = and_parts (list_all nets.width_fits c.inputs && nexts_fit us c.nexts c.registers && list_all (is_bit us) c.fires && list_all (is_bit us) c.readies && list_all (names us) c.results) (list_all (list_all (nets.is_site us)) c.sites) right.in_order in
+    let b = and_parts (list_all nets.width_fits c.inputs && nexts_fit us c.nexts c.registers && list_all (is_bit us) c.fires && list_all (is_bit us) c.readies) (list_all (names us) c.results) a.0 in
+    let d = and_parts (list_all nets.width_fits c.inputs && nexts_fit us c.nexts c.registers && list_all (is_bit us) c.fires) (list_all (is_bit us) c.readies) b.0 in
+    let e = and_parts (list_all nets.width_fits c.inputs && nexts_fit us c.nexts c.registers) (list_all (is_bit us) c.fires) d.0 in
+    let f = and_parts (list_all nets.width_fits c.inputs) (nexts_fit us c.nexts c.registers) e.0 in
     record { inputs = f.0; nexts = f.1; fires = e.1; readies = d.1 }
 
 -- each width is one that a word may have
-widths_bound : (c : Circuit) (right : IsCircuit c) (k u : ℕ) → slice_get right.widths k ≡ Some u → (1 ≤ u) × (u ≤ 128)
+widths_bound : (c : NetData) (right : IsNet c) (k u : ℕ) → slice_get right.widths k ≡ Some u → (1 ≤ u) × (u ≤ 128)
 widths_bound c right k u there =
     let zero = zero_words c.inputs (ordered c right).inputs in
     let own = (satisfies c right zero.0 (map (λ (r : RegisterInfo). r.start) c.registers) zero.1 (starts_have c.registers)).fits k u there in
@@ -134,7 +134,7 @@ next_count us [] (r ∷ rs) h = absurd (let i : ⊥ = cc in i)
 next_count us (n ∷ ns) [] h = absurd (let i : ⊥ = cc in i)
 next_count us (n ∷ ns) (r ∷ rs) h = ap suc (next_count us ns rs (and_parts (has_width (slice_get us n) r.width) (nexts_fit us ns rs) h).1)
 
-module _ (b : Blueprint) (c : Circuit)
+module _ (b : DesignData) (c : NetData)
     (cells : map carrying.cell c.registers ≡ cells_of (map (λ p. p.kind) b.parts)) (widths : c.inputs ≡ input_widths_of (map outline b.elements)) where
   abbrev N : Nodes
   N = lines b c
@@ -151,7 +151,7 @@ module _ (b : Blueprint) (c : Circuit)
   abbrev outputs : List Assign
   outputs = outputs_from ks c 0 methods
 
-  abbrev pub m : Contents
+  abbrev pub m : VModuleData
   m = module_with b c N
 
   -- ---- registers
@@ -230,7 +230,7 @@ module _ (b : Blueprint) (c : Circuit)
 
   -- ---- the lines are right, where the circuit is in order
 
-  module _ (right : IsCircuit c) where
+  module _ (right : IsNet c) where
     abbrev us : List ℕ
     us = right.widths
 
@@ -242,7 +242,7 @@ module _ (b : Blueprint) (c : Circuit)
 
     -- ---- what is told
 
-    -- what is known of a place stands with its own width, whether there is a node or not
+    -- what is known of a place is with its own width, whether there is a node or not
     known_stands : (n : ℕ) → length N.written.wires ≤ n → (p : ℕ) → Stands m n (known_at ks p).atom (known_at ks p).width
     known_stands n long p = of (slice_get us p) refl
       where
@@ -283,7 +283,7 @@ module _ (b : Blueprint) (c : Circuit)
       output : (j : ℕ) → l ≡ length F.wires + j → slice_get outputs j ≡ Some x → IsOneOf l x
 
     one_of : (l : ℕ) (x : Assign) → slice_get m.assigns l ≡ Some x → IsOneOf l x
-    one_of l x there = elim (below_or_behind l (length F.wires)) [
+    one_of l x there = elim (below_or_after l (length F.wires)) [
       | inl few ↦ wire few (lines_right.targets l x few there)
       | inr long ↦
           let place : l ≡ length F.wires + (l - length F.wires) = omega (arith, long) in
@@ -291,8 +291,8 @@ module _ (b : Blueprint) (c : Circuit)
           output (l - length F.wires) place (sym (at_right F.assigns outputs (l - length F.wires)) ∙ ap (slice_get m.assigns) (sym (place ∙ same)) ∙ there)
     ]
       where
-        below_or_behind : (a n : ℕ) → (a < n) ⊎ (n ≤ a)
-        below_or_behind a n = elim (cases_Bool (nat_lt a n)) [ inl e ↦ inl (ltb-true a n e) | inr e ↦ inr (ltb-false a n e) ]
+        below_or_after : (a n : ℕ) → (a < n) ⊎ (n ≤ a)
+        below_or_after a n = elim (cases_Bool (nat_lt a n)) [ inl e ↦ inl (ltb-true a n e) | inr e ↦ inr (ltb-false a n e) ]
 
     result_stands : (n : ℕ) → length N.written.wires ≤ n → (i : ℕ) → Stands m n (result_of ks c i).atom (result_of ks c i).width
     result_stands n long i = of (slice_get c.results i)
@@ -467,7 +467,7 @@ module _ (b : Blueprint) (c : Circuit)
 
   -- ---- it computes what the net does
 
-  module _ (design : ∥ IsDesign b ∥₁) (ordered_circuit : ∥ IsCircuit c ∥₁) (vs ws : List Bits) (ins : Inputs) (nets : Nets) (have : HaveWidths c.inputs vs) (hold : HaveWidths (register_widths c.registers) ws)
+  module _ (design : ∥ IsDesign b ∥₁) (ordered_circuit : ∥ IsNet c ∥₁) (vs ws : List Bits) (ins : Inputs) (nets : Nets) (have : HaveWidths c.inputs vs) (hold : HaveWidths (register_widths c.registers) ws)
       (given : input_words (atom_word ws ins nets) (inputs b) ≡ vs) (solved : Solved m ws ins nets) where
     abbrev word : Atom → Bits
     word a = atom_word ws ins nets a
@@ -475,7 +475,7 @@ module _ (b : Blueprint) (c : Circuit)
     abbrev values : List Bits
     values = words c.nodes vs ws
 
-    module _ (right : IsCircuit c) where
+    module _ (right : IsNet c) where
       solution : Satisfies vs ws (at values) c.nodes right.widths
       solution = satisfies c right vs ws have hold
 
@@ -498,7 +498,7 @@ module _ (b : Blueprint) (c : Circuit)
               ap (λ (o : Option Known). word (or_nothing o).atom) none ∙ sym (ap running.or_zero end)
 
     word_told : (p : ℕ) → word (known_at ks p).atom ≡ at values p
-    word_told p = ∥∥₁_elim ordered_circuit (bits_set _ _) (λ (right : IsCircuit c). known_told right p)
+    word_told p = ∥∥₁_elim ordered_circuit (bits_set _ _) (λ (right : IsNet c). known_told right p)
 
     entry_told : (ns : List ℕ) (n : ℕ) → word (told_at ks ns n).atom ≡ or_zero (slice_get (map (at values) ns) n)
     entry_told ns n = of (slice_get ns n) ∙ ap or_zero (sym (slice_get-map (at values) ns n))
@@ -540,7 +540,7 @@ module _ (b : Blueprint) (c : Circuit)
     next_words [] = refl
     next_words (n ∷ ns) = ap₂ (λ (x : Bits) (xs : List Bits). x ∷ xs) (word_told n) (next_words ns)
 
-  pub computes : ∥ IsDesign b ∥₁ → ∥ IsCircuit c ∥₁ → Computes b c m
+  pub computes : ∥ IsDesign b ∥₁ → ∥ IsNet c ∥₁ → Computes b c m
   computes design right = record {
     tells = λ vs ws ins rst nets behind have hold given v. record {
       fires = λ n e there acts. fire_tells design right vs ws ins nets have hold given v.assigned n e there acts;

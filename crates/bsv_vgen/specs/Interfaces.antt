@@ -2,13 +2,13 @@
 use Rattle.std.specs.Prelude.{◌≡◌, ℕ, false, not, List, ◌++◌, map, slice_get, Some, is_some}
 use Rattle.bsv_design.specs.declared.design.NamedPart.{NamedPart}
 use Rattle.bsv_design.specs.declared.element.Port.{Port}
-use Rattle.bsv_design.specs.Roles.{is_rule, is_value, gives_value}
-use Rattle.bsv_design.specs.Schemes.{Outline}
-use Rattle.bsv_clock.specs.Hardware.{Cell, cells_of}
+use Rattle.bsv_design.specs.tree.Roles.{is_rule, is_value, gives_value}
+use Rattle.bsv_design.specs.scheme.Schemes.{Outline}
+use Rattle.bsv_clock.specs.Shows.{Cell, cells_of}
 use Rattle.bsv_vtext.specs.declared.tree.VMethod.{VMethod}
 use Rattle.bsv_vtext.specs.declared.tree.VRegister.{VRegister}
 use Rattle.bsv_vtext.specs.declared.tree.VWire.{VWire}
-use Rattle.bsv_vtext.specs.Signals.{Contents}
+use Rattle.bsv_vtext.specs.Signals.{VModuleData}
 use Rattle.bsv_vgen.specs.Names.{register_names, numbered_from, fire_wires}
 
 -- an argument of a method
@@ -24,7 +24,7 @@ pub record IsMethodOf (o : Outline) (m : VMethod) : Type 0 where
   pub result : is_some m.result ≡ gives_value o.role
 
 -- an element that is a method has its ports at its place
-pub record HasMethod (c : Contents) (n : ℕ) (o : Outline) : Type 0 where
+pub record HasMethod (c : VModuleData) (n : ℕ) (o : Outline) : Type 0 where
   pub method : VMethod
   pub at : slice_get c.methods n ≡ Some method
   pub is : IsMethodOf o method
@@ -39,7 +39,7 @@ abbrev pub cell : VRegister → Cell
 cell r = record { width = r.start.width; start = r.start; resets = r.resets }
 
 -- the module of this name that has these parts and these elements
-pub record IsModuleOf (name : List ℕ) (ps : List NamedPart) (os : List Outline) (c : Contents) : Type 0 where
+pub record IsModuleOf (name : List ℕ) (ps : List NamedPart) (os : List Outline) (c : VModuleData) : Type 0 where
   pub name_is : c.name ≡ name
   -- the methods of the top, in the order of the interface, and no others
   pub methods : (n : ℕ) (o : Outline) → slice_get os n ≡ Some o → is_rule o.role ≡ false → HasMethod c n o

@@ -1,6 +1,6 @@
 pub mod Names
 pub mod Interfaces
-pub mod Hardware
+pub mod ShowsByModule
 pub mod Resetting
 pub mod Runs
 pub mod Lines

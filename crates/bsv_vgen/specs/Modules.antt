@@ -1,14 +1,14 @@
--- The module of a design and of its net: the nodes of the net as lines, and behind them what the module tells.
+-- The module of a design and of its net: the nodes of the net as lines, and after them what the module tells.
 use Rattle.std.specs.Prelude.{ℕ, ◌+◌, true, cond, not, List, [], ◌∷◌, ◌++◌, map, slice_get, Option, Some, None}
 use Rattle.bsv_bits.specs.Words.{bit}
 use Rattle.bsv_prim.specs.declared.primitive.RegisterInfo.{RegisterInfo}
 use Rattle.bsv_design.specs.declared.element.Element.{Element}
 use Rattle.bsv_design.specs.declared.element.Port.{Port}
 use Rattle.bsv_design.specs.declared.element.Role.{Role}
-use Rattle.bsv_design.specs.Designs.{Blueprint}
-use Rattle.bsv_design.specs.Roles.{is_value, gives_value}
-use Rattle.bsv_design.specs.States.{methods_in}
-use Rattle.bsv_net.specs.declared.circuit.Circuit.{Circuit}
+use Rattle.bsv_design.specs.design.Designs.{DesignData}
+use Rattle.bsv_design.specs.tree.Roles.{is_value, gives_value}
+use Rattle.bsv_design.specs.scheme.States.{methods_in}
+use Rattle.bsv_net.specs.declared.net_data.NetData.{NetData}
 use Rattle.bsv_vtext.specs.declared.tree.Assign.{Assign}
 use Rattle.bsv_vtext.specs.declared.tree.Atom.{Atom}
 use Rattle.bsv_vtext.specs.declared.tree.Atom.TheVariants as atom
@@ -17,7 +17,7 @@ use Rattle.bsv_vtext.specs.declared.tree.Target.{Target}
 use Rattle.bsv_vtext.specs.declared.tree.Target.TheVariants as target
 use Rattle.bsv_vtext.specs.declared.tree.VMethod.{VMethod}
 use Rattle.bsv_vtext.specs.declared.tree.VRegister.{VRegister}
-use Rattle.bsv_vtext.specs.Signals.{Contents}
+use Rattle.bsv_vtext.specs.Signals.{VModuleData}
 use Rattle.bsv_vgen.specs.declared.known.Known.{Known}
 use Rattle.bsv_vgen.specs.Names.{register_names, fire_wire}
 use Rattle.bsv_vgen.specs.Interfaces.{argument_of}
@@ -42,7 +42,7 @@ inputs_from m [] = []
 inputs_from m (e ∷ es) = method_inputs m e ++ inputs_from (m + 1) es
 
 -- the inputs of a net
-unfoldable pub inputs : Blueprint → List Known
+unfoldable pub inputs : DesignData → List Known
 inputs b = inputs_from 0 (methods_in b.elements)
 
 -- ---- what is told
@@ -68,26 +68,26 @@ abbrev pub assign : Target → Known → Assign
 assign t k = record { target = t; side = side.Is k.atom }
 
 -- what a method gives
-abbrev pub result_of : List Known → Circuit → ℕ → Known
+abbrev pub result_of : List Known → NetData → ℕ → Known
 result_of ks c n = told_at ks c.results n
 
-abbrev pub result_assign : List Known → Circuit → ℕ → Element → List Assign
+abbrev pub result_assign : List Known → NetData → ℕ → Element → List Assign
 result_assign ks c n e = cond (gives_value e.role) (assign (target.Result n) (result_of ks c n) ∷ []) []
 
 -- whether a method is ready, and what it gives
-abbrev pub method_assigns : List Known → Circuit → ℕ → Element → List Assign
+abbrev pub method_assigns : List Known → NetData → ℕ → Element → List Assign
 method_assigns ks c n e = assign (target.Ready n) (told_at ks c.readies n) ∷ result_assign ks c n e
 
-abbrev pub outputs_from : List Known → Circuit → ℕ → List Element → List Assign
+abbrev pub outputs_from : List Known → NetData → ℕ → List Element → List Assign
 outputs_from ks c n [] = []
 outputs_from ks c n (e ∷ es) = method_assigns ks c n e ++ outputs_from ks c (n + 1) es
 
 -- ---- ports and registers
 
-abbrev pub result_width : List Known → Circuit → ℕ → Element → Option ℕ
+abbrev pub result_width : List Known → NetData → ℕ → Element → Option ℕ
 result_width ks c n e = cond (gives_value e.role) (Some (result_of ks c n).width) None
 
-abbrev pub method_of : List Known → Circuit → ℕ → Element → VMethod
+abbrev pub method_of : List Known → NetData → ℕ → Element → VMethod
 method_of ks c n e = record {
   name = e.name;
   args = map argument_of e.arguments;
@@ -95,7 +95,7 @@ method_of ks c n e = record {
   result = result_width ks c n e;
 }
 
-abbrev pub methods_from : List Known → Circuit → ℕ → List Element → List VMethod
+abbrev pub methods_from : List Known → NetData → ℕ → List Element → List VMethod
 methods_from ks c n [] = []
 methods_from ks c n (e ∷ es) = method_of ks c n e ∷ methods_from ks c (n + 1) es
 
@@ -112,14 +112,14 @@ abbrev pub nothing_written : Written
 nothing_written = record { wires = []; assigns = [] }
 
 -- the nodes of the net
-unfoldable pub lines : Blueprint → Circuit → Nodes
+unfoldable pub lines : DesignData → NetData → Nodes
 lines b c = nodes (inputs b) c.registers [] nothing_written c.nodes
 
-module _ (b : Blueprint) (c : Circuit) where
+module _ (b : DesignData) (c : NetData) where
   -- the module of a design and of its net, whose nodes are written so
-  abbrev pub module_with : Nodes → Contents
+  abbrev pub module_with : Nodes → VModuleData
   module_with n = of (with_fires n.known c.fires 0 b.elements n.written) where
-    of : Written → Contents
+    of : Written → VModuleData
     of w = record {
       name = b.name;
       methods = methods_from n.known c 0 (methods_in b.elements);
@@ -129,5 +129,5 @@ module _ (b : Blueprint) (c : Circuit) where
       nexts = map (λ k. (known_at n.known k).atom) c.nexts;
     }
 
-  unfoldable pub module_of : Contents
+  unfoldable pub module_of : VModuleData
   module_of = module_with (lines b c)

@@ -6,8 +6,8 @@ use Rattle.bsv_graph.specs.Edges.{numbers_below}
 use Rattle.bsv_design.specs.declared.design.NamedPart.{NamedPart}
 use Rattle.bsv_design.specs.declared.kind.Kind.{Kind}
 use Rattle.bsv_design.specs.declared.kind.Kind.TheVariants.{Reg, RegU, Wire, DWire, RWire, Pulse, Plain, Pipeline, Bypass}
-use Rattle.bsv_design.specs.Roles.{is_value}
-use Rattle.bsv_design.specs.Schemes.{Outline}
+use Rattle.bsv_design.specs.tree.Roles.{is_value}
+use Rattle.bsv_design.specs.scheme.Schemes.{Outline}
 use Rattle.bsv_vtext.specs.declared.tree.VWire.{VWire}
 use Rattle.bsv_vtext.specs.Signals.{fire_name}
 
@@ -18,7 +18,7 @@ written b = if b == 46 then 36 else b
 abbrev pub verilog_name : List ℕ → List ℕ
 verilog_name path = map written path
 
--- ---- registers: behind the path of their part
+-- ---- registers: after the path of their part
 
 -- a queue has the number of its items, and then its items
 abbrev pub item_suffix : ℕ → List ℕ

@@ -1,46 +1,46 @@
--- Whole runs of a module: from its initial words, without a reset, each clock goes from the registers behind the clock before
+-- Whole runs of a module: from its initial words, without a reset, each clock goes from the registers after the clock before
 -- it; and what such a run tells of a run of a scheme.
 use Rattle.std.specs.Prelude.{Bool, true, List, [], ◌∷◌, length}
 use Rattle.bsv_bits.specs.Words.{Bits}
 use Rattle.bsv_prim.specs.declared.part.Part.{Part}
 use Rattle.bsv_design.specs.declared.schedule.Schedule.{Schedule}
-use Rattle.bsv_design.specs.Schemes.{Scheme, Asking}
-use Rattle.bsv_design.specs.States.{opening}
+use Rattle.bsv_design.specs.scheme.Schemes.{Scheme, Asking}
+use Rattle.bsv_design.specs.scheme.States.{opening}
 use Rattle.bsv_clock.specs.Runs.{Row, Runs, AllFit}
-use Rattle.bsv_vtext.specs.Signals.{Contents}
+use Rattle.bsv_vtext.specs.Signals.{VModuleData}
 use Rattle.bsv_vtext.specs.VClock.{Nets, VClock, initial}
-use Rattle.bsv_vgen.specs.Hardware.{TellsModule, inputs}
+use Rattle.bsv_vgen.specs.ShowsByModule.{TellsModule, inputs}
 
--- a clock of a module: the words of its nets, and the registers behind it
+-- a clock of a module: the words of its nets, and the registers after it
 pub record ModuleRow : Type 0 where
   pub nets : Nets
   pub nexts : List Bits
 
--- the clocks behind these registers, one for each of the requests
-abbrev pub ModuleContinues : Scheme → Contents → List Bits → List Asking → List ModuleRow → Type 0
+-- the clocks after these registers, one for each of the requests
+abbrev pub ModuleContinues : Scheme → VModuleData → List Bits → List Asking → List ModuleRow → Type 0
 ModuleContinues S c ws [] [] = Unit {0}
 ModuleContinues S c ws (q ∷ qs) (row ∷ rows) =
     VClock c ws (inputs S q (length c.methods)) true row.nets row.nexts × ModuleContinues S c row.nexts qs rows
 ModuleContinues S c ws _ _ = ⊥
 
 -- the clocks of a module, which begins with its initial words
-abbrev pub ModuleRuns : Scheme → Contents → List Asking → List ModuleRow → Type 0
+abbrev pub ModuleRuns : Scheme → VModuleData → List Asking → List ModuleRow → Type 0
 ModuleRuns S c qs rows = ModuleContinues S c (initial c) qs rows
 
 -- there are such clocks
-pub record HasModuleRun (S : Scheme) (c : Contents) (qs : List Asking) : Type 0 where
+pub record HasModuleRun (S : Scheme) (c : VModuleData) (qs : List Asking) : Type 0 where
   pub rows : List ModuleRow
   pub runs : ModuleRuns S c qs rows
 
--- clock by clock the module tells what happens, and its registers show the state behind it
-abbrev pub TellsFrom : Bool → Scheme → Contents → List Part → List Asking → List Row → List ModuleRow → Type 0
+-- clock by clock the module tells what happens, and its registers show the state after it
+abbrev pub TellsFrom : Bool → Scheme → VModuleData → List Part → List Asking → List Row → List ModuleRow → Type 0
 TellsFrom aggressive S c s [] [] [] = Unit {0}
 TellsFrom aggressive S c s (q ∷ qs) (row ∷ rows) (told ∷ tolds) =
     TellsModule aggressive S q s row.fired.list.items row.after c told.nets told.nexts × TellsFrom aggressive S c row.after qs rows tolds
 TellsFrom aggressive S c s _ _ _ = ⊥
 
 -- the module runs for all requests that fit, and whatever words solve its assignments, it tells the run of the scheme
-pub record RunsAs (aggressive : Bool) (S : Scheme) (made : Schedule) (c : Contents) : Type 0 where
+pub record RunsAs (aggressive : Bool) (S : Scheme) (made : Schedule) (c : VModuleData) : Type 0 where
   pub some : (qs : List Asking) → AllFit S qs → ∥ HasModuleRun S c qs ∥₁
   pub told : (qs : List Asking) (rows : List Row) (tolds : List ModuleRow) → AllFit S qs → Runs aggressive S made qs rows
       → ModuleRuns S c qs tolds → TellsFrom aggressive S c (opening S.kinds) qs rows tolds

@@ -1,24 +1,24 @@
 ghost use Rattle.std.specs.Prelude.{◌≡◌, ◌^◌, nat_lt, Bool, IsTrue, length, map, IfOk};
-ghost use Rattle.bsv_clock.specs.Hardware.{cell, cells_of, input_widths};
+ghost use Rattle.bsv_clock.specs.Shows.{cell, cells_of, input_widths};
 ghost use Rattle.bsv_clock.specs.Grounds.{IsLawful, IsScheduleOf};
-ghost use Rattle.bsv_design.specs.Schemes.{Scheme, AreAlike, design_scheme, kinds_of, outline};
-ghost use Rattle.bsv_design.specs.Seen.{blueprint};
+ghost use Rattle.bsv_design.specs.scheme.Schemes.{Scheme, AreAlike, design_scheme, kinds_of, outline};
+ghost use Rattle.bsv_design.specs.tree.Seen.{design_data};
 ghost use Rattle.bsv_design.specs.declared.schedule.Schedule.{Schedule};
-ghost use Rattle.bsv_net.specs.Hardware.{WordsCarry};
-ghost use Rattle.bsv_net.specs.AtHand.{circuit};
+ghost use Rattle.bsv_net.specs.ShowsByNet.{WordsCarry};
+ghost use Rattle.bsv_net.specs.AtHand.{net_data};
 ghost use Rattle.bsv_vgen.specs.AtHand as hand;
-ghost use Rattle.bsv_vgen.specs.Hardware.{ModuleCarries};
+ghost use Rattle.bsv_vgen.specs.ShowsByModule.{ModuleCarries};
 ghost use Rattle.bsv_vgen.specs.Interfaces.{IsModuleOf};
 ghost use Rattle.bsv_vgen.specs.Modules as spec;
 ghost use Rattle.bsv_vgen.specs.Resetting.{BeginsOpen, Resets};
 ghost use Rattle.bsv_vgen.specs.Runs.{RunsAs};
-ghost use Rattle.bsv_vtext.specs.AtHand.{contents};
+ghost use Rattle.bsv_vtext.specs.AtHand.{module_data};
 
 use crate::known::Known;
 use crate::lines::Writing;
 use crate::names::register_names;
 use crate::ports::{inputs, methods_in, methods_of};
-use crate::telling::{add_fires, add_outputs, nexts_of, registers_of};
+use crate::told_wires::{add_fires, add_outputs, nexts_of, registers_of};
 use crate::written::Written;
 use bsv_bits::{Name, OutOfMemory};
 use bsv_design::Design;
@@ -38,9 +38,9 @@ struct Lines {
 #[tactic(auto, unfolding(crate::specs::Modules::lines, crate::specs::Modules::inputs))]
 fn lines_of(alloc: Global, design: &Design, net: &Net) -> Result<Lines, OutOfMemory>
     ensures written { IfOk result (λ made. hand.written made.written
-        ≡ (spec.lines (blueprint design.now) (circuit net.now)).written) }
+        ≡ (spec.lines (design_data design.now) (net_data net.now)).written) }
     ensures known { IfOk result (λ made. made.known
-        ≡ (spec.lines (blueprint design.now) (circuit net.now)).known) }
+        ≡ (spec.lines (design_data design.now) (net_data net.now)).known) }
 {
     let inputs = inputs(alloc, methods_in(design.elements.as_slice()))?;
     let writing = Writing {
@@ -78,7 +78,7 @@ pub(crate) struct Parts {
 #[tactic(auto, unfolding(crate::specs::Modules::module_of))]
 fn parts_of(alloc: Global, design: &Design, net: &Net) -> Result<Parts, OutOfMemory>
     ensures parts { IfOk result (λ made. hand.parts made
-        ≡ spec.module_of (blueprint design.now) (circuit net.now)) }
+        ≡ spec.module_of (design_data design.now) (net_data net.now)) }
     ensures registers { IfOk result (λ made. IsTrue (nat_lt (length made.registers) (2 ^ 32))) }
     ensures wires { IfOk result (λ made. IsTrue (nat_lt (length made.wires) (2 ^ 32))) }
 {
@@ -106,24 +106,24 @@ fn parts_of(alloc: Global, design: &Design, net: &Net) -> Result<Parts, OutOfMem
 /// `WILL_FIRE_` wires tell what the net tells; it begins with registers that show the state before the first
 /// clock, and a reset shows it again but for registers without a start.
 pub fn generate(alloc: Global, design: &Design, net: &Net) -> Result<VModule, OutOfMemory>
-    requires registers { map cell net.now.registers ≡ cells_of (kinds_of (blueprint design.now)) }
-    requires inputs { net.now.inputs ≡ input_widths (design_scheme (blueprint design.now)) }
+    requires registers { map cell net.now.registers ≡ cells_of (kinds_of (design_data design.now)) }
+    requires inputs { net.now.inputs ≡ input_widths (design_scheme (design_data design.now)) }
     ensures module { IfOk result (λ made. IsModuleOf design.now.name design.now.parts
-        (map outline design.now.elements) (contents made)) }
+        (map outline design.now.elements) (module_data made)) }
     // Where the net carries the design, or a tree from which the design was made, so does the module.
     ensures carries { IfOk result (λ made. (aggressive : Bool) (S : Scheme) (made_by : Schedule)
-        → AreAlike S (design_scheme (blueprint design.now)) → IsLawful S
+        → AreAlike S (design_scheme (design_data design.now)) → IsLawful S
         → IsScheduleOf S made_by → WordsCarry aggressive S made_by net.now
-        → ModuleCarries aggressive S made_by (contents made)) }
+        → ModuleCarries aggressive S made_by (module_data made)) }
     // And from its initial words on it runs as they do, clock after clock.
     ensures runs { IfOk result (λ made. (aggressive : Bool) (S : Scheme) (made_by : Schedule)
-        → AreAlike S (design_scheme (blueprint design.now)) → IsLawful S
+        → AreAlike S (design_scheme (design_data design.now)) → IsLawful S
         → IsScheduleOf S made_by → WordsCarry aggressive S made_by net.now
-        → RunsAs aggressive S made_by (contents made)) }
+        → RunsAs aggressive S made_by (module_data made)) }
     ensures begins { IfOk result (λ made.
-        BeginsOpen (kinds_of (blueprint design.now)) (contents made)) }
+        BeginsOpen (kinds_of (design_data design.now)) (module_data made)) }
     ensures resets { IfOk result (λ made.
-        Resets (kinds_of (blueprint design.now)) (contents made)) }
+        Resets (kinds_of (design_data design.now)) (module_data made)) }
 {
     let Parts {
         name,

@@ -1,5 +1,5 @@
 ghost use Rattle.std.specs.Prelude.{◌≡◌, [], IfOk, OnOk};
-ghost use Rattle.bsv_design.specs.Widths.{gives_bit};
+ghost use Rattle.bsv_design.specs.design.Widths.{gives_bit};
 ghost use Rattle.bsv_vgen.specs.AtHand as hand;
 ghost use Rattle.bsv_vgen.specs.Lines as spec;
 

@@ -8,7 +8,7 @@ use itoa::Buffer;
 use sqlite_items::Items;
 use std::alloc::Global;
 
-/// The text, and behind it a decimal number.
+/// The text, and after it a decimal number.
 fn with_number(alloc: Global, front: &[u8], number: u32) -> Result<Name, OutOfMemory>
     ensures { IfOk result (λ name. name ≡ front.now ++ decimal number) }
 {
@@ -32,7 +32,7 @@ fn written(byte: u8) -> u8
     if byte == b'.' { b'$' } else { byte }
 }
 
-/// The text, and behind it a path.
+/// The text, and after it a path.
 fn with_path(alloc: Global, front: &[u8], path: &[u8]) -> Result<Vec<u8>, OutOfMemory>
     ensures { IfOk result (λ text. text.items ≡ front.now ++ spec.verilog_name path.now) }
 {

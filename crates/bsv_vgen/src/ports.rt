@@ -1,6 +1,6 @@
 ghost use Rattle.std.specs.Prelude.{◌≡◌, ◌++◌, ◌∷◌, [], map, IfOk, OnOk};
-ghost use Rattle.bsv_design.specs.States as states;
-ghost use Rattle.bsv_net.specs.AtHand.{circuit};
+ghost use Rattle.bsv_design.specs.scheme.States as states;
+ghost use Rattle.bsv_net.specs.AtHand.{net_data};
 ghost use Rattle.bsv_vgen.specs.Interfaces.{argument_of};
 ghost use Rattle.bsv_vgen.specs.Modules as spec;
 
@@ -98,7 +98,7 @@ fn arguments_of(alloc: Global, ports: &[Port]) -> Result<Items<VWire>, OutOfMemo
 
 /// The width of what a method gives.
 fn result_width(known: &[Known], net: &Net, place: u32, method: &Element) -> Option<u32>
-    ensures { result ≡ spec.result_width known.now (circuit net.now) place method.now }
+    ensures { result ≡ spec.result_width known.now (net_data net.now) place method.now }
 {
     if !method.role.gives_value() {
         return None;
@@ -115,7 +115,7 @@ fn method_of(
     method: &Element,
 ) -> Result<VMethod, OutOfMemory>
     ensures { IfOk result (λ made. made
-        ≡ spec.method_of known.now (circuit net.now) place method.now) }
+        ≡ spec.method_of known.now (net_data net.now) place method.now) }
 {
     let name = Name::new(alloc, method.name.bytes())?;
     let args = arguments_of(alloc, method.arguments.as_slice())?;
@@ -135,7 +135,7 @@ pub(crate) fn methods_of(
     methods: &[Element],
 ) -> Result<Items<VMethod>, OutOfMemory>
     ensures { IfOk result (λ made. made
-        ≡ spec.methods_from known.now (circuit net.now) 0 methods.now) }
+        ≡ spec.methods_from known.now (net_data net.now) 0 methods.now) }
 {
     let mut made = Items::new(alloc);
     let mut number = 0u32;

@@ -15,7 +15,7 @@ use Rattle.bsv_vtext.specs.Widths.{width_fits}
 use Rattle.bsv_vtext.specs.Modules.{is_name_byte}
 use Rattle.bsv_vtext.proofs.Runs.{Each, Passes, Stops, each_append, each_weaker, split, regrouped}
 
--- what stands in a name, in a number or in a constant
+-- what is in a name, in a number or in a constant
 unfoldable pub is_glyph : ℕ → Bool
 is_glyph b = is_name_byte b || b == 39
 

@@ -1,4 +1,4 @@
--- Ports that are listed one behind the other.
+-- Ports that are listed one after the other.
 use Rattle.std.proofs.Common.{◌≡◌, ◌∙◌, ℕ, Bool, Option, List, ◌∷◌, ◌++◌, ap, sym}
 use Rattle.std.proofs.lemmas.Grind.{flat_map-append}
 use Rattle.bsv_vtext.specs.declared.tree.VWire.{VWire}

@@ -8,7 +8,7 @@ use Rattle.bsv_vtext.specs.declared.tree.VRegister.{VRegister}
 use Rattle.bsv_vtext.specs.declared.tree.VWire.{VWire}
 use Rattle.bsv_vtext.specs.declared.tree.Assign.{Assign}
 use Rattle.bsv_vtext.specs.declared.tree.Atom.{Atom}
-use Rattle.bsv_vtext.specs.Signals.{Contents, scope, ports}
+use Rattle.bsv_vtext.specs.Signals.{VModuleData, scope, ports}
 use Rattle.bsv_vtext.specs.VText.{listed_port, port_line, register_line, wire_line, assign_line, start_line, reset_line, next_lines, some_blocks, blocks, header, declarations, vtext}
 use Rattle.bsv_vtext.specs.Modules.{IsModule, IsMethod, IsRegister, Clock, Reset, Enable, Argument, Ready, Result, Register, Wire, signal_name, name_of_enable, name_of_argument, name_of_result}
 use Rattle.bsv_vtext.proofs.Runs.{Each, each_at, split, pieces}
@@ -22,10 +22,10 @@ use Rattle.bsv_vtext.proofs.SameBlocks.{Apart, same_starts, same_resets, same_ne
 
 -- ---- what is known of the lists of a module
 
-methods_are : (c : Contents) → IsModule c → Each IsMethod c.methods
+methods_are : (c : VModuleData) → IsModule c → Each IsMethod c.methods
 methods_are c is = each_at IsMethod c.methods is.methods
 
-all_registers : (c : Contents) → IsModule c → Each IsRegister c.registers
+all_registers : (c : VModuleData) → IsModule c → Each IsRegister c.registers
 all_registers c is = each_at IsRegister c.registers is.registers
 
 apart_from : (rs : List VRegister) → ((j k : ℕ) (x y : VRegister) → slice_get rs j ≡ Some x → slice_get rs k ≡ Some y → x.name ≡ y.name → j ≡ k)
@@ -42,21 +42,21 @@ apart_from (r ∷ rs) apart = (
     before : (j k : ℕ) → suc j ≡ suc k → j ≡ k
     before j k e = omega arith
 
-registers_apart : (c : Contents) → IsModule c → Apart c.registers
+registers_apart : (c : VModuleData) → IsModule c → Apart c.registers
 registers_apart c is = apart_from c.registers (λ j k x y e f g. place j k
     (is.apart (Register j) (Register k) y.name (ap (option_map (λ r. r.name)) e ∙ ap Some g) (ap (option_map (λ r. r.name)) f)))
   where
     place : (j k : ℕ) → Register j ≡ Register k → j ≡ k
     place j k e = cc
 
-nexts_from : (c : Contents) (rs : List VRegister) (nexts : List Atom) → length nexts ≡ length rs
+nexts_from : (c : VModuleData) (rs : List VRegister) (nexts : List Atom) → length nexts ≡ length rs
     → ((k : ℕ) (r : VRegister) (a : Atom) → slice_get rs k ≡ Some r → slice_get nexts k ≡ Some a → IsSized c a)
     → Each (IsSized c) nexts
 nexts_from c rs [] count each = tt
 nexts_from c [] (a ∷ nexts) count each = absurd (omega arith)
 nexts_from c (r ∷ rs) (a ∷ nexts) count each = (each 0 r a refl refl, nexts_from c rs nexts (omega arith) (λ k r a e f. each (suc k) r a e f))
 
-nexts_are : (c : Contents) → IsModule c → Each (IsSized c) c.nexts
+nexts_are : (c : VModuleData) → IsModule c → Each (IsSized c) c.nexts
 nexts_are c is = nexts_from c c.registers c.nexts is.nexts_count (λ k r a e f. (r.start.width, is.nexts k r a e f))
 
 -- ---- the names of two modules
@@ -68,7 +68,7 @@ names_from xs ys e = sym (through xs) ∙ ap (map (λ (w : VWire). w.name)) e �
     through [] = refl
     through (x ∷ xs) = ap (λ (t : List (List ℕ)). x.name ∷ t) (through xs)
 
-same_names : (c d : Contents) → c.methods ≡ d.methods → map sight c.registers ≡ map sight d.registers → c.wires ≡ d.wires → SameNames c d
+same_names : (c d : VModuleData) → c.methods ≡ d.methods → map sight c.registers ≡ map sight d.registers → c.wires ≡ d.wires → SameNames c d
 same_names c d methods registers wires Clock = refl
 same_names c d methods registers wires Reset = refl
 same_names c d methods registers wires (Enable m) = ap (λ (ms : List VMethod). name_of_enable (slice_get ms m)) methods
@@ -98,11 +98,11 @@ registers_from (x ∷ xs) (y ∷ ys) names starts resets =
 
 -- ---- where lists of lines end
 
-ending : Contents → List ℕ
+ending : VModuleData → List ℕ
 ending c = blocks (scope c) c.registers c.nexts ++ (codes "endmodule\n" ++ [])
 
 -- 105 is the fifth byte of `  initial`, and 111 that of `endmodule`
-ending_fails : (p : ℕ → Bool) → p 105 ≡ false → p 111 ≡ false → (c : Contents) → Fails p (ending c)
+ending_fails : (p : ℕ → Bool) → p 105 ≡ false → p 111 ≡ false → (c : VModuleData) → Fails p (ending c)
 unfolding ending some_blocks
 ending_fails p some none c = by c.registers
   where
@@ -110,36 +110,36 @@ ending_fails p some none c = by c.registers
     by [] = none
     by (r ∷ rs) = some
 
-after_wires : Contents → List ℕ
+after_wires : VModuleData → List ℕ
 after_wires c = flat_map (assign_line (scope c)) c.assigns ++ ending c
 
-after_registers : Contents → List ℕ
+after_registers : VModuleData → List ℕ
 after_registers c = flat_map wire_line c.wires ++ after_wires c
 
-after_ports : Contents → List ℕ
+after_ports : VModuleData → List ℕ
 after_ports c = flat_map register_line c.registers ++ after_registers c
 
-wires_end : (p : ℕ → Bool) → p 115 ≡ false → p 105 ≡ false → p 111 ≡ false → (c : Contents) → Fails p (after_wires c)
+wires_end : (p : ℕ → Bool) → p 115 ≡ false → p 105 ≡ false → p 111 ≡ false → (c : VModuleData) → Fails p (after_wires c)
 unfolding after_wires
 wires_end p assign some none c = lines_fail p (assign_line (scope c)) (λ x r. assign) c.assigns (ending c) (ending_fails p some none c)
 
-registers_end : (p : ℕ → Bool) → p 114 ≡ false → p 115 ≡ false → p 105 ≡ false → p 111 ≡ false → (c : Contents) → Fails p (after_registers c)
+registers_end : (p : ℕ → Bool) → p 114 ≡ false → p 115 ≡ false → p 105 ≡ false → p 111 ≡ false → (c : VModuleData) → Fails p (after_registers c)
 unfolding after_registers
 registers_end p wire assign some none c = lines_fail p wire_line (λ x r. wire) c.wires (after_wires c) (wires_end p assign some none c)
 
-ports_end : (p : ℕ → Bool) → p 103 ≡ false → p 114 ≡ false → p 115 ≡ false → p 105 ≡ false → p 111 ≡ false → (c : Contents) → Fails p (after_ports c)
+ports_end : (p : ℕ → Bool) → p 103 ≡ false → p 114 ≡ false → p 115 ≡ false → p 105 ≡ false → p 111 ≡ false → (c : VModuleData) → Fails p (after_ports c)
 unfolding after_ports
 ports_end p reg wire assign some none c = lines_fail p register_line (λ x r. reg) c.registers (after_registers c)
     (registers_end p wire assign some none c)
 
 -- ---- the pieces of two texts
 
-module _ (c d : Contents) (is : IsModule c) (other : IsModule d) where
-  -- behind the header
-  behind_header : vtext c ≡ vtext d → (c.name ≡ d.name) × (declarations (ports c.methods) c.registers c.wires ++ after_wires c ≡ declarations
+module _ (c d : VModuleData) (is : IsModule c) (other : IsModule d) where
+  -- after the header
+  after_header : vtext c ≡ vtext d → (c.name ≡ d.name) × (declarations (ports c.methods) c.registers c.wires ++ after_wires c ≡ declarations
       (ports d.methods) d.registers d.wires ++ after_wires d)
   unfolding vtext header after_wires ending is_glyph
-  behind_header e =
+  after_header e =
       let whole = pieces (header c.name (ports c.methods) ∷ declarations (ports c.methods) c.registers c.wires ∷ flat_map (assign_line (scope c))
       c.assigns ∷ blocks (scope c) c.registers c.nexts ∷ codes "endmodule\n" ∷ [])
       (header d.name (ports d.methods) ∷ declarations (ports d.methods) d.registers d.wires ∷ flat_map (assign_line (scope d)) d.assigns ∷ blocks
@@ -235,8 +235,8 @@ module _ (c d : Contents) (is : IsModule c) (other : IsModule d) where
       (all_registers d other) (nexts_are c is) (nexts_are d other)
       (registers_apart c is) (registers_apart d other) is.nexts_count other.nexts_count sights e
 
-abbrev contents : List ℕ → List VMethod → List VRegister → List VWire → List Assign → List Atom → Contents
-contents name methods registers wires assigns nexts = record {
+abbrev module_data : List ℕ → List VMethod → List VRegister → List VWire → List Assign → List Atom → VModuleData
+module_data name methods registers wires assigns nexts = record {
   name = name;
   methods = methods;
   registers = registers;
@@ -245,16 +245,16 @@ contents name methods registers wires assigns nexts = record {
   nexts = nexts;
 }
 
-pub same_contents : (c d : Contents) → c.name ≡ d.name → c.methods ≡ d.methods → c.registers ≡ d.registers → c.wires ≡ d.wires → c.assigns ≡ d.assigns
+pub same_contents : (c d : VModuleData) → c.name ≡ d.name → c.methods ≡ d.methods → c.registers ≡ d.registers → c.wires ≡ d.wires → c.assigns ≡ d.assigns
     → c.nexts ≡ d.nexts → c ≡ d
 same_contents c d name methods registers wires assigns nexts =
-    let all : contents c.name c.methods c.registers c.wires c.assigns c.nexts ≡ contents d.name d.methods d.registers d.wires d.assigns d.nexts = cc
+    let all : module_data c.name c.methods c.registers c.wires c.assigns c.nexts ≡ module_data d.name d.methods d.registers d.wires d.assigns d.nexts = cc
     in
     all
 
-pub one_text : (c d : Contents) → IsModule c → IsModule d → vtext c ≡ vtext d → c ≡ d
+pub one_text : (c d : VModuleData) → IsModule c → IsModule d → vtext c ≡ vtext d → c ≡ d
 one_text c d is other e =
-    let front = behind_header c d is other e in
+    let front = after_header c d is other e in
     let known = declared c d is other front.1 in
     let same = same_names c d known.methods known.registers known.wires in
     let lines = assigned c d is other same known.behind in

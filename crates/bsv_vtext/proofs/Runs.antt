@@ -1,4 +1,4 @@
--- A list is split in one way where a test passes on its front and fails behind it.
+-- A list is split in one way where a test passes on its front and fails after it.
 use Rattle.std.proofs.Common.{◌≡◌, ◌∙◌, ℕ, suc, Bool, true, false, if◌then◌else◌, List, [], ◌∷◌, ◌++◌, map, slice_get, flat_map, Some, refl, sym, ap, subst, append_assoc}
 use Rattle.std.specs.List.{list_all, concat}
 use Rattle.std.proofs.lemmas.Bool.{and_parts}
@@ -54,22 +54,22 @@ split p (x ∷ xs) (y ∷ ys) r s some others stop end e =
     let more = split p xs ys r s some.1 others.1 stop end (same_tail x y (xs ++ r) (ys ++ s) e) in
     (longer x y xs ys (same_head x y (xs ++ r) (ys ++ s) e) more.0, more.1)
 
--- what stands behind the front that passes
+-- what comes after the front that passes
 abbrev pub behind : (ℕ → Bool) → List ℕ → List ℕ
 behind p [] = []
 behind p (b ∷ bs) = if p b then behind p bs else b ∷ bs
 
-pub behind_is : (p : ℕ → Bool) (xs r : List ℕ) → Each (Passes p) xs → Stops p r → behind p (xs ++ r) ≡ r
-behind_is p [] [] some stop = refl
-behind_is p [] (b ∷ r) some stop = rw stop refl
-behind_is p (x ∷ xs) r some stop = rw some.0 (behind_is p xs r some.1 stop)
+pub after_is : (p : ℕ → Bool) (xs r : List ℕ) → Each (Passes p) xs → Stops p r → behind p (xs ++ r) ≡ r
+after_is p [] [] some stop = refl
+after_is p [] (b ∷ r) some stop = rw stop refl
+after_is p (x ∷ xs) r some stop = rw some.0 (after_is p xs r some.1 stop)
 
 -- ---- pieces
 
 pub regrouped : (a b c x y z : List ℕ) → (a ++ b) ++ c ≡ (x ++ y) ++ z → a ++ (b ++ c) ≡ x ++ (y ++ z)
 regrouped a b c x y z e = sym (append_assoc a b c) ∙ e ∙ append_assoc x y z
 
--- pieces one behind the other, and what goes on behind them
+-- pieces one after the other, and what goes on after them
 abbrev pub on : List (List ℕ) → List ℕ → List ℕ
 on [] r = r
 on (x ∷ xs) r = x ++ on xs r
@@ -83,13 +83,13 @@ pieces ps qs r s e = sym (concat_on ps r) ∙ e ∙ concat_on qs s
 
 -- ---- lines
 
--- lines one behind the other, each of which tells something and where it ends, tell that of each
+-- lines one after the other, each of which tells something and where it ends, tell that of each
 module _ {X K : Type 0} (line other : X → List ℕ) (Good Fine : X → Type 0) (key : X → K) (starts : List ℕ → Bool) (After : List ℕ → Type 0)
     (first : (x : X) (r : List ℕ) → (starts (line x ++ r) ≡ true) × After (line x ++ r))
     (second : (x : X) (r : List ℕ) → (starts (other x ++ r) ≡ true) × After (other x ++ r))
     (one : (x y : X) (r s : List ℕ) → Good x → Fine y → After r → After s → line x ++ r ≡ other y ++ s → (key x ≡ key y) × (r ≡ s)) where
-  begun : (a b : List ℕ) → a ≡ b → starts a ≡ true → starts b ≡ false → ⊥
-  begun a b same begins ends = cc
+  started : (a b : List ℕ) → a ≡ b → starts a ≡ true → starts b ≡ false → ⊥
+  started a b same begins ends = cc
 
   after_lines : (f : X → List ℕ) → ((x : X) (r : List ℕ) → (starts (f x ++ r) ≡ true) × After (f x ++ r))
       → (xs : List X) (r : List ℕ) → After r → After (flat_map f xs ++ r)
@@ -100,10 +100,10 @@ module _ {X K : Type 0} (line other : X → List ℕ) (Good Fine : X → Type 0)
       → flat_map line xs ++ r ≡ flat_map other ys ++ s → (map key xs ≡ map key ys) × (r ≡ s)
   same_lines [] [] r s good fine stop end e = (refl, e)
   same_lines [] (y ∷ ys) r s good fine stop end e =
-      absurd (begun (other y ++ (flat_map other ys ++ s)) r (sym (append_assoc (other y) (flat_map other ys) s) ∙ sym e)
+      absurd (started (other y ++ (flat_map other ys ++ s)) r (sym (append_assoc (other y) (flat_map other ys) s) ∙ sym e)
       (second y (flat_map other ys ++ s)).0 stop.0)
   same_lines (x ∷ xs) [] r s good fine stop end e =
-      absurd (begun (line x ++ (flat_map line xs ++ r)) s (sym (append_assoc (line x) (flat_map line xs) r) ∙ e) (first x (flat_map line xs ++ r)).0
+      absurd (started (line x ++ (flat_map line xs ++ r)) s (sym (append_assoc (line x) (flat_map line xs) r) ∙ e) (first x (flat_map line xs ++ r)).0
       end.0)
   same_lines (x ∷ xs) (y ∷ ys) r s good fine stop end e =
       let now = one x y (flat_map line xs ++ r) (flat_map other ys ++ s) good.0 fine.0

@@ -5,7 +5,7 @@ use Rattle.bsv_lemmas.proofs.Lists.{same_tail}
 use Rattle.bsv_vtext.specs.declared.tree.Assign.{Assign}
 use Rattle.bsv_vtext.specs.declared.tree.Side.{Side}
 use Rattle.bsv_vtext.specs.declared.tree.Target.{Target}
-use Rattle.bsv_vtext.specs.Signals.{Contents, scope}
+use Rattle.bsv_vtext.specs.Signals.{VModuleData, scope}
 use Rattle.bsv_vtext.specs.VText.{target_text, side_text, assign_line}
 use Rattle.bsv_vtext.specs.Modules.{IsModule, IsAssign}
 use Rattle.bsv_vtext.proofs.Runs.{Each, each_at, split, pieces, same_lines}
@@ -15,10 +15,10 @@ use Rattle.bsv_vtext.proofs.SameSides.{IsSide, side_is, same_side}
 use Rattle.bsv_vtext.proofs.SameDeclarations.{fifth, Fails}
 
 -- a target of some width, and a side whose parts have widths
-abbrev pub IsAssignment : Contents → Assign → Type 0
+abbrev pub IsAssignment : VModuleData → Assign → Type 0
 IsAssignment c x = HasWidth c x.target × IsSide c x.side
 
-pub assigns_are : (c : Contents) → IsModule c → Each (IsAssignment c) c.assigns
+pub assigns_are : (c : VModuleData) → IsModule c → Each (IsAssignment c) c.assigns
 assigns_are c is = each_at (IsAssignment c) c.assigns (λ line x e. assign_is line x (is.assigns line x e))
   where
     assign_is : (line : ℕ) (x : Assign) → IsAssign c line x → IsAssignment c x
@@ -31,7 +31,7 @@ begins_assign b = b == 115
 abbrev assign : Target → Side → Assign
 assign target side = record { target = target; side = side }
 
-module _ (c d : Contents) (is : IsModule c) (other : IsModule d) (same : SameNames c d) where
+module _ (c d : VModuleData) (is : IsModule c) (other : IsModule d) (same : SameNames c d) where
   one_assign : (x y : Assign) (r s : List ℕ) → IsAssignment c x → IsAssignment d y → assign_line (scope c) x ++ r ≡ assign_line (scope d) y ++ s
       → (x ≡ y) × (r ≡ s)
   unfolding is_glyph

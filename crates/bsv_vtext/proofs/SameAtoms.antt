@@ -13,7 +13,7 @@ use Rattle.bsv_vtext.specs.declared.tree.Atom.{Atom}
 use Rattle.bsv_vtext.specs.declared.tree.Atom.TheVariants as atom
 use Rattle.bsv_vtext.specs.declared.tree.Target.{Target}
 use Rattle.bsv_vtext.specs.declared.tree.Target.TheVariants as target
-use Rattle.bsv_vtext.specs.Signals.{Contents, scope, argument_name, enable_name, ready_name, or_nameless, wire_name, arguments_of}
+use Rattle.bsv_vtext.specs.Signals.{VModuleData, scope, argument_name, enable_name, ready_name, or_nameless, wire_name, arguments_of}
 use Rattle.bsv_vtext.specs.Widths.{enable_width, target_width}
 use Rattle.bsv_vtext.specs.VText.{atom_text, target_text}
 use Rattle.bsv_vtext.specs.Modules.{IsModule, IsAtom, Signal, Enable, Argument, Ready, Result, Register, Wire, signal_name, name_of_enable, name_of_argument, name_of_result}
@@ -22,10 +22,10 @@ use Rattle.bsv_vtext.proofs.Glyphs.{is_glyph, BeginsWith, constant_glyphs, const
 use Rattle.bsv_vtext.proofs.SignalNames.{name_glyphs, name_first, signal_named}
 
 -- the signals of two modules have the same names
-abbrev pub SameNames : Contents → Contents → Type 0
+abbrev pub SameNames : VModuleData → VModuleData → Type 0
 SameNames c d = (x : Signal) → signal_name c x ≡ signal_name d x
 
-one_signal : (c d : Contents) → IsModule c → SameNames c d → (x y : Signal) (s t : List ℕ) → signal_name c x ≡ Some s → signal_name d y ≡ Some t
+one_signal : (c d : VModuleData) → IsModule c → SameNames c d → (x y : Signal) (s t : List ℕ) → signal_name c x ≡ Some s → signal_name d y ≡ Some t
     → s ≡ t → x ≡ y
 one_signal c d is same x y s t e f g = is.apart x y t (e ∙ ap Some g) (same y ∙ f)
 
@@ -40,11 +40,11 @@ atom_of (Wire k) = Some (atom.Wire k)
 atom_of _ = None
 
 -- an atom as a module says it
-abbrev pub said : Contents → Atom → List ℕ
+abbrev pub said : VModuleData → Atom → List ℕ
 said c a = atom_text (scope c) a
 
 -- the text of an atom is a constant or the name of a signal
-data Says (c : Contents) (a : Atom) : Type 0 where
+data Says (c : VModuleData) (a : Atom) : Type 0 where
   constant : (w : Bits) → a ≡ atom.Constant w → IsWord w → Says c a
   named : (x : Signal) → atom_of x ≡ Some a → signal_name c x ≡ Some (said c a) → Says c a
 
@@ -78,7 +78,7 @@ wire_says : (o : Option VWire) (width : ℕ) → option_map (λ w. w.width) o �
 wire_says None width e = absurd cc
 wire_says (Some w) width e = refl
 
-atom_says : (c : Contents) (a : Atom) (width : ℕ) → IsAtom c a width → Says c a
+atom_says : (c : VModuleData) (a : Atom) (width : ℕ) → IsAtom c a width → Says c a
 atom_says c (atom.Enable m) width is = named (Enable m) refl (enable_says (slice_get c.methods m) width is.has_width)
 atom_says c (atom.Argument m k) width is = named (Argument m k) refl (argument_says (slice_get c.methods m) k width is.has_width)
 atom_says c (atom.Register k) width is = named (Register k) refl (register_says (slice_get c.registers k) width is.has_width)
@@ -86,7 +86,7 @@ atom_says c (atom.Wire k) width is = named (Wire k) refl (wire_says (slice_get c
 atom_says c (atom.Constant w) width is = constant w refl is.word
 
 -- an atom of some width
-abbrev pub IsSized : Contents → Atom → Type 0
+abbrev pub IsSized : VModuleData → Atom → Type 0
 IsSized c a = (width : ℕ) × IsAtom c a width
 
 -- `$`, `~` and `{` begin a side that begins with no atom
@@ -105,7 +105,7 @@ not_opened : (p : ℕ → Bool) → ((b : ℕ) → p b ≡ true → is_opener b 
 not_opened p never [] begins = absurd begins
 not_opened p never (b ∷ bs) begins = never b begins
 
-pub atom_opens_nothing : (c : Contents) → IsModule c → (a : Atom) → IsSized c a → Stops is_opener (said c a)
+pub atom_opens_nothing : (c : VModuleData) → IsModule c → (a : Atom) → IsSized c a → Stops is_opener (said c a)
 atom_opens_nothing c is a some = by (atom_says c a some.0 some.1)
   where
     by : Says c a → Stops is_opener (said c a)
@@ -113,7 +113,7 @@ atom_opens_nothing c is a some = by (atom_says c a some.0 some.1)
         (not_opened is_ascii_digit digit_is_no_opener (constant_text w) (constant_first w word))
     by (named x e f) = not_opened begins_name letter_is_no_opener (said c a) (name_first (said c a) (signal_named c is x (said c a) f))
 
-pub atom_glyphs : (c : Contents) → IsModule c → (a : Atom) → IsSized c a → Each (Passes is_glyph) (said c a)
+pub atom_glyphs : (c : VModuleData) → IsModule c → (a : Atom) → IsSized c a → Each (Passes is_glyph) (said c a)
 atom_glyphs c is a some = by (atom_says c a some.0 some.1)
   where
     by : Says c a → Each (Passes is_glyph) (said c a)
@@ -130,14 +130,14 @@ apart (x ∷ s) (y ∷ t) digit letter e =
 constants_are : (v w : Bits) → v ≡ w → atom.Constant v ≡ atom.Constant w
 constants_are v w e = ap atom.Constant e
 
-pub same_atom : (c d : Contents) → IsModule c → IsModule d → SameNames c d → (a b : Atom) → IsSized c a → IsSized d b
+pub same_atom : (c d : VModuleData) → IsModule c → IsModule d → SameNames c d → (a b : Atom) → IsSized c a → IsSized d b
     → said c a ≡ said d b → a ≡ b
 same_atom c d is other same a b some any e = by (atom_says c a some.0 some.1) (atom_says d b any.0 any.1)
   where
-    name_of : (c : Contents) → IsModule c → (a : Atom) (x : Signal) → signal_name c x ≡ Some (said c a) → BeginsWith begins_name (said c a)
+    name_of : (c : VModuleData) → IsModule c → (a : Atom) (x : Signal) → signal_name c x ≡ Some (said c a) → BeginsWith begins_name (said c a)
     name_of c is a x f = name_first (said c a) (signal_named c is x (said c a) f)
 
-    digits_of : (c : Contents) (a : Atom) (w : Bits) → a ≡ atom.Constant w → IsWord w → BeginsWith is_ascii_digit (said c a)
+    digits_of : (c : VModuleData) (a : Atom) (w : Bits) → a ≡ atom.Constant w → IsWord w → BeginsWith is_ascii_digit (said c a)
     digits_of c a w f word = subst (λ (a : Atom). BeginsWith is_ascii_digit (said c a)) (sym f) (constant_first w word)
 
     by : Says c a → Says d b → a ≡ b
@@ -177,20 +177,20 @@ result_says (Some m) width e = at m.result e
     at None f = absurd cc
     at (Some own) f = refl
 
-target_says : (c : Contents) (t : Target) (width : ℕ) → target_width c t ≡ Some width → signal_name c (signal_of t) ≡ Some (target_text (scope c) t)
+target_says : (c : VModuleData) (t : Target) (width : ℕ) → target_width c t ≡ Some width → signal_name c (signal_of t) ≡ Some (target_text (scope c) t)
 target_says c (target.Wire k) width e = wire_says (slice_get c.wires k) width e
 target_says c (target.Ready m) width e = ready_says (slice_get c.methods m) width e
 target_says c (target.Result m) width e = result_says (slice_get c.methods m) width e
 
 -- a target of some width
-abbrev pub HasWidth : Contents → Target → Type 0
+abbrev pub HasWidth : VModuleData → Target → Type 0
 HasWidth c t = (width : ℕ) × (target_width c t ≡ Some width)
 
-pub target_glyphs : (c : Contents) → IsModule c → (t : Target) → HasWidth c t → Each (Passes is_glyph) (target_text (scope c) t)
+pub target_glyphs : (c : VModuleData) → IsModule c → (t : Target) → HasWidth c t → Each (Passes is_glyph) (target_text (scope c) t)
 target_glyphs c is t some = name_glyphs (target_text (scope c) t) (signal_named c is (signal_of t) (target_text (scope c) t)
     (target_says c t some.0 some.1))
 
-pub same_target : (c d : Contents) → IsModule c → SameNames c d → (x y : Target) → HasWidth c x → HasWidth d y
+pub same_target : (c d : VModuleData) → IsModule c → SameNames c d → (x y : Target) → HasWidth c x → HasWidth d y
     → target_text (scope c) x ≡ target_text (scope d) y → x ≡ y
 same_target c d is same x y some any e =
     target_of x y (one_signal c d is same (signal_of x) (signal_of y) (target_text (scope c) x) (target_text (scope d) y)

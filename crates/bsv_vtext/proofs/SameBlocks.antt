@@ -4,7 +4,7 @@ use Rattle.std.proofs.lemmas.List.{append_cancel_left}
 use Rattle.bsv_bits.specs.Constants.{constant_text}
 use Rattle.bsv_vtext.specs.declared.tree.VRegister.{VRegister}
 use Rattle.bsv_vtext.specs.declared.tree.Atom.{Atom}
-use Rattle.bsv_vtext.specs.Signals.{Contents, scope}
+use Rattle.bsv_vtext.specs.Signals.{VModuleData, scope}
 use Rattle.bsv_vtext.specs.VText.{start_line, edge_line, reset_line, next_line, next_lines}
 use Rattle.bsv_vtext.specs.Modules.{IsModule, IsRegister}
 use Rattle.bsv_vtext.proofs.Runs.{Each, Passes, split, pieces, same_lines, regrouped}
@@ -43,7 +43,7 @@ same_starts xs ys r s good fine e =
     in
     (parts.0, append_cancel_left (codes "  end") r s parts.1)
 
--- ---- what stands at the edge
+-- ---- what is at the edge
 
 same_edge : (m n v w r s : List ℕ) → IsName m → IsName n → Each (Passes is_glyph) v → Each (Passes is_glyph) w
     → edge_line m v ++ r ≡ edge_line n w ++ s
@@ -80,7 +80,7 @@ abbrev pub Apart : List VRegister → Type 0
 Apart [] = Unit {0}
 Apart (r ∷ rs) = Free r.name rs × Apart rs
 
--- the registers that the reset sets, and what stands behind them
+-- the registers that the reset sets, and what comes after them
 abbrev resetting : List VRegister → List ℕ → List ℕ
 resetting rs r = flat_map reset_line rs ++ (codes "    end" ++ r)
 
@@ -142,7 +142,7 @@ same_resets (x ∷ xs) (y ∷ ys) r s good fine apart distinct names e =
 
 -- ---- what registers take over
 
-module _ (c d : Contents) (is : IsModule c) (other : IsModule d) (same : SameNames c d) where
+module _ (c d : VModuleData) (is : IsModule c) (other : IsModule d) (same : SameNames c d) where
   pub same_nexts : (xs ys : List VRegister) (nexts others : List Atom) (r s : List ℕ) → Each IsRegister xs → Each IsRegister ys
       → Each (IsSized c) nexts → Each (IsSized d) others
       → length nexts ≡ length xs → length others ≡ length ys → length xs ≡ length ys

@@ -4,7 +4,7 @@ use Rattle.std.proofs.lemmas.List.{append_cancel_left, map-id}
 use Rattle.bsv_vtext.specs.declared.tree.VMethod.{VMethod}
 use Rattle.bsv_vtext.specs.declared.tree.VRegister.{VRegister}
 use Rattle.bsv_vtext.specs.declared.tree.VWire.{VWire}
-use Rattle.bsv_vtext.specs.Signals.{Contents, Port, argument_ports, enable_ports, ready_port, result_ports, ports_of, ports}
+use Rattle.bsv_vtext.specs.Signals.{VModuleData, Port, argument_ports, enable_ports, ready_port, result_ports, ports_of, ports}
 use Rattle.bsv_vtext.specs.Widths.{width_fits}
 use Rattle.bsv_vtext.specs.VText.{declaration, direction, port_line, register_line, wire_line, listed_port}
 use Rattle.bsv_vtext.specs.Modules.{IsModule, IsMethod, IsArgument}
@@ -163,14 +163,14 @@ same_wires xs ys r s good fine stop end e =
 
 -- ---- what a module declares
 
-pub registers_are : (c : Contents) → IsModule c → Each IsSight c.registers
+pub registers_are : (c : VModuleData) → IsModule c → Each IsSight c.registers
 registers_are c is = each_at IsSight c.registers (λ k r e. record {
   named = signal_is_name r.name (is.registers k r e).name;
   some = (is.registers k r e).start.some;
   below = omega (arith, (is.registers k r e).start.most);
 })
 
-pub wires_are : (c : Contents) → IsModule c → Each IsDeclared c.wires
+pub wires_are : (c : VModuleData) → IsModule c → Each IsDeclared c.wires
 wires_are c is = each_at IsDeclared c.wires (λ k w e. declares w.name w.width (signal_is_name w.name (is.wires k w e).name) (is.wires k w e).width)
 
 -- ---- the header

@@ -122,7 +122,7 @@ same_result m n (Some v) (Some w) r s is other stop end e =
 abbrev method : List ℕ → List VWire → Bool → Option ℕ → VMethod
 method name args action result = record { name = name; args = args; action = action; result = result }
 
--- what a method gives stands behind its readiness: the ports of a method begin with none of what a method gives
+-- what a method gives comes after its readiness: the ports of a method begin with none of what a method gives
 first_port : (m : List ℕ) (args : List VWire) (action : Bool) (o : Option ℕ) (r : List Port) → begins gives (ports_of m args action o ++ r) ≡ false
 first_port m [] true o r = refl
 first_port m [] false o r = refl

@@ -10,18 +10,18 @@ use Rattle.bsv_vtext.specs.declared.tree.Side.{Side}
 use Rattle.bsv_vtext.specs.declared.tree.Side.TheVariants as side
 use Rattle.bsv_vtext.specs.declared.tree.VOperator.{VOperator}
 use Rattle.bsv_vtext.specs.declared.tree.VOperator.TheVariants as operator
-use Rattle.bsv_vtext.specs.Signals.{Contents, scope, arguments_of}
+use Rattle.bsv_vtext.specs.Signals.{VModuleData, scope, arguments_of}
 use Rattle.bsv_vtext.specs.Widths.{width_fits, atom_width, enable_width, Sort, Even, Comparing, Shifting, sort_of, FitsTwo, FitsJoined, FitsSlice, IsNamed, Fits}
 use Rattle.bsv_vtext.specs.Widths as widths
 use Rattle.bsv_vtext.specs.VText.{operator_text, joined_atom, joined_atoms, side_text}
 use Rattle.bsv_vtext.specs.Modules.{IsModule, IsMethod, Stands}
-use Rattle.bsv_vtext.proofs.Runs.{Each, Passes, Stops, split, behind, behind_is, concat_on, pieces, same_lines, regrouped}
+use Rattle.bsv_vtext.proofs.Runs.{Each, Passes, Stops, split, behind, after_is, concat_on, pieces, same_lines, regrouped}
 use Rattle.bsv_vtext.proofs.Glyphs.{is_glyph, same_number, fits_below}
 use Rattle.bsv_vtext.proofs.SameAtoms.{SameNames, IsSized, said, is_opener, atom_glyphs, atom_opens_nothing, same_atom}
 
 -- ---- what is known of a side: its atoms have widths, and its numbers are small
 
-abbrev pub IsSide : Contents → Side → Type 0
+abbrev pub IsSide : VModuleData → Side → Type 0
 IsSide c (side.Is a) = IsSized c a
 IsSide c (side.Not a) = IsSized c a
 IsSide c (side.Two o a b) = IsSized c a × IsSized c b
@@ -33,15 +33,15 @@ IsSide c (side.Join []) = ⊥
 IsSide c (side.Join (a ∷ rest)) = IsSized c a × Each (IsSized c) rest
 IsSide c (side.Slice a high low) = IsSized c a × ((high < 2 ^ 64) × (low < 2 ^ 64))
 
-sized : (c : Contents) (line : ℕ) (a : Atom) (width : ℕ) → Stands c line a width → IsSized c a
+sized : (c : VModuleData) (line : ℕ) (a : Atom) (width : ℕ) → Stands c line a width → IsSized c a
 sized c line a width stands = (width, stands.0)
 
-sized_two : (c : Contents) (line : ℕ) (sort : Sort) (a b : Atom) (width : ℕ) → FitsTwo (Stands c line) sort a b width → IsSized c a × IsSized c b
+sized_two : (c : VModuleData) (line : ℕ) (sort : Sort) (a b : Atom) (width : ℕ) → FitsTwo (Stands c line) sort a b width → IsSized c a × IsSized c b
 sized_two c line Even a b width fits = (sized c line a width fits.0, sized c line b width fits.1)
 sized_two c line Comparing a b width fits = (sized c line a fits.1.0 fits.1.1.0, sized c line b fits.1.0 fits.1.1.1)
 sized_two c line Shifting a b width fits = (sized c line a width fits.0, sized c line b fits.1.0 fits.1.1)
 
-sized_parts : (c : Contents) (line : ℕ) (parts : List Atom) (width : ℕ) → FitsJoined (Stands c line) parts width → Each (IsSized c) parts
+sized_parts : (c : VModuleData) (line : ℕ) (parts : List Atom) (width : ℕ) → FitsJoined (Stands c line) parts width → Each (IsSized c) parts
 sized_parts c line parts width widths.none = tt
 sized_parts c line parts width (widths.more {a = a} {rest = rest} own others stands fits) = (
   sized c line a own stands,
@@ -49,7 +49,7 @@ sized_parts c line parts width (widths.more {a = a} {rest = rest} own others sta
       fits,
 )
 
-sized_join : (c : Contents) (line : ℕ) (parts : List Atom) (width : ℕ) → 2 ≤ length parts → FitsJoined (Stands c line) parts width
+sized_join : (c : VModuleData) (line : ℕ) (parts : List Atom) (width : ℕ) → 2 ≤ length parts → FitsJoined (Stands c line) parts width
     → IsSide c (side.Join parts)
 sized_join c line [] width some fits = absurd (omega arith)
 sized_join c line (a ∷ rest) width some fits = sized_parts c line (a ∷ rest) width fits
@@ -72,7 +72,7 @@ arguments_below : (o : Option VMethod) (k : ℕ) → ((m : VMethod) → o ≡ So
 arguments_below None k known a e = absurd cc
 arguments_below (Some m) k known a e = fits_below a.width ((known m refl).arguments k a e).width
 
-named_below : (c : Contents) → IsModule c → (line : ℕ) (a : Atom) (width : ℕ) → IsNamed (Stands c line) a → atom_width c a ≡ Some width
+named_below : (c : VModuleData) → IsModule c → (line : ℕ) (a : Atom) (width : ℕ) → IsNamed (Stands c line) a → atom_width c a ≡ Some width
     → width < 2 ^ 64
 named_below c is line (atom.Enable m) width named e = enable_below (slice_get c.methods m) width e
 named_below c is line (atom.Argument m k) width named e =
@@ -83,7 +83,7 @@ named_below c is line (atom.Wire k) width named e = width_below (λ w. w.width) 
     (λ w f. fits_below w.width (is.wires k w f).width) e
 named_below c is line (atom.Constant w) width named e = absurd named
 
-pub side_is : (c : Contents) → IsModule c → (line : ℕ) (x : Side) (width : ℕ) → Fits (Stands c line) x width → IsSide c x
+pub side_is : (c : VModuleData) → IsModule c → (line : ℕ) (x : Side) (width : ℕ) → Fits (Stands c line) x width → IsSide c x
 side_is c is line (side.Is a) width fits = sized c line a width fits
 side_is c is line (side.Not a) width fits = sized c line a width fits
 side_is c is line (side.Two o a b) width fits = sized_two c line (sort_of o) a b width fits
@@ -177,12 +177,12 @@ shape_told Sliced = refl
 
 -- ---- which bytes a text is told by
 
--- behind an atom: the byte there, or the two behind a blank
+-- after an atom: the byte there, or the two after a blank
 unfoldable mark : List ℕ → List ℕ
 mark [] = []
 mark (b ∷ bs) = if b == 32 then take 2 bs else b ∷ []
 
--- behind `$`, `~` or `{`: that byte, and behind `$signed(` and an atom the two behind `)` and a blank
+-- after `$`, `~` or `{`: that byte, and after `$signed(` and an atom the two after `)` and a blank
 unfoldable opened : ℕ → List ℕ → List ℕ
 opened b bs = if b == 36 then 36 ∷ take 2 (drop 2 (behind is_glyph (drop 7 bs))) else b ∷ []
 
@@ -190,14 +190,14 @@ unfoldable told_by : List ℕ → List ℕ
 told_by [] = []
 told_by (b ∷ bs) = if is_opener b then opened b bs else mark (behind is_glyph (b ∷ bs))
 
-told_behind : (t r : List ℕ) → Each (Passes is_glyph) t → Stops is_opener t → Stops is_glyph r → told_by (t ++ r) ≡ mark r
+told_after : (t r : List ℕ) → Each (Passes is_glyph) t → Stops is_opener t → Stops is_glyph r → told_by (t ++ r) ≡ mark r
 unfolding told_by
-told_behind [] r some starts stop = absurd starts
-told_behind (b ∷ t) r some starts stop = rw starts (ap mark (behind_is is_glyph (b ∷ t) r some stop))
+told_after [] r some starts stop = absurd starts
+told_after (b ∷ t) r some starts stop = rw starts (ap mark (after_is is_glyph (b ∷ t) r some stop))
 
-told_behind_signed : (t r : List ℕ) → Each (Passes is_glyph) t → Stops is_glyph r → told_by (codes "$signed(" ++ (t ++ r)) ≡ 36 ∷ take 2 (drop 2 r)
+told_after_signed : (t r : List ℕ) → Each (Passes is_glyph) t → Stops is_glyph r → told_by (codes "$signed(" ++ (t ++ r)) ≡ 36 ∷ take 2 (drop 2 r)
 unfolding told_by opened is_opener
-told_behind_signed t r some stop = ap (λ (bs : List ℕ). 36 ∷ take 2 (drop 2 bs)) (behind_is is_glyph t r some stop)
+told_after_signed t r some stop = ap (λ (bs : List ℕ). 36 ∷ take 2 (drop 2 bs)) (after_is is_glyph t r some stop)
 
 operator_stops : (o : VOperator) (r : List ℕ) → Stops is_glyph (operator_text o ++ r)
 unfolding is_glyph
@@ -231,33 +231,33 @@ operator_mark operator.Shr r = refl
 
 -- ---- the pieces of sides that have several
 
-abbrev two_pieces : Contents → List ℕ → Atom → Atom → List (List ℕ)
+abbrev two_pieces : VModuleData → List ℕ → Atom → Atom → List (List ℕ)
 two_pieces c between a b = said c a ∷ between ∷ said c b ∷ []
 
-abbrev signed_pieces : Contents → List ℕ → Atom → Atom → List (List ℕ)
+abbrev signed_pieces : VModuleData → List ℕ → Atom → Atom → List (List ℕ)
 signed_pieces c between a b = codes "$signed(" ∷ said c a ∷ between ∷ said c b ∷ codes ")" ∷ []
 
-abbrev shift_pieces : Contents → Atom → Atom → List (List ℕ)
+abbrev shift_pieces : VModuleData → Atom → Atom → List (List ℕ)
 shift_pieces c a b = codes "$signed(" ∷ two_pieces c (codes ") >>> ") a b
 
-abbrev pick_pieces : Contents → Atom → Atom → Atom → List (List ℕ)
+abbrev pick_pieces : VModuleData → Atom → Atom → Atom → List (List ℕ)
 pick_pieces c t a b = said c t ∷ codes " ? " ∷ two_pieces c (codes " : ") a b
 
-abbrev join_pieces : Contents → List Atom → List (List ℕ)
+abbrev join_pieces : VModuleData → List Atom → List (List ℕ)
 join_pieces c parts = codes "{" ∷ joined_atoms (scope c) parts ∷ codes "}" ∷ []
 
-abbrev slice_pieces : Contents → Atom → ℕ → ℕ → List (List ℕ)
+abbrev slice_pieces : VModuleData → Atom → ℕ → ℕ → List (List ℕ)
 slice_pieces c a high low = said c a ∷ codes "[" ∷ decimal high ∷ codes ":" ∷ decimal low ∷ codes "]" ∷ []
 
--- a text that begins with an atom is told by what stands behind that
-module _ (c : Contents) (is : IsModule c) where
+-- a text that begins with an atom is told by what comes after that
+module _ (c : VModuleData) (is : IsModule c) where
   atom_told : (a : Atom) (r : List ℕ) → IsSized c a → Stops is_glyph r → told_by (said c a ++ r) ≡ mark r
-  atom_told a r some stop = told_behind (said c a) r (atom_glyphs c is a some) (atom_opens_nothing c is a some) stop
+  atom_told a r some stop = told_after (said c a) r (atom_glyphs c is a some) (atom_opens_nothing c is a some) stop
 
   signed_told : (a : Atom) (r : List ℕ) → IsSized c a → Stops is_glyph r → told_by (codes "$signed(" ++ (said c a ++ r)) ≡ 36 ∷ take 2 (drop 2 r)
-  signed_told a r some stop = told_behind_signed (said c a) r (atom_glyphs c is a some) stop
+  signed_told a r some stop = told_after_signed (said c a) r (atom_glyphs c is a some) stop
 
-  -- 59 is the `;` behind a side
+  -- 59 is the `;` after a side
   side_told : (x : Side) (r : List ℕ) → IsSide c x → told_by (side_text (scope c) x ++ 59 ∷ r) ≡ marks (shape x)
   unfolding is_glyph mark told_by opened is_opener
   side_told (side.Is a) r good = atom_told a (59 ∷ r) good refl
@@ -285,8 +285,8 @@ module _ (c : Contents) (is : IsModule c) where
 
 -- ---- two sides
 
-module _ (c d : Contents) (is : IsModule c) (other : IsModule d) (same : SameNames c d) where
-  -- an atom and what stands behind it
+module _ (c d : VModuleData) (is : IsModule c) (other : IsModule d) (same : SameNames c d) where
+  -- an atom and what comes after it
   pub same_front : (a b : Atom) (r s : List ℕ) → IsSized c a → IsSized d b → Stops is_glyph r → Stops is_glyph s
       → said c a ++ r ≡ said d b ++ s → (a ≡ b) × (r ≡ s)
   same_front a b r s some any stop end e =
@@ -303,12 +303,12 @@ module _ (c d : Contents) (is : IsModule c) (other : IsModule d) (same : SameNam
       in
       (front.0, same_front b y r s two four stop end (append_cancel_left between (said c b ++ r) (said d y ++ s) front.1))
 
-  -- the atoms of a join behind the first one
+  -- the atoms of a join after the first one
   begins_more : List ℕ → Bool
   begins_more [] = false
   begins_more (b ∷ bs) = b == 44
 
-  more_begins : (m : Contents) (a : Atom) (r : List ℕ) → (begins_more (joined_atom (scope m) a ++ r) ≡ true) × Stops is_glyph
+  more_begins : (m : VModuleData) (a : Atom) (r : List ℕ) → (begins_more (joined_atom (scope m) a ++ r) ≡ true) × Stops is_glyph
       (joined_atom (scope m) a ++ r)
   unfolding begins_more is_glyph
   more_begins m a r = (refl, refl)
@@ -317,7 +317,7 @@ module _ (c d : Contents) (is : IsModule c) (other : IsModule d) (same : SameNam
   unfolding begins_more is_glyph
   more_end r = (refl, refl)
 
-  more_stops : (m : Contents) (rest : List Atom) (r : List ℕ) → Stops is_glyph (flat_map (joined_atom (scope m)) rest ++ (codes "}" ++ r))
+  more_stops : (m : VModuleData) (rest : List Atom) (r : List ℕ) → Stops is_glyph (flat_map (joined_atom (scope m)) rest ++ (codes "}" ++ r))
   unfolding is_glyph
   more_stops m [] r = refl
   more_stops m (a ∷ rest) r = refl

@@ -9,7 +9,7 @@ use Rattle.bsv_ast.proofs.Names.{lower_parts, lower_some}
 use Rattle.bsv_vtext.specs.declared.tree.VMethod.{VMethod}
 use Rattle.bsv_vtext.specs.declared.tree.VRegister.{VRegister}
 use Rattle.bsv_vtext.specs.declared.tree.VWire.{VWire}
-use Rattle.bsv_vtext.specs.Signals.{Contents, argument_name, enable_name, ready_name}
+use Rattle.bsv_vtext.specs.Signals.{VModuleData, argument_name, enable_name, ready_name}
 use Rattle.bsv_vtext.specs.Modules.{IsModule, IsMethod, IsArgument, Signal, Clock, Reset, Enable, Argument, Ready, Result, Register, Wire, signal_name, name_of_enable, name_of_argument, name_of_result, is_name_byte, is_signal_name}
 use Rattle.bsv_vtext.proofs.Runs.{Each, Passes, each_append, each_weaker, each_passes}
 use Rattle.bsv_vtext.proofs.Glyphs.{is_glyph, word_is_name_byte, name_byte_is_glyph, first_is_name_byte, BeginsWith}
@@ -51,7 +51,7 @@ pub lower_name : (name : List ℕ) → IsLower name → IsName name
 lower_name [] is = is
 lower_name (b ∷ bs) is = (is.0, words_are_name_bytes bs is.1.1)
 
--- what stands behind a name leaves it a name
+-- what comes after a name leaves it a name
 longer_name : (name more : List ℕ) → IsName name → Each (Passes is_name_byte) more → IsName (name ++ more)
 longer_name [] more is some = absurd is
 longer_name (b ∷ bs) more is some = (is.0, each_append (Passes is_name_byte) bs more is.1 some)
@@ -77,7 +77,7 @@ signal_is_name (b ∷ bs) e =
 same_name : (own name : List ℕ) → Some own ≡ Some name → IsName own → IsName name
 same_name own name e is = subst IsName (same_Some own name e) is
 
--- what is known of what stands in a list
+-- what is known of what is in a list
 abbrev Known : {A : Type 0} → (A → Type 0) → Option A → Type 0
 Known {A} P o = (x : A) → o ≡ Some x → P x
 
@@ -119,7 +119,7 @@ wire_named : (o : Option VWire) (name : List ℕ) → Known (λ w. is_signal_nam
 wire_named None name known e = absurd cc
 wire_named (Some w) name known e = same_name w.name name e (signal_is_name w.name (known w refl))
 
-pub signal_named : (c : Contents) → IsModule c → (x : Signal) (name : List ℕ) → signal_name c x ≡ Some name → IsName name
+pub signal_named : (c : VModuleData) → IsModule c → (x : Signal) (name : List ℕ) → signal_name c x ≡ Some name → IsName name
 signal_named c is Clock name e = same_name (codes "CLK") name e (refl, (refl, (refl, tt)))
 signal_named c is Reset name e = same_name (codes "RST_N") name e (refl, (refl, (refl, (refl, (refl, tt)))))
 signal_named c is (Enable m) name e = enable_named (slice_get c.methods m) name (is.methods m) e

@@ -10,11 +10,11 @@ use Rattle.bsv_vtext.specs.declared.ports.Listing.TheVariants as listing
 use Rattle.bsv_vtext.specs.declared.blocks.Line.{Line}
 use Rattle.bsv_vtext.specs.declared.blocks.Line.TheVariants as kind
 use Rattle.bsv_vtext.specs.declared.names.Scope as names
-use Rattle.bsv_vtext.specs.Signals.{Contents, Port, Scope}
+use Rattle.bsv_vtext.specs.Signals.{VModuleData, Port, Scope}
 use Rattle.bsv_vtext.specs.VText.{listed_port, port_line, start_line, reset_line, atom_text}
 
-abbrev pub contents : VModule → Contents
-contents m = record {
+abbrev pub module_data : VModule → VModuleData
+module_data m = record {
   name = m.name;
   methods = m.methods;
   registers = m.registers;
@@ -44,7 +44,7 @@ listed l ps = flat_map (port_text l) ps
 
 -- ---- sides
 
--- two atoms, with texts before, between and behind them
+-- two atoms, with texts before, between and after them
 abbrev pub two : Scope → Texts → Atom → Atom → List ℕ
 two s t a b = t.front.now ++ (atom_text s a ++ (t.middle.now ++ (atom_text s b ++ t.back.now)))
 

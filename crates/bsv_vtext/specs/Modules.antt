@@ -12,7 +12,7 @@ use Rattle.bsv_vtext.specs.declared.tree.Atom.{Atom}
 use Rattle.bsv_vtext.specs.declared.tree.Atom.TheVariants as atom
 use Rattle.bsv_vtext.specs.declared.tree.Target.{Target}
 use Rattle.bsv_vtext.specs.declared.tree.Target.TheVariants as target
-use Rattle.bsv_vtext.specs.Signals.{Contents, argument_name, enable_name, ready_name, fire_name}
+use Rattle.bsv_vtext.specs.Signals.{VModuleData, argument_name, enable_name, ready_name, fire_name}
 use Rattle.bsv_vtext.specs.Widths.{width_fits, atom_width, target_width, Fits}
 
 -- ---- names
@@ -50,7 +50,7 @@ name_of_result None = None
 name_of_result (Some m) = option_map (λ _. m.name) m.result
 
 -- the name of a signal, where there is such a one
-abbrev pub signal_name : Contents → Signal → Option (List ℕ)
+abbrev pub signal_name : VModuleData → Signal → Option (List ℕ)
 signal_name c Clock = Some (codes "CLK")
 signal_name c Reset = Some (codes "RST_N")
 signal_name c (Enable m) = name_of_enable (slice_get c.methods m)
@@ -88,41 +88,41 @@ IsConstant (atom.Constant w) = IsWord w
 IsConstant _ = Unit {0}
 
 -- an atom of so many bits
-pub record IsAtom (c : Contents) (a : Atom) (width : ℕ) : Type 0 where
+pub record IsAtom (c : VModuleData) (a : Atom) (width : ℕ) : Type 0 where
   pub has_width : atom_width c a ≡ Some width
   pub word : IsConstant a
 
 -- the target is assigned on a line before this one
-pub record IsAssignedBefore (c : Contents) (line : ℕ) (t : Target) : Type 0 where
+pub record IsAssignedBefore (c : VModuleData) (line : ℕ) (t : Target) : Type 0 where
   pub earlier : ℕ
   pub before : earlier < line
   pub assign : Assign
   pub at : slice_get c.assigns earlier ≡ Some assign
   pub target_is : assign.target ≡ t
 
--- a wire is used behind its assignment alone
-abbrev pub IsKnown : Contents → ℕ → Atom → Type 0
+-- a wire is used after its assignment alone
+abbrev pub IsKnown : VModuleData → ℕ → Atom → Type 0
 IsKnown c line (atom.Wire k) = IsAssignedBefore c line (target.Wire k)
 IsKnown c line _ = Unit {0}
 
 -- an atom of so many bits may stand on this line
-abbrev pub Stands : Contents → ℕ → Atom → ℕ → Type 0
+abbrev pub Stands : VModuleData → ℕ → Atom → ℕ → Type 0
 Stands c line a width = IsAtom c a width × IsKnown c line a
 
-pub record IsAssign (c : Contents) (line : ℕ) (x : Assign) : Type 0 where
+pub record IsAssign (c : VModuleData) (line : ℕ) (x : Assign) : Type 0 where
   pub width : ℕ
   pub target_width_is : target_width c x.target ≡ Some width
   pub side : Fits (Stands c line) x.side width
 
 -- a line that assigns the target
-pub record IsAssigned (c : Contents) (t : Target) : Type 0 where
+pub record IsAssigned (c : VModuleData) (t : Target) : Type 0 where
   pub line : ℕ
   pub assign : Assign
   pub at : slice_get c.assigns line ≡ Some assign
   pub target_is : assign.target ≡ t
 
 -- a wire that tells that the method fires
-pub record HasFire (c : Contents) (m : VMethod) : Type 0 where
+pub record HasFire (c : VModuleData) (m : VMethod) : Type 0 where
   pub place : ℕ
   pub wire : VWire
   pub at : slice_get c.wires place ≡ Some wire
@@ -130,7 +130,7 @@ pub record HasFire (c : Contents) (m : VMethod) : Type 0 where
 
 -- ---- the whole
 
-pub record IsModule (c : Contents) : Type 0 where
+pub record IsModule (c : VModuleData) : Type 0 where
   pub name : IsTrue (is_lower c.name)
   pub methods : (k : ℕ) (m : VMethod) → slice_get c.methods k ≡ Some m → IsMethod m
   pub registers : (k : ℕ) (r : VRegister) → slice_get c.registers k ≡ Some r → IsRegister r

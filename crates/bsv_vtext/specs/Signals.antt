@@ -9,7 +9,7 @@ use Rattle.bsv_vtext.specs.declared.tree.Assign.{Assign}
 use Rattle.bsv_vtext.specs.declared.tree.Atom.{Atom}
 
 -- the parts of a module
-pub record Contents : Type 0 where
+pub record VModuleData : Type 0 where
   pub name : List ℕ
   pub methods : List VMethod
   pub registers : List VRegister
@@ -23,7 +23,7 @@ pub record Scope : Type 0 where
   pub registers : List VRegister
   pub wires : List VWire
 
-abbrev pub scope : Contents → Scope
+abbrev pub scope : VModuleData → Scope
 scope c = record { methods = c.methods; registers = c.registers; wires = c.wires }
 
 -- ---- names of ports
@@ -79,7 +79,7 @@ ports_of m args action result =
 abbrev pub method_ports : VMethod → List Port
 method_ports m = ports_of m.name m.args m.action m.result
 
--- all ports behind the clock and the reset, in order
+-- all ports after the clock and the reset, in order
 abbrev pub ports : List VMethod → List Port
 ports methods = flat_map method_ports methods
 

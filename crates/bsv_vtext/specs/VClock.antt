@@ -13,7 +13,7 @@ use Rattle.bsv_vtext.specs.declared.tree.Target.{Target}
 use Rattle.bsv_vtext.specs.declared.tree.Target.TheVariants as target
 use Rattle.bsv_vtext.specs.declared.tree.VOperator.{VOperator}
 use Rattle.bsv_vtext.specs.declared.tree.VOperator.TheVariants as operator
-use Rattle.bsv_vtext.specs.Signals.{Contents}
+use Rattle.bsv_vtext.specs.Signals.{VModuleData}
 
 -- the inputs of a clock: of each method whether its enable is 1, and the words of its arguments
 pub record Inputs : Type 0 where
@@ -73,7 +73,7 @@ side_word word (side.Slice a high low) = word_slice (word a) high low
 -- ---- clocks
 
 -- what the registers begin with
-abbrev pub initial : Contents → List Bits
+abbrev pub initial : VModuleData → List Bits
 initial c = map (λ r. r.start) c.registers
 
 -- the reset sets the registers that it lists, and leaves the others
@@ -82,8 +82,8 @@ reset_words (r ∷ rs) (w ∷ ws) = (if r.resets then r.start else w) ∷ reset_
 reset_words _ _ = []
 
 -- one clock: the registers before the edge, the inputs, whether `RST_N` is 1, the words of the nets, and the
--- registers behind the edge
-pub record VClock (c : Contents) (registers : List Bits) (inputs : Inputs) (rst_n : Bool) (nets : Nets) (nexts : List Bits) : Type 0 where
+-- registers after the edge
+pub record VClock (c : VModuleData) (registers : List Bits) (inputs : Inputs) (rst_n : Bool) (nets : Nets) (nexts : List Bits) : Type 0 where
   -- every assignment is true as an equation
   pub assigned : (line : ℕ) (x : Assign) → slice_get c.assigns line ≡ Some x → nets x.target ≡ side_word (atom_word registers inputs nets) x.side
   pub edge : nexts ≡ (if rst_n then map (atom_word registers inputs nets) c.nexts else reset_words c.registers registers)

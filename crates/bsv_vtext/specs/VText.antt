@@ -14,7 +14,7 @@ use Rattle.bsv_vtext.specs.declared.tree.Target.{Target}
 use Rattle.bsv_vtext.specs.declared.tree.Target.TheVariants as target
 use Rattle.bsv_vtext.specs.declared.tree.VOperator.{VOperator}
 use Rattle.bsv_vtext.specs.declared.tree.VOperator.TheVariants as operator
-use Rattle.bsv_vtext.specs.Signals.{Contents, Scope, scope, Port, ports, argument_name, enable_name, ready_name, method_name, own_name, register_name, wire_name}
+use Rattle.bsv_vtext.specs.Signals.{VModuleData, Scope, scope, Port, ports, argument_name, enable_name, ready_name, method_name, own_name, register_name, wire_name}
 
 -- ---- declarations
 
@@ -35,7 +35,7 @@ register_line r = declaration (codes "  reg") r.start.width r.name
 abbrev pub wire_line : VWire → List ℕ
 wire_line w = declaration (codes "  wire") w.width w.name
 
--- a port in the header, behind those before it
+-- a port in the header, after those before it
 abbrev pub listed_port : Port → List ℕ
 listed_port p = codes ", " ++ p.name
 
@@ -74,7 +74,7 @@ operator_text operator.UpTo = codes " <= "
 operator_text operator.Shl = codes " << "
 operator_text operator.Shr = codes " >> "
 
--- an atom behind another one, in a join
+-- an atom after another one, in a join
 abbrev pub joined_atom : Scope → Atom → List ℕ
 joined_atom s a = codes ", " ++ atom_text s a
 
@@ -129,7 +129,7 @@ blocks s (r ∷ rs) nexts = some_blocks s (r ∷ rs) nexts
 
 -- ---- the whole
 
-unfoldable pub vtext : Contents → List ℕ
+unfoldable pub vtext : VModuleData → List ℕ
 vtext c =
     concat (header c.name (ports c.methods) ∷ declarations (ports c.methods) c.registers c.wires ∷
     flat_map (assign_line (scope c)) c.assigns ∷ blocks (scope c) c.registers c.nexts ∷ codes "endmodule\n" ∷ [])

@@ -11,7 +11,7 @@ use Rattle.bsv_vtext.specs.declared.tree.Target.{Target}
 use Rattle.bsv_vtext.specs.declared.tree.Target.TheVariants as target
 use Rattle.bsv_vtext.specs.declared.tree.VOperator.{VOperator}
 use Rattle.bsv_vtext.specs.declared.tree.VOperator.TheVariants as operator
-use Rattle.bsv_vtext.specs.Signals.{Contents, arguments_of}
+use Rattle.bsv_vtext.specs.Signals.{VModuleData, arguments_of}
 
 -- a word has 1 to 128 bits
 abbrev pub width_fits : ℕ → Bool
@@ -22,7 +22,7 @@ enable_width None = None
 enable_width (Some m) = if m.action then Some 1 else None
 
 -- the width of an atom, where there is what it names
-abbrev pub atom_width : Contents → Atom → Option ℕ
+abbrev pub atom_width : VModuleData → Atom → Option ℕ
 atom_width c (atom.Enable m) = enable_width (slice_get c.methods m)
 atom_width c (atom.Argument m k) = option_map (λ a. a.width) (slice_get (arguments_of (slice_get c.methods m)) k)
 atom_width c (atom.Register k) = option_map (λ r. r.start.width) (slice_get c.registers k)
@@ -30,7 +30,7 @@ atom_width c (atom.Wire k) = option_map (λ w. w.width) (slice_get c.wires k)
 atom_width c (atom.Constant w) = Some w.width
 
 -- the width of a target, where there is such a wire or output
-abbrev pub target_width : Contents → Target → Option ℕ
+abbrev pub target_width : VModuleData → Target → Option ℕ
 target_width c (target.Wire k) = option_map (λ w. w.width) (slice_get c.wires k)
 target_width c (target.Ready m) = option_map (λ _. 1) (slice_get c.methods m)
 target_width c (target.Result m) = option_and_then (λ m. m.result) (slice_get c.methods m)
@@ -60,7 +60,7 @@ sort_of operator.UpTo = Comparing
 sort_of operator.Shl = Shifting
 sort_of operator.Shr = Shifting
 
--- an atom of so many bits may stand here
+-- an atom of so many bits may be here
 module _ (Stands : Atom → ℕ → Type 0) where
   abbrev pub FitsTwo : Sort → Atom → Atom → ℕ → Type 0
   FitsTwo Even a b width = Stands a width × Stands b width

@@ -4,7 +4,7 @@
 //! which it is known that its names are apart and its widths belong together), `pieces` (texts that are
 //! added piece by piece), `names` (the names of signals), `ports` (the header and the declarations), `sides`
 //! (the assignments), `blocks` (the registers at the start and at the edge), `whole` (all of it), `laws` (a
-//! text tells its module). What holds of a module stands in `specs/Modules.antt`, its text in
+//! text tells its module). What holds of a module is in `specs/Modules.antt`, its text in
 //! `specs/VText.antt`, and what it means in `specs/VClock.antt`.
 #![tactic(auto)]
 

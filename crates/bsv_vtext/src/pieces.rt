@@ -7,7 +7,7 @@ ghost use Rattle.bsv_vtext.specs.VText as spec;
 use bsv_io::{Failed, PutBuffer, Sink};
 use itoa::Buffer;
 
-/// Three texts that stand one behind the other.
+/// Three texts that stand one after the other.
 #[derive(Clone, Copy)]
 pub(crate) struct Texts<'a> {
     pub front: &'a [u8],
@@ -15,7 +15,7 @@ pub(crate) struct Texts<'a> {
     pub back: &'a [u8],
 }
 
-/// Adds texts one behind the other.
+/// Adds texts one after the other.
 pub(crate) fn add_all<S: Sink>(
     buffer: &mut PutBuffer,
     sink: &mut S,

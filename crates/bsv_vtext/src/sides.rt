@@ -31,7 +31,7 @@ fn operator_text(operator: VOperator) -> &'static [u8]
 }
 
 /// Adds a text and an atom.
-fn add_behind<S: Sink>(
+fn add_after<S: Sink>(
     buffer: &mut PutBuffer,
     sink: &mut S,
     scope: Scope,
@@ -45,7 +45,7 @@ fn add_behind<S: Sink>(
     add_atom(buffer, sink, scope, atom)
 }
 
-/// Adds two atoms, with texts before, between and behind them.
+/// Adds two atoms, with texts before, between and after them.
 fn add_two<S: Sink>(
     buffer: &mut PutBuffer,
     sink: &mut S,
@@ -144,7 +144,7 @@ fn add_pick<S: Sink>(
     add_two(buffer, sink, scope, texts, first, second)
 }
 
-/// Adds atoms, each behind a comma.
+/// Adds atoms, each after a comma.
 fn add_others<S: Sink>(
     buffer: &mut PutBuffer,
     sink: &mut S,
@@ -156,13 +156,13 @@ fn add_others<S: Sink>(
 {
     let mut left = parts;
     while let Some((part, others)) = left.split_first() {
-        add_behind(buffer, sink, scope, b", ", *part)?;
+        add_after(buffer, sink, scope, b", ", *part)?;
         left = others;
     }
     Ok(())
 }
 
-/// Adds an atom, and others behind commas.
+/// Adds an atom, and others after commas.
 fn add_some<S: Sink>(
     buffer: &mut PutBuffer,
     sink: &mut S,
@@ -253,7 +253,7 @@ fn add_side<S: Sink>(
 {
     match side {
         Side::Is(a) => add_atom(buffer, sink, scope, *a),
-        Side::Not(a) => add_behind(buffer, sink, scope, b"~", *a),
+        Side::Not(a) => add_after(buffer, sink, scope, b"~", *a),
         Side::Two(operator, a, b) => add_operation(buffer, sink, scope, *operator, *a, *b),
         Side::LessSigned(a, b) => add_signed(buffer, sink, scope, b") < $signed(", *a, *b),
         Side::UpToSigned(a, b) => add_signed(buffer, sink, scope, b") <= $signed(", *a, *b),

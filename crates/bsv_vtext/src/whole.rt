@@ -3,7 +3,7 @@ ghost use Rattle.std.specs.List.{flat_map};
 ghost use Rattle.bsv_io.specs.Adding.{Adds};
 ghost use Rattle.bsv_io.specs.Faults.{MayFault};
 ghost use Rattle.bsv_io.specs.Writing.{appended, AppendsPrefix};
-ghost use Rattle.bsv_vtext.specs.AtHand.{contents};
+ghost use Rattle.bsv_vtext.specs.AtHand.{module_data};
 ghost use Rattle.bsv_vtext.specs.AtHand as hand;
 ghost use Rattle.bsv_vtext.specs.Signals.{ports, scope};
 ghost use Rattle.bsv_vtext.specs.VText.{vtext};
@@ -18,7 +18,7 @@ use bsv_io::{Failed, PutBuffer, Sink, add};
 
 /// What the text of a module names.
 fn scope_of(verilog: &VModule) -> Scope<'_>
-    ensures { hand.scope result ≡ scope (contents verilog.now) }
+    ensures { hand.scope result ≡ scope (module_data verilog.now) }
 {
     Scope {
         methods: verilog.methods.as_slice(),
@@ -57,7 +57,7 @@ fn add_equations<S: Sink>(
     sink: &mut S,
     verilog: &VModule,
 ) -> Result<(), Failed>
-    ensures { Adds (flat_map (spec.assign_line (scope (contents verilog.now)))
+    ensures { Adds (flat_map (spec.assign_line (scope (module_data verilog.now)))
         verilog.now.assigns)
         result buffer.old buffer.new (S.writing sink.old) (S.writing sink.new) }
 {
@@ -70,7 +70,7 @@ fn add_clocked<S: Sink>(
     sink: &mut S,
     verilog: &VModule,
 ) -> Result<(), Failed>
-    ensures { Adds (spec.blocks (scope (contents verilog.now)) verilog.now.registers
+    ensures { Adds (spec.blocks (scope (module_data verilog.now)) verilog.now.registers
         verilog.now.nexts)
         result buffer.old buffer.new (S.writing sink.old) (S.writing sink.new) }
 {
@@ -91,7 +91,7 @@ fn add_module<S: Sink>(
     sink: &mut S,
     verilog: &VModule,
 ) -> Result<(), Failed>
-    ensures { Adds (vtext (contents verilog.now)) result buffer.old buffer.new
+    ensures { Adds (vtext (module_data verilog.now)) result buffer.old buffer.new
         (S.writing sink.old) (S.writing sink.new) }
 {
     add_front(buffer, sink, verilog)?;
@@ -103,9 +103,9 @@ fn add_module<S: Sink>(
 
 /// Puts the text of a module. It takes no memory.
 pub fn write<S: Sink>(verilog: &VModule, sink: &mut S) -> Result<(), Failed>
-    ensures ok { OnOk result (S.writing sink.new ≡ appended (vtext (contents verilog.now))
+    ensures ok { OnOk result (S.writing sink.new ≡ appended (vtext (module_data verilog.now))
         (S.writing sink.old)) }
-    ensures prefix { AppendsPrefix (vtext (contents verilog.now)) (S.writing sink.old)
+    ensures prefix { AppendsPrefix (vtext (module_data verilog.now)) (S.writing sink.old)
         (S.writing sink.new) }
     ensures count { (S.writing sink.old).faults ≤ (S.writing sink.new).faults }
     ensures counted { OnErr result (MayFault (S.writing sink.old).faults

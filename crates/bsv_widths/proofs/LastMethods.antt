@@ -2,7 +2,7 @@
 use Rattle.std.proofs.Common.{◌≡◌, ℕ, zero, suc, ◌-◌, ◌<◌, ◌≤◌, true, false, refl, sym, arith}
 use Rattle.bsv_design.specs.declared.kind.Kind.{Kind}
 use Rattle.bsv_design.specs.declared.kind.Kind.TheVariants.{Reg, RegU, Wire, DWire, RWire, Pulse, Plain, Pipeline, Bypass}
-use Rattle.bsv_design.specs.Kinds.{kind_table}
+use Rattle.bsv_design.specs.tree.Kinds.{kind_table}
 use Rattle.bsv_fifo.specs.Queues.{changes, queue_method}
 use Rattle.bsv_prim.specs.Registers.{read_or_write}
 use Rattle.bsv_prim.specs.WireTables.{write_or_read}
@@ -34,7 +34,7 @@ queue_last (suc (suc (suc zero))) h = absurd (omega arith)
 queue_last (suc (suc (suc (suc zero)))) h = absurd (omega arith)
 queue_last (suc (suc (suc (suc (suc m))))) h = refl
 
--- a number behind the last method stands for the last one
+-- a number after the last method stands for the last one
 pub last_stands : (k : Kind) (m : ℕ) → (kind_table k).methods ≤ m → (kind_table k).is_action ((kind_table k).methods - 1) ≡ (kind_table k).is_action m
 last_stands (Reg k) m h = sym (register_last m h)
 last_stands (RegU k) m h = sym (register_last m h)

@@ -2,7 +2,7 @@
 use Rattle.std.proofs.Common.{◌≡◌, ℕ, Bool, true, false, ◌&&◌, refl, Some}
 use Rattle.std.proofs.lemmas.Bool.{le-leb, lt-ltb}
 use Rattle.bsv_bits.specs.Words.{Bits, IsWord}
-use Rattle.bsv_design.specs.Widths.{if_width, word_width}
+use Rattle.bsv_design.specs.design.Widths.{if_width, word_width}
 
 holds : (a b c : Bool) (w : ℕ) → a ≡ true → b ≡ true → c ≡ true → Some w ≡ if_width (a && b && c) w
 holds true true true w h i j = refl

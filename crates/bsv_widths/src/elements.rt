@@ -1,9 +1,9 @@
 ghost use Rattle.std.specs.Prelude.{◌≡◌, ◌↔◌, IfOk, IsTrue, true, map};
 ghost use Rattle.std.specs.List.{list_all};
 ghost use Rattle.bsv_types.specs.Names.{countable};
-ghost use Rattle.bsv_design.specs.Designs.{HasWidths};
+ghost use Rattle.bsv_design.specs.design.Designs.{HasWidths};
 ghost use Rattle.bsv_design.specs.declared.element.Role.TheVariants as role;
-ghost use Rattle.bsv_design.specs.Widths as spec;
+ghost use Rattle.bsv_design.specs.design.Widths as spec;
 ghost use Rattle.bsv_widths.specs.Fitting as fitting;
 
 use crate::calls::{calls_fit, none_acts};
@@ -67,7 +67,7 @@ fn result_fits(widths: &[u32], gives: bool, node: Option<u32>) -> bool
     }
 }
 
-/// Whether what stands beside nodes of these widths has those that it needs.
+/// Whether what is beside nodes of these widths has those that it needs.
 fn fits(parts: &[NamedPart], element: &Element, widths: &[u32]) -> bool
     ensures { result ≡ fitting.fits (map (λ p. p.kind) parts.now) element.now widths.now }
 {
@@ -77,7 +77,7 @@ fn fits(parts: &[NamedPart], element: &Element, widths: &[u32]) -> bool
         && ports_fit(element.arguments.as_slice())
 }
 
-/// Whether the nodes have widths, and what stands beside them has those that it needs.
+/// Whether the nodes have widths, and what is beside them has those that it needs.
 #[tactic(auto, using(crate::proofs::Fitting::when_found, crate::proofs::Fitting::when_none))]
 pub fn has_widths(
     alloc: Global,

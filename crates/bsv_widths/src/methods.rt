@@ -1,6 +1,6 @@
 ghost use Rattle.std.specs.Prelude.{◌≡◌};
 ghost use Rattle.bsv_fifo.specs.Queues.{queue_method, queue_result_width};
-ghost use Rattle.bsv_design.specs.Kinds.{kind_table};
+ghost use Rattle.bsv_design.specs.tree.Kinds.{kind_table};
 
 use bsv_design::Kind;
 use bsv_prim::Primitive;
@@ -29,7 +29,7 @@ pub(crate) fn answer_width(kind: &Kind, method: u32) -> u32
     }
 }
 
-/// Whether a method acts. A number behind the last method stands for the last one.
+/// Whether a method acts. A number after the last method stands for the last one.
 #[tactic(auto, using(crate::proofs::LastMethods::some_methods, crate::proofs::LastMethods::last_stands))]
 pub(crate) fn acts(kind: &Kind, method: u32) -> bool
     ensures { result ≡ (kind_table kind.now).is_action method }

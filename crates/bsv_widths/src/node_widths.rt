@@ -1,5 +1,5 @@
 ghost use Rattle.std.specs.Prelude.{◌≡◌, [], IfOk, map, option_map, slice_get};
-ghost use Rattle.bsv_design.specs.Widths as spec;
+ghost use Rattle.bsv_design.specs.design.Widths as spec;
 
 use crate::calls::result_width;
 use crate::operators::{
@@ -20,7 +20,7 @@ fn argument_width(ports: &[Port], place: u32) -> Option<u32>
     }
 }
 
-/// The width of a node behind nodes of these widths.
+/// The width of a node after nodes of these widths.
 fn node_width(
     ports: &[Port],
     parts: &[NamedPart],
@@ -52,7 +52,7 @@ fn node_width(
 }
 
 /// The widths of all nodes, where each has one.
-#[tactic(auto, unfolding(bsv_design::specs::Widths::widths_from))]
+#[tactic(auto, unfolding(bsv_design::specs::design::Widths::widths_from))]
 pub fn widths(
     alloc: Global,
     ports: &[Port],

@@ -1,6 +1,6 @@
 ghost use Rattle.std.specs.Prelude.{◌≡◌, slice_get};
 ghost use Rattle.bsv_bits.specs.Operators as operators;
-ghost use Rattle.bsv_design.specs.Widths as spec;
+ghost use Rattle.bsv_design.specs.design.Widths as spec;
 
 use bsv_bits::{Operator, Word};
 

@@ -1,4 +1,4 @@
-//! The program: it hands the words behind its name, the real files and the real outputs to the
+//! The program: it hands the words after its name, the real files and the real outputs to the
 //! top call, and ends with the exit status that this answers.
 //!
 //! The top call has a thread of its own, since its stack may have to be larger than that of a
@@ -22,7 +22,7 @@ const NO_WORDS: u8 = 9;
 /// which may be 64 deep each.
 const STACK: usize = 512 * 1024 * 1024;
 
-/// The words behind the program's name.
+/// The words after the program's name.
 fn words_of(rt: &HostRuntime) -> io::Result<Vec<String>> {
     let words = std::env::args(rt)?.skip(1).collect(rt.alloc())?;
     Ok(words)

@@ -7,9 +7,9 @@ use Rattle.bsv_design.specs.declared.values.Local.{Local}
 use Rattle.bsv_design.specs.declared.values.Pending.{Pending}
 use Rattle.bsv_design.specs.declared.values.Value.{Value}
 use Rattle.bsv_design.specs.declared.values.Work.{Work}
-use Rattle.bsv_design.specs.Arms as arms
-use Rattle.bsv_design.specs.Working.{at_count}
-use Rattle.bsv_design.specs.Carrying as carrying
+use Rattle.bsv_design.specs.carrying.Arms as arms
+use Rattle.bsv_design.specs.carrying.Working.{at_count}
+use Rattle.bsv_design.specs.carrying.Carrying as carrying
 use Rattle.bsv_carry.proofs.StaysAccepted.SideBySide.{Into, into_then, into_if, raised, heavier, at_raised, both_raised, at_heavier, fresh_over, give_over}
 
 module _ (d : ℕ) where
@@ -29,7 +29,7 @@ module _ (d : ℕ) where
 
   pub value_choice_over : (w : Work) (behind : List Arm) (r : Value × Work)
       → Into (at_heavier d) (carrying.value_choice (heavier d w) behind (at_heavier d r)) (carrying.value_choice w behind r)
-  value_choice_over w behind r = give_over d (at_count w (carrying.behind_arm w.count r.1.count)) _
+  value_choice_over w behind r = give_over d (at_count w (carrying.after_arm w.count r.1.count)) _
 
   pub parameters_over : (xs : List Value) (ps : List Param) (c : Count)
       → Into (at_raised d) (carrying.parameters_from xs ps (raised d c)) (carrying.parameters_from xs ps c)

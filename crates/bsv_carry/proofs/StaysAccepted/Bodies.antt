@@ -14,11 +14,11 @@ use Rattle.bsv_design.specs.declared.values.Count.{Count}
 use Rattle.bsv_design.specs.declared.values.Local.{Local}
 use Rattle.bsv_design.specs.declared.values.Value.{Value}
 use Rattle.bsv_design.specs.declared.values.Work.{Work}
-use Rattle.bsv_design.specs.Calls.{Site, Callee, Caller}
-use Rattle.bsv_design.specs.Frames.{no_variables}
-use Rattle.bsv_design.specs.Values.{is_true}
-use Rattle.bsv_design.specs.Working.{no_steps, at_count}
-use Rattle.bsv_design.specs.Carrying as carrying
+use Rattle.bsv_design.specs.carrying.Calls.{Context, Callee, Caller}
+use Rattle.bsv_design.specs.carrying.Frames.{no_variables}
+use Rattle.bsv_design.specs.carrying.Values.{is_true}
+use Rattle.bsv_design.specs.carrying.Working.{no_steps, at_count}
+use Rattle.bsv_design.specs.carrying.Carrying as carrying
 use Rattle.bsv_carry.proofs.StaysAccepted.SideBySide.{Into, into_then, into_if, raised, heavier, at_heavier}
 use Rattle.bsv_carry.proofs.StaysAccepted.Arms.{parameters_over}
 use Rattle.bsv_carry.specs.StaysAccepted.{Grows, over}
@@ -31,8 +31,8 @@ heavier_by : (d : ℕ) (b : Bool) (x y : Work) → (if b then heavier d x else h
 heavier_by d true x y = refl
 heavier_by d false x y = refl
 
-module _ (d : ℕ) (is : List Instance) (call next : Caller) (s : Site) (grows : Grows s.instances is) (into : CallsInto d is call next) where
-  abbrev t : Site
+module _ (d : ℕ) (is : List Instance) (call next : Caller) (s : Context) (grows : Grows s.instances is) (into : CallsInto d is call next) where
+  abbrev t : Context
   t = over s is
 
   asking_into : (name : Option MethodPlace) (e : Option Expr) (w : Work)
@@ -84,13 +84,13 @@ unfolding carrying.call_at
 calls_into d is zero s grows c xs w = record { seen = tt }
 calls_into d is (suc n) s grows c xs w = called_into d is (carrying.call_at n) (carrying.call_at n) s grows (calls_into d is n) c xs w
 
-pub rule_into : (d : ℕ) (is : List Instance) (s : Site) → Grows s.instances is → (c : Option Expr) (ss : List Stmt) (w : Work)
+pub rule_into : (d : ℕ) (is : List Instance) (s : Context) → Grows s.instances is → (c : Option Expr) (ss : List Stmt) (w : Work)
     → Into (heavier d) (carrying.rule s c ss (heavier d w)) (carrying.rule (over s is) c ss w)
 unfolding carrying.rule
 rule_into d is s grows c ss w =
     body_into d is (carrying.call_at carrying.most_calls) (carrying.call_at carrying.most_calls) s grows (calls_into d is carrying.most_calls) c ss w
 
-pub top_method_into : (d : ℕ) (is : List Instance) (s : Site) → Grows s.instances is → (m : Method) (weight : ℕ)
+pub top_method_into : (d : ℕ) (is : List Instance) (s : Context) → Grows s.instances is → (m : Method) (weight : ℕ)
     → Into (at_heavier d) (carrying.top_method s m (weight + d)) (carrying.top_method (over s is) m weight)
 unfolding carrying.top_method
 top_method_into d is s grows m weight =

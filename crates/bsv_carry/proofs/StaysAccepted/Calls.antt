@@ -16,12 +16,12 @@ use Rattle.bsv_design.specs.declared.values.Count.{Count}
 use Rattle.bsv_design.specs.declared.values.Local.{Local}
 use Rattle.bsv_design.specs.declared.values.Value.{Value}
 use Rattle.bsv_design.specs.declared.values.Work.{Work}
-use Rattle.bsv_design.specs.Calls as calls
-use Rattle.bsv_design.specs.Calls.{Site, Caller, made_of, part_method, static_fault}
-use Rattle.bsv_design.specs.Working.{at_count}
-use Rattle.bsv_design.specs.Operated as operated
-use Rattle.bsv_design.specs.Carrying as carrying
-use Rattle.bsv_design.specs.Carrying.{Carried, Placing, first_type}
+use Rattle.bsv_design.specs.carrying.Calls as calls
+use Rattle.bsv_design.specs.carrying.Calls.{Context, Caller, made_of, part_method, static_fault}
+use Rattle.bsv_design.specs.carrying.Working.{at_count}
+use Rattle.bsv_design.specs.carrying.Operated as operated
+use Rattle.bsv_design.specs.carrying.Carrying as carrying
+use Rattle.bsv_design.specs.carrying.Carrying.{Carried, Placing, first_type}
 use Rattle.bsv_carry.proofs.StaysAccepted.SideBySide.{Into, into_then, into_same, raised, heavier, both_heavier, at_heavier, counted_over, give_over}
 use Rattle.bsv_carry.proofs.StaysAccepted.Operators.{applied_over}
 use Rattle.bsv_carry.specs.StaysAccepted.{Stays, Grows, over}
@@ -31,7 +31,7 @@ use Rattle.bsv_carry.proofs.StaysAccepted.Instances.{CarryInto, PlacingInto, Eac
 not_there : (m : ℕ) (levels : List ℕ) → levels ≡ [] → slice_get levels m ≡ None
 not_there m levels e = subst (λ (x : List ℕ). slice_get x m ≡ None) (sym e) refl
 
-module _ (call : Caller) (s : Site) where
+module _ (call : Caller) (s : Context) where
   no_method_at : (instance : ℕ) (b : Built) (number : ℕ) (m : Option Method) (levels : Option ℕ) → levels ≡ None → (xs : List Value) (w : Work)
       → Refused (calls.method_at call s instance b number m levels xs w)
   no_method_at instance b number None levels e xs w = tt
@@ -51,8 +51,8 @@ module _ (call : Caller) (s : Site) where
       refused_then (carrying.all cs vs w) _ (λ r. refused_first (calls.method_in call s instance b number (slice_get s.modules b.«module») r.0 r.1) _
       (no_method_in instance b number (slice_get s.modules b.«module») e r.0 r.1))
 
-module _ (d : ℕ) (is : List Instance) (call next : Caller) (s : Site) (grows : Grows s.instances is) (into : CallsInto d is call next) where
-  abbrev t : Site
+module _ (d : ℕ) (is : List Instance) (call next : Caller) (s : Context) (grows : Grows s.instances is) (into : CallsInto d is call next) where
+  abbrev t : Context
   t = over s is
 
   function_into : (o : Option Function) (xs : List Value) (w : Work)

@@ -12,12 +12,12 @@ use Rattle.bsv_design.specs.declared.values.Pending.{Pending}
 use Rattle.bsv_design.specs.declared.values.Value.{Value}
 use Rattle.bsv_design.specs.declared.values.Value.TheVariants as value
 use Rattle.bsv_design.specs.declared.values.Work.{Work}
-use Rattle.bsv_design.specs.Calls.{Site, Caller, static_fault, place_in_body}
-use Rattle.bsv_design.specs.Frames.{untouched}
-use Rattle.bsv_design.specs.Values.{is_static, is_true}
-use Rattle.bsv_design.specs.Working.{no_steps, at_count}
-use Rattle.bsv_design.specs.Carrying as carrying
-use Rattle.bsv_design.specs.Carrying.{Carry, Acts, Labelled}
+use Rattle.bsv_design.specs.carrying.Calls.{Context, Caller, static_fault, place_in_body}
+use Rattle.bsv_design.specs.carrying.Frames.{untouched}
+use Rattle.bsv_design.specs.carrying.Values.{is_static, is_true}
+use Rattle.bsv_design.specs.carrying.Working.{no_steps, at_count}
+use Rattle.bsv_design.specs.carrying.Carrying as carrying
+use Rattle.bsv_design.specs.carrying.Carrying.{Carry, Acts, Labelled}
 use Rattle.bsv_carry.proofs.StaysAccepted.SideBySide.{Into, into_then, into_if, raised, heavier, at_raised, at_heavier, both_heavier, between_over}
 use Rattle.bsv_carry.proofs.StaysAccepted.Operators.{two_over}
 use Rattle.bsv_carry.proofs.StaysAccepted.Arms.{close_over}
@@ -36,8 +36,8 @@ module _ (d : ℕ) where
   either_into None x w = record { seen = refl }
   either_into (Some y) x w = between_over d w _ y x
 
-module _ (d : ℕ) (is : List Instance) (call next : Caller) (s : Site) where
-  abbrev t : Site
+module _ (d : ℕ) (is : List Instance) (call next : Caller) (s : Context) where
+  abbrev t : Context
   t = over s is
 
   -- ---- loops

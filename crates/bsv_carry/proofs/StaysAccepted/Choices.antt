@@ -9,11 +9,11 @@ use Rattle.bsv_design.specs.declared.values.Fault.{Fault}
 use Rattle.bsv_design.specs.declared.values.Local.{Local}
 use Rattle.bsv_design.specs.declared.values.Value.{Value}
 use Rattle.bsv_design.specs.declared.values.Work.{Work}
-use Rattle.bsv_design.specs.Calls.{Site, Caller, placed, placed_at, static_fault}
-use Rattle.bsv_design.specs.Values.{is_static, is_true}
-use Rattle.bsv_design.specs.Working.{no_steps, at_count}
-use Rattle.bsv_design.specs.Carrying as carrying
-use Rattle.bsv_design.specs.Carrying.{Carried}
+use Rattle.bsv_design.specs.carrying.Calls.{Context, Caller, placed, placed_at, static_fault}
+use Rattle.bsv_design.specs.carrying.Values.{is_static, is_true}
+use Rattle.bsv_design.specs.carrying.Working.{no_steps, at_count}
+use Rattle.bsv_design.specs.carrying.Carrying as carrying
+use Rattle.bsv_design.specs.carrying.Carrying.{Carried}
 use Rattle.bsv_carry.proofs.StaysAccepted.SideBySide.{Into, into_then, into_if, into_same, raised, heavier, at_raised, at_heavier, tick_over}
 use Rattle.bsv_carry.proofs.StaysAccepted.Arms.{value_choice_over}
 use Rattle.bsv_carry.specs.StaysAccepted.{over}
@@ -54,7 +54,7 @@ module _ (d : ℕ) where
   choice_from_into f w arms (t ∷ ts) (u ∷ us) [] (y ∷ ys) h k vs c = absurd k
   choice_from_into f w arms (t ∷ ts) (u ∷ us) (x ∷ xs) [] h k vs c = absurd k
 
-module _ (d : ℕ) (is : List Instance) (call next : Caller) (s : Site) where
+module _ (d : ℕ) (is : List Instance) (call next : Caller) (s : Context) where
   pub choice_into : (ts us xs ys : List Carried) → EachCarried d ts us → EachCarried d xs ys
       → CarryInto d (carrying.choice call s ts xs) (carrying.choice next (over s is) us ys)
   unfolding carrying.choice

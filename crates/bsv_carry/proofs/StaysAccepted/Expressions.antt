@@ -5,9 +5,9 @@ use Rattle.bsv_types.specs.declared.expressions.Expr.TheOpen.{Expr-F, Place-F}
 use Rattle.bsv_types.specs.declared.expressions.Place.{Place, roll-Place, ind-Place, map-Place, fold-roll-Place}
 use Rattle.bsv_types.specs.Kinds.{kind}
 use Rattle.bsv_design.specs.declared.tree.Instance.{Instance}
-use Rattle.bsv_design.specs.Calls.{Site, Caller, static_fault}
-use Rattle.bsv_design.specs.Carrying as carrying
-use Rattle.bsv_design.specs.Carrying.{Carried, Placing, expression, place}
+use Rattle.bsv_design.specs.carrying.Calls.{Context, Caller, static_fault}
+use Rattle.bsv_design.specs.carrying.Carrying as carrying
+use Rattle.bsv_design.specs.carrying.Carrying.{Carried, Placing, expression, place}
 use Rattle.bsv_carry.proofs.StaysAccepted.SideBySide.{into_then, counted_over}
 use Rattle.bsv_carry.proofs.StaysAccepted.Operators.{literal_over}
 use Rattle.bsv_carry.specs.StaysAccepted.{Grows, over}
@@ -15,8 +15,8 @@ use Rattle.bsv_carry.proofs.StaysAccepted.Instances.{CarriedInto, PlacingInto, E
 use Rattle.bsv_carry.proofs.StaysAccepted.Calls.{method_into, apply_into, call_into, variable_into}
 use Rattle.bsv_carry.proofs.StaysAccepted.Choices.{choice_into, as_static_into, place_into}
 
-module _ (d : ℕ) (is : List Instance) (call next : Caller) (s : Site) (grows : Grows s.instances is) (into : CallsInto d is call next) where
-  abbrev t : Site
+module _ (d : ℕ) (is : List Instance) (call next : Caller) (s : Context) (grows : Grows s.instances is) (into : CallsInto d is call next) where
+  abbrev t : Context
   t = over s is
 
   abbrev ExprInto : Expr → Type 0

@@ -11,8 +11,8 @@ use Rattle.bsv_design.specs.declared.values.Fault.{Fault}
 use Rattle.bsv_design.specs.declared.values.Local.{Local}
 use Rattle.bsv_design.specs.declared.values.Value.{Value}
 use Rattle.bsv_design.specs.declared.values.Work.{Work}
-use Rattle.bsv_design.specs.Calls.{Site, Callee, Caller}
-use Rattle.bsv_design.specs.Carrying.{Carry, Carried, Placing, Acts, Branched, Labelled, all_from, all, first_type}
+use Rattle.bsv_design.specs.carrying.Calls.{Context, Callee, Caller}
+use Rattle.bsv_design.specs.carrying.Carrying.{Carry, Carried, Placing, Acts, Branched, Labelled, all_from, all, first_type}
 use Rattle.bsv_carry.specs.StaysAccepted.{Stays, Grows, over}
 use Rattle.bsv_carry.proofs.StaysAccepted.SideBySide.{Into, into_then, raised, heavier, at_raised, at_heavier, both_heavier}
 
@@ -84,7 +84,7 @@ module _ (d : ℕ) where
   -- a call gives the same over later instances, and from less weight
   abbrev pub CallsInto : List Instance → Caller → Caller → Type 0
   CallsInto is call next =
-      (s : Site) → Grows s.instances is → (c : Callee) (xs : List Value) (w : Work) → Into (at_heavier d) (call s c xs (heavier d w))
+      (s : Context) → Grows s.instances is → (c : Callee) (xs : List Value) (w : Work) → Into (at_heavier d) (call s c xs (heavier d w))
       (next (over s is) c xs w)
 
   -- ---- the values of operands

@@ -13,10 +13,10 @@ use Rattle.bsv_design.specs.declared.values.Value.{Value}
 use Rattle.bsv_design.specs.declared.values.Value.TheVariants as value
 use Rattle.bsv_design.specs.declared.values.Work.{Work}
 use Rattle.bsv_design.specs.declared.values.Fault.{Fault}
-use Rattle.bsv_design.specs.Integers.{number_between, fitted}
-use Rattle.bsv_design.specs.Applied as applied
-use Rattle.bsv_design.specs.Operated as operated
-use Rattle.bsv_design.specs.Carrying as carrying
+use Rattle.bsv_design.specs.carrying.Integers.{number_between, fitted}
+use Rattle.bsv_design.specs.carrying.Applied as applied
+use Rattle.bsv_design.specs.carrying.Operated as operated
+use Rattle.bsv_design.specs.carrying.Carrying as carrying
 use Rattle.bsv_carry.proofs.StaysAccepted.SideBySide.{Into, into_then, into_if, into_same, heavier, at_heavier, inverted_over, between_over, picked_over, sliced_over, joined_over, extended_over, sign_extended_over}
 
 module _ (d : ℕ) where

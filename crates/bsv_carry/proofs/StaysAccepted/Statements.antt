@@ -5,9 +5,9 @@ use Rattle.bsv_types.specs.declared.statements.CaseArm.{CaseArm, roll-CaseArm, m
 use Rattle.bsv_types.specs.declared.statements.Stmt.{Stmt, roll-Stmt, ind-Stmt, map-Stmt, fold-roll-Stmt}
 use Rattle.bsv_types.specs.declared.statements.Stmt.TheOpen.{Stmt-F, Branch-F, CaseArm-F}
 use Rattle.bsv_design.specs.declared.tree.Instance.{Instance}
-use Rattle.bsv_design.specs.Calls.{Site, Caller}
-use Rattle.bsv_design.specs.Carrying as carrying
-use Rattle.bsv_design.specs.Carrying.{Acts, Branched, Labelled, place, stmt, branch, case_arm}
+use Rattle.bsv_design.specs.carrying.Calls.{Context, Caller}
+use Rattle.bsv_design.specs.carrying.Carrying as carrying
+use Rattle.bsv_design.specs.carrying.Carrying.{Acts, Branched, Labelled, place, stmt, branch, case_arm}
 use Rattle.bsv_carry.proofs.StaysAccepted.SideBySide.{into_then, counted_over}
 use Rattle.bsv_carry.specs.StaysAccepted.{Grows, over}
 use Rattle.bsv_carry.proofs.StaysAccepted.Instances.{ActsInto, BranchedInto, LabelledInto, EachActs, EachBranched, EachLabelled, CallsInto}
@@ -16,8 +16,8 @@ use Rattle.bsv_carry.proofs.StaysAccepted.Expressions.{expr_into, place_in, expr
 use Rattle.bsv_carry.proofs.StaysAccepted.Branches.{run_into, inside_into, nothing_into, chain_into, asked_into}
 use Rattle.bsv_carry.proofs.StaysAccepted.Cases.{cases_into, loop_into}
 
-module _ (d : ℕ) (is : List Instance) (call next : Caller) (s : Site) (grows : Grows s.instances is) (into : CallsInto d is call next) where
-  abbrev t : Site
+module _ (d : ℕ) (is : List Instance) (call next : Caller) (s : Context) (grows : Grows s.instances is) (into : CallsInto d is call next) where
+  abbrev t : Context
   t = over s is
 
   abbrev StmtInto : Stmt → Type 0

@@ -37,7 +37,7 @@ pub record BodyWent (here : Here) (g : Grown) (d : Done) : Type 0 where
 abbrev pub BodiesGo : Bodies → Type 0
 BodiesGo bodies = (here : Here) (bs : List Binding) (g : Grown) → Gives (BodyWent here g) (bodies here bs g)
 
--- ---- what stands before, the module that is built, and what is inside it
+-- ---- what comes before, the module that is built, and what is inside it
 
 pub record Placed (here : Here) (xs : List Instance) (number : ℕ) (path : List ℕ) (d : Done) : Type 0 where
   pub more : List Instance

@@ -12,9 +12,9 @@ use Rattle.bsv_design.specs.declared.tree.BuiltRule.{BuiltRule}
 use Rattle.bsv_design.specs.declared.tree.Instance.{Instance}
 use Rattle.bsv_design.specs.declared.tree.Made.{Made}
 use Rattle.bsv_design.specs.declared.tree.Made.TheVariants as made
-use Rattle.bsv_design.specs.Calls.{Site, made_of}
-use Rattle.bsv_design.specs.Carrying as carrying
-use Rattle.bsv_design.specs.Trees.{IsAccepted}
+use Rattle.bsv_design.specs.carrying.Calls.{Context, made_of}
+use Rattle.bsv_design.specs.carrying.Carrying as carrying
+use Rattle.bsv_design.specs.tree.Trees.{IsAccepted}
 use Rattle.bsv_carry.specs.StaysAccepted.{Grows, weighing}
 use Rattle.bsv_carry.proofs.StaysAccepted.{stays_accepted, grows_same}
 use Rattle.bsv_elab.specs.Statics.{Here, put_at}
@@ -43,7 +43,7 @@ put_is xs more l u i n number is =
 
 -- ---- accepted
 
-abbrev pub site_at : Here → List Instance → ℕ → List Binding → Site
+abbrev pub site_at : Here → List Instance → ℕ → List Binding → Context
 site_at here is number bs = record {
   shapes = here.shapes;
   functions = here.functions;

@@ -12,9 +12,9 @@ use Rattle.bsv_design.specs.declared.tree.BuiltRule.{BuiltRule}
 use Rattle.bsv_design.specs.declared.tree.Instance.{Instance}
 use Rattle.bsv_design.specs.declared.tree.Made.{Made}
 use Rattle.bsv_design.specs.declared.tree.Made.TheVariants as made
-use Rattle.bsv_design.specs.Carrying as carrying
-use Rattle.bsv_design.specs.Trees as trees
-use Rattle.bsv_design.specs.Trees.{Hierarchy, IsAccepted, IsModuleAt, IsTop, RuleIsAccepted, MethodIsAccepted}
+use Rattle.bsv_design.specs.carrying.Carrying as carrying
+use Rattle.bsv_design.specs.tree.Trees as trees
+use Rattle.bsv_design.specs.tree.Trees.{TreeData, IsAccepted, IsModuleAt, IsTop, RuleIsAccepted, MethodIsAccepted}
 use Rattle.bsv_elab.specs.declared.state.Done.{Done}
 use Rattle.bsv_elab.specs.declared.state.Grown.{Grown}
 use Rattle.bsv_elab.specs.Statics.{Here, site_in, put_at}
@@ -73,8 +73,8 @@ one_more here d first m ms one rest zero x e =
     let here_is : first ≡ first + 0 = omega arith in
     subst (λ n. MethodDone here d n x) here_is (subst (λ y. MethodDone here d first y) (same_Some m x e) one)
 one_more here d first m ms one rest (suc j) x e =
-    let behind_is : first + 1 + j ≡ first + suc j = omega arith in
-    subst (λ n. MethodDone here d n x) behind_is (rest j x e)
+    let after_is : first + 1 + j ≡ first + suc j = omega arith in
+    subst (λ n. MethodDone here d n x) after_is (rest j x e)
 
 no_more : (here : Here) (d : Done) (first : ℕ) → MethodsDone here d first []
 no_more here d first j x e = absurd cc
@@ -141,7 +141,7 @@ from_top_accepted bodies go here =
 -- ---- the tree
 
 -- carrying out the rules of a tree, and the methods of its top, meets no refusal
-pub record IsCarriedOut (h : Hierarchy) : Type 0 where
+pub record IsCarriedOut (h : TreeData) : Type 0 where
   pub built : Built
   pub top : IsTop h.typed h.top h.instances built
   pub rules : (n : ℕ) (b : Built) → IsModuleAt h.instances n b → (place : ℕ) (r : BuiltRule) → slice_get b.rules place ≡ Some r
@@ -176,7 +176,7 @@ building_gives : (t : Typed) (name : List ℕ) → Gives IsCarriedOut (building 
 unfolding building
 building_gives t name = gives_then _ (carried_gives t name) (λ r h. record { gives = h })
 
-pub trees_carried_out : (t : Typed) (name : List ℕ) (h : Hierarchy) → building t name ≡ Ok h → IsCarriedOut h
+pub trees_carried_out : (t : Typed) (name : List ℕ) (h : TreeData) → building t name ≡ Ok h → IsCarriedOut h
 trees_carried_out t name h is = given IsCarriedOut (building t name) h (building_gives t name) is
 
 -- the top of a tree is one
@@ -189,10 +189,10 @@ abbrev top_built : Built → Option Instance → Built
 top_built b None = b
 top_built b (Some i) = made_built b i.made
 
-one_top : (h : Hierarchy) (b c : Built) → IsTop h.typed h.top h.instances b → IsTop h.typed h.top h.instances c → b ≡ c
+one_top : (h : TreeData) (b c : Built) → IsTop h.typed h.top h.instances b → IsTop h.typed h.top h.instances c → b ≡ c
 one_top h b c x y = ap (top_built b) (sym x.first ∙ y.first)
 
-pub methods_carried_out : (h : Hierarchy) → IsCarriedOut h → (b : Built) → IsTop h.typed h.top h.instances b → (number levels : ℕ)
+pub methods_carried_out : (h : TreeData) → IsCarriedOut h → (b : Built) → IsTop h.typed h.top h.instances b → (number levels : ℕ)
     → slice_get b.methods number ≡ Some levels → (m : Method)
     → slice_get (trees.methods_of (slice_get h.typed.modules b.«module»)) number ≡ Some m → MethodIsAccepted h.typed h.instances b levels m
 methods_carried_out h out b top =

@@ -6,10 +6,10 @@ use Rattle.bsv_design.specs.declared.element.Role.{Role}
 use Rattle.bsv_design.specs.declared.tree.Attribute.{Attribute}
 use Rattle.bsv_design.specs.declared.tree.Attribute.TheVariants as attribute
 use Rattle.bsv_design.specs.declared.tree.Pair.{Pair}
-use Rattle.bsv_design.specs.Relations.{goes, feeds}
-use Rattle.bsv_design.specs.Roles.{is_rule, is_value}
-use Rattle.bsv_design.specs.Schemes.{Scheme, design_scheme}
-use Rattle.bsv_design.specs.Seen.{blueprint}
+use Rattle.bsv_design.specs.scheme.Relations.{goes, feeds}
+use Rattle.bsv_design.specs.tree.Roles.{is_rule, is_value}
+use Rattle.bsv_design.specs.scheme.Schemes.{Scheme, design_scheme}
+use Rattle.bsv_design.specs.tree.Seen.{design_data}
 use Rattle.bsv_graph.specs.declared.edge.Edge.{Edge}
 use Rattle.bsv_schedule.specs.relating.Relating.{Relating}
 
@@ -58,4 +58,4 @@ relating S = record {
 
 -- the same of a design
 abbrev pub design_relating : Design → Relating
-design_relating d = relating (design_scheme (blueprint d))
+design_relating d = relating (design_scheme (design_data d))

@@ -11,7 +11,7 @@ use Rattle.bsv_graph.specs.Walks.{HasEdge}
 pub record Relating : Type 0 where
   -- how many elements there are
   pub count : ℕ
-  -- a goes before b: each call of a may stand before each call of b on the same instance
+  -- a goes before b: each call of a may come before each call of b on the same instance
   pub goes : ℕ → ℕ → Bool
   -- a feeds b: a call of a is seen by a call of b in the same clock
   pub feeds : ℕ → ℕ → Bool

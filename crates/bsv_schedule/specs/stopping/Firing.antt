@@ -3,7 +3,7 @@
 -- rules; Bluespec reference guide, "Scheduling attributes").
 use Rattle.std.specs.Prelude.{◌≡◌, ℕ, Bool, true, List}
 use Rattle.bsv_design.specs.declared.schedule.Schedule.{Schedule}
-use Rattle.bsv_design.specs.Schemes.{Scheme}
+use Rattle.bsv_design.specs.scheme.Schemes.{Scheme}
 use Rattle.bsv_graph.specs.Orders.{In}
 use Rattle.bsv_schedule.specs.relating.Elements.{relating}
 use Rattle.bsv_schedule.specs.stopping.Stops.{Stops}

@@ -1,18 +1,18 @@
 -- Which elements may not fire in one clock, and which of them yields (Hoe and Arvind 2004, "Operation-centric hardware
 -- description and synthesis": conflicting rules; Bluespec reference guide, "preempts").
 use Rattle.std.specs.Prelude.{◌≡◌, ℕ, ◌<◌, ◌⊎◌, IsTrue, IsFalse, List, [], ◌∷◌, ◌++◌, length, Some, slice_get}
-use Rattle.bsv_graph.specs.Orders.{In, StandsBefore, place_of}
+use Rattle.bsv_graph.specs.Orders.{In, IsBefore, place_of}
 use Rattle.bsv_schedule.specs.relating.Relating.{Relating}
 
 -- the one that is earlier in the execution order does not go before the other
 abbrev pub Clash : Relating → List ℕ → ℕ → ℕ → Type 0
 Clash r execution a b =
-    (StandsBefore execution a b × IsFalse (r.goes a b)) ⊎ (StandsBefore execution b a × IsFalse (r.goes b a))
+    (IsBefore execution a b × IsFalse (r.goes a b)) ⊎ (IsBefore execution b a × IsFalse (r.goes b a))
 
 -- a is before b in urgency and they clash, or a preempts b
 abbrev pub Stops : Relating → List ℕ → List ℕ → ℕ → ℕ → Type 0
 Stops r execution urgency a b =
-    (StandsBefore urgency a b × Clash r execution a b) ⊎ IsTrue (r.preempts a b)
+    (IsBefore urgency a b × Clash r execution a b) ⊎ IsTrue (r.preempts a b)
 
 -- the members of the list with P, in its order
 abbrev pub Picks : (ℕ → Type 0) → List ℕ → List ℕ → Type 0

@@ -1,10 +1,10 @@
 ghost use Rattle.std.specs.Prelude.{◌≡◌, not, ℕ, map, slice_get, IsTrue};
 ghost use Rattle.std.specs.List.{list_all, list_any};
-ghost use Rattle.bsv_design.specs.Bodies.{target};
-ghost use Rattle.bsv_design.specs.Relations as relations;
-ghost use Rattle.bsv_design.specs.Schemes.{design_scheme};
-ghost use Rattle.bsv_design.specs.Seen.{blueprint};
-ghost use Rattle.bsv_design.specs.Widths.{call_named};
+ghost use Rattle.bsv_design.specs.design.Bodies.{target};
+ghost use Rattle.bsv_design.specs.scheme.Relations as relations;
+ghost use Rattle.bsv_design.specs.scheme.Schemes.{design_scheme};
+ghost use Rattle.bsv_design.specs.tree.Seen.{design_data};
+ghost use Rattle.bsv_design.specs.design.Widths.{call_named};
 ghost use Rattle.bsv_schedule.specs.relating.Related as spec;
 ghost use Rattle.bsv_schedule.specs.relating.Uses as uses;
 
@@ -12,7 +12,7 @@ use crate::relating::related::{Relation, related};
 use crate::relating::usage::Usage;
 use bsv_design::{Call, Design, NamedPart};
 
-// Whether one of these methods of the part and this method stand so.
+// Whether one of these methods of the part and this method are so.
 fn some_related(
     relation: Relation,
     parts: &[NamedPart],
@@ -34,7 +34,7 @@ fn some_related(
     false
 }
 
-/// Whether a use of the first and one of the second stand so.
+/// Whether a use of the first and one of the second are so.
 pub(crate) fn meet(relation: Relation, parts: &[NamedPart], first: &Usage, second: &Usage) -> bool
     requires first { IsTrue (uses.is_named (map (λ p. p.kind) parts.now) first.now) }
     requires second { IsTrue (uses.is_named (map (λ p. p.kind) parts.now) second.now) }
@@ -49,7 +49,7 @@ pub(crate) fn meet(relation: Relation, parts: &[NamedPart], first: &Usage, secon
     false
 }
 
-// Whether the call and one of the others stand so.
+// Whether the call and one of the others are so.
 fn call_meets(relation: Relation, parts: &[NamedPart], call: &Call, others: &[Call]) -> bool
     requires call { IsTrue (call_named (map (λ p. p.kind) parts.now) call.now) }
     requires others { IsTrue (list_all
@@ -67,7 +67,7 @@ fn call_meets(relation: Relation, parts: &[NamedPart], call: &Call, others: &[Ca
     false
 }
 
-// Whether one of the calls and one of the others stand so.
+// Whether one of the calls and one of the others are so.
 fn calls_meet(relation: Relation, parts: &[NamedPart], calls: &[Call], others: &[Call]) -> bool
     requires calls { IsTrue (list_all
         (call_named (map (λ p. p.kind) parts.now)) calls.now) }
@@ -86,7 +86,7 @@ fn calls_meet(relation: Relation, parts: &[NamedPart], calls: &[Call], others: &
 
 // The calls of the element of this position.
 fn calls_of(design: &Design, element: u32) -> &[Call]
-    ensures calls { map target result.now ≡ (design_scheme (blueprint design.now)).uses element }
+    ensures calls { map target result.now ≡ (design_scheme (design_data design.now)).uses element }
     ensures named { IsTrue (list_all (call_named
         (map (λ p. p.kind) design.now.parts)) result.now) }
 {
@@ -98,7 +98,7 @@ fn calls_of(design: &Design, element: u32) -> &[Call]
 
 /// Whether each use of the first element may come before each use of the second on the same part.
 pub fn goes(design: &Design, a: u32, b: u32) -> bool
-    ensures { result ≡ relations.goes (design_scheme (blueprint design.now)) a b }
+    ensures { result ≡ relations.goes (design_scheme (design_data design.now)) a b }
 {
     let parts = design.parts.as_slice();
     !calls_meet(
@@ -111,7 +111,7 @@ pub fn goes(design: &Design, a: u32, b: u32) -> bool
 
 /// Whether a use of the first element is seen by a use of the second on the same part.
 pub fn feeds(design: &Design, a: u32, b: u32) -> bool
-    ensures { result ≡ relations.feeds (design_scheme (blueprint design.now)) a b }
+    ensures { result ≡ relations.feeds (design_scheme (design_data design.now)) a b }
 {
     let parts = design.parts.as_slice();
     calls_meet(

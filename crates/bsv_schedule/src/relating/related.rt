@@ -1,5 +1,5 @@
 ghost use Rattle.std.specs.Prelude.{◌≡◌, ◌<◌, map, slice_get, IsTrue};
-ghost use Rattle.bsv_design.specs.Kinds.{kind_table};
+ghost use Rattle.bsv_design.specs.tree.Kinds.{kind_table};
 ghost use Rattle.bsv_schedule.specs.relating.Related as spec;
 ghost use Rattle.bsv_prim.specs.Table as table;
 
@@ -21,7 +21,7 @@ fn goes_before(relation: Rel) -> bool
     matches!(relation, Rel::Cf | Rel::Sb | Rel::Sbr)
 }
 
-/// Whether calls of two methods of a part of this kind stand so.
+/// Whether calls of two methods of a part of this kind are so.
 pub(crate) fn related_by(relation: Relation, kind: &Kind, first: u32, second: u32) -> bool
     requires first { first < (kind_table kind.now).methods }
     requires second { second < (kind_table kind.now).methods }
@@ -33,7 +33,7 @@ pub(crate) fn related_by(relation: Relation, kind: &Kind, first: u32, second: u3
     }
 }
 
-/// Whether calls of two methods of a part stand so.
+/// Whether calls of two methods of a part are so.
 pub(crate) fn related(
     relation: Relation,
     parts: &[NamedPart],

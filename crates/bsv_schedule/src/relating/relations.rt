@@ -1,8 +1,8 @@
 ghost use Rattle.std.specs.Prelude.{◌≡◌, ◌<◌, ◌^◌, ◌↔◌, ◌++◌, ◌∷◌, []};
 ghost use Rattle.std.specs.Prelude.{ℕ, IsTrue, IfOk, OnOk, length, map};
 ghost use Rattle.std.specs.List.{list_all, list_any};
-ghost use Rattle.bsv_design.specs.Schemes.{design_scheme};
-ghost use Rattle.bsv_design.specs.Seen.{blueprint};
+ghost use Rattle.bsv_design.specs.scheme.Schemes.{design_scheme};
+ghost use Rattle.bsv_design.specs.tree.Seen.{design_data};
 ghost use Rattle.bsv_graph.specs.Edges.{AllBelow};
 ghost use Rattle.bsv_schedule.specs.relating.Elements as elements;
 ghost use Rattle.bsv_schedule.specs.relating.Elements.{relating};
@@ -178,7 +178,7 @@ impl Relations {
     /// How the elements of the design relate.
     pub fn new(alloc: Global, design: &Design) -> Result<Relations, OutOfMemory>
         ensures relating { IfOk result (λ relations.
-            relating_of relations ≡ relating (design_scheme (blueprint design.now))) }
+            relating_of relations ≡ relating (design_scheme (design_data design.now))) }
         ensures agrees { IfOk result (λ relations. Agrees (relating_of relations)) }
     {
         let parts = design.parts.as_slice();

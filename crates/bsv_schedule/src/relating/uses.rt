@@ -1,8 +1,8 @@
 ghost use Rattle.std.specs.Prelude.{◌≡◌, ◌<◌, [], vec_len, map, IsTrue, IfOk, OnOk};
 ghost use Rattle.std.specs.List.{list_all};
-ghost use Rattle.bsv_design.specs.Bodies.{target};
+ghost use Rattle.bsv_design.specs.design.Bodies.{target};
 ghost use Rattle.bsv_schedule.specs.relating.Grouping.{AreGrouped, added};
-ghost use Rattle.bsv_design.specs.Widths.{call_named};
+ghost use Rattle.bsv_design.specs.design.Widths.{call_named};
 ghost use Rattle.bsv_schedule.specs.relating.Uses.{is_named, used, UseSame, IsNoted};
 
 use crate::relating::usage::{Usage, Use};

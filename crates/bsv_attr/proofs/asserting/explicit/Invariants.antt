@@ -1,8 +1,8 @@
 use Rattle.std.proofs.Common.{ℕ, ◌<◌}
-use Rattle.bsv_design.specs.Schemes.{design_scheme}
-use Rattle.bsv_design.specs.Seen.{blueprint}
+use Rattle.bsv_design.specs.scheme.Schemes.{design_scheme}
+use Rattle.bsv_design.specs.tree.Seen.{design_data}
 use Rattle.bsv_attr.specs.Asserting.{IsExplicit}
 use Rattle.bsv_attr.proofs.asserting.explicit.Given as goal
 
 abbrev pub invariant-loop-rule : goal.invariant-loop-rule
-invariant-loop-rule l = (n : ℕ) → n < l.rule → IsExplicit (design_scheme (blueprint l.design)) n
+invariant-loop-rule l = (n : ℕ) → n < l.rule → IsExplicit (design_scheme (design_data l.design)) n

@@ -1,8 +1,8 @@
 use Rattle.std.proofs.Common.{◌≡◌, ◌∙◌, ◌+◌, drop, ap, sym, cond, Some, false}
 use Rattle.std.specs.Str.{bytes_eq}
 use Rattle.bsv_lemmas.proofs.Places.{drop_one}
-use Rattle.bsv_design.specs.Calls.{number_from}
-use Rattle.bsv_design.specs.MethodNames.{method_names}
+use Rattle.bsv_design.specs.carrying.Calls.{number_from}
+use Rattle.bsv_design.specs.tree.MethodNames.{method_names}
 use Rattle.bsv_design.proofs.interface.number_named.Goals as goal
 
 pub loop-number-preserved : goal.loop-number-preserved

@@ -1,6 +1,6 @@
 use Rattle.std.proofs.Common.{◌≡◌, drop}
-use Rattle.bsv_design.specs.Calls.{number_from}
-use Rattle.bsv_design.specs.MethodNames.{method_names}
+use Rattle.bsv_design.specs.carrying.Calls.{number_from}
+use Rattle.bsv_design.specs.tree.MethodNames.{method_names}
 use Rattle.bsv_design.proofs.interface.number_named.Given as goal
 
 abbrev pub invariant-loop-number : goal.invariant-loop-number

@@ -1,8 +1,8 @@
 use Rattle.std.proofs.Common.{◌≡◌, ◌++◌, IsTrue, length, map}
 use Rattle.std.specs.Prelude.{false}
 use Rattle.std.specs.List.{list_all}
-use Rattle.bsv_design.specs.States as states
-use Rattle.bsv_design.specs.States.{methods_in}
+use Rattle.bsv_design.specs.scheme.States as states
+use Rattle.bsv_design.specs.scheme.States.{methods_in}
 use Rattle.bsv_design.proofs.Asked.{fit_ports}
 use Rattle.bsv_design.proofs.requests.unasked.Given as goal
 

@@ -1,5 +1,5 @@
 use Rattle.std.proofs.Common.{◌≡◌, take}
-use Rattle.bsv_design.specs.States as states
+use Rattle.bsv_design.specs.scheme.States as states
 use Rattle.bsv_design.proofs.requests.zeros.Given as goal
 
 abbrev pub invariant-loop-port : goal.invariant-loop-port

@@ -1,5 +1,5 @@
 use Rattle.std.proofs.Common.{◌≡◌, map, take}
-use Rattle.bsv_design.specs.States.{opening}
+use Rattle.bsv_design.specs.scheme.States.{opening}
 use Rattle.bsv_design.proofs.state.openings.Given as goal
 
 abbrev pub invariant-loop-part : goal.invariant-loop-part

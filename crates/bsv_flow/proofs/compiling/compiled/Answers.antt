@@ -1,7 +1,7 @@
 use Rattle.std.proofs.Common.{rules, ◌≡◌, Result, Err}
 use Rattle.bsv_types.specs.declared.typed.Typed.{Typed}
 use Rattle.bsv_design.specs.declared.whole.Tree.{Tree}
-use Rattle.bsv_design.specs.Seen.{hierarchy}
+use Rattle.bsv_design.specs.tree.Seen.{tree_data}
 use Rattle.bsv_flow.specs.Compilings.{Declines}
 use Rattle.bsv_flow.specs.declared.refusal.CompileFault.{CompileFault}
 use Rattle.bsv_flow.specs.declared.refusal.CompileFault.TheVariants as fault
@@ -23,9 +23,9 @@ returns-in_err-built-clause-refused g c =
 pub returns-clause-refused : goal.returns-clause-refused
 returns-clause-refused g c =
     λ r h.
-    Declines.scheduling c.in_ok-program.program (hierarchy c.in_ok-built.built) c.in_ok-program.ensures.typed c.in_ok-built.ensures.built (c.scheduled.ensures.refused r h)
+    Declines.scheduling c.in_ok-program.program (tree_data c.in_ok-built.built) c.in_ok-program.ensures.typed c.in_ok-built.ensures.built (c.scheduled.ensures.refused r h)
 
 pub returns-clause-compiled : goal.returns-clause-compiled
 returns-clause-compiled g c =
-    all_compiled c.args.loaded.now c.in_ok-program.program c.args.top.now (hierarchy c.in_ok-built.built) c.scheduled.result
+    all_compiled c.args.loaded.now c.in_ok-program.program c.args.top.now (tree_data c.in_ok-built.built) c.scheduled.result
     c.in_ok-program.ensures.typed c.in_ok-built.ensures.built c.scheduled.ensures.compiled c.scheduled.ensures.scheduled c.scheduled.ensures.obeys

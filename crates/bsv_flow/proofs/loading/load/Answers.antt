@@ -10,7 +10,7 @@ use Rattle.bsv_flow.specs.Yields.{Yields}
 use Rattle.bsv_flow.proofs.Decided.{next_sources}
 use Rattle.bsv_flow.proofs.Queued.{with_items_extends}
 use Rattle.bsv_flow.proofs.Sourced.{still_within}
-use Rattle.bsv_flow.proofs.Steps.{yields_whole, read_whole_tree, none_left, refused_here, refused_behind, loads_more, loads_first, one_long, all_loaded}
+use Rattle.bsv_flow.proofs.Steps.{yields_whole, read_whole_tree, none_left, refused_here, refused_after, loads_more, loads_first, one_long, all_loaded}
 use Rattle.bsv_flow.proofs.loading.load.Goals as goal
 use Rattle.bsv_flow.proofs.loading.load.Goals.{else-loop-turn-test, then-loop-turn-test+in_default}
 
@@ -44,7 +44,7 @@ returns-in_err-queue-clause-refused g c =
     let gave : ◌≡◌ {A = Result (List (List ℕ)) CompileFault} (Err c.in_err-queue.field-0.0) (Err (fault.Refused r)) = search rules in
     let refused = c.in_err-queue.ensures.refused r gave in
     subst (λ n. Refuses n contents r) c.as_bytes-first.ensures.value
-    (refused_behind c.as_bytes-first.result.now contents c.loop-turn.queue c.loop-turn.packages c.loop-turn.turn c.in-Some.file.now (before.loads contents told) before.count (sym c.in-Some.ensures.value) c.in_ok-package.package r
+    (refused_after c.as_bytes-first.result.now contents c.loop-turn.queue c.loop-turn.packages c.loop-turn.turn c.in-Some.file.now (before.loads contents told) before.count (sym c.in-Some.ensures.value) c.in_ok-package.package r
     (yields_whole contents c.in-Some.file.now c.bytes-in-loop-turn.result.now c.bytes.result.now c.in_ok-source.source c.bytes-in-loop-turn-2.result.now _ c.bytes-in-loop-turn.ensures c.bytes.ensures c.bytes-in-loop-turn-2.ensures (c.in_ok-source.ensures.source contents (before.contents ∙ told)) c.in_ok-package.ensures.found)
     refused.0 refused.1)
 

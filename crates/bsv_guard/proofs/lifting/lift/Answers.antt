@@ -1,8 +1,8 @@
 use Rattle.std.proofs.Common.{◌∙◌, map, ap, subst, arith, length, ◌≤◌, Ok, ◌++◌, ◌∷◌, []}
 use Rattle.std.proofs.lemmas.Option.{slice_get_within}
 use Rattle.std.proofs.lemmas.Result.{err_from_is_err_and}
-use Rattle.bsv_design.specs.Guards.{needs_of}
-use Rattle.bsv_design.specs.Seen.{blueprint}
+use Rattle.bsv_design.specs.design.Guards.{needs_of}
+use Rattle.bsv_design.specs.tree.Seen.{design_data}
 use Rattle.bsv_guard.specs.Lifted.{IsElementLifted, IsElementRefused}
 use Rattle.bsv_guard.specs.Pairs.{AreFree}
 use Rattle.bsv_guard.proofs.Whole.{named_in, few_in, one_element_more, needs_more, needs_whole, refused, keeps, lifted}
@@ -35,7 +35,7 @@ returns-in_err-lift_element-clause-refused c =
     let are = c.in_ok-kinds.ensures ∙ ap (map (λ p. p.kind)) c.as_slice.ensures in
     let h = subst (λ k. IsElementRefused k n c.as_slice-calls.result.now f) c.as_slice-in-loop-number.ensures.value c.in_err-lift_element.ensures in
     let p = err_from_is_err_and c.from_residual-in_err-lift_element.result c.from_residual-in_err-lift_element.ensures.1 in
-    rw (p.1, p.2) (refused (blueprint d) ks n e f are at c.loop-number.invariant.free (subst (λ cs. IsElementRefused ks n cs f) c.as_slice-calls.ensures h))
+    rw (p.1, p.2) (refused (design_data d) ks n e f are at c.loop-number.invariant.free (subst (λ cs. IsElementRefused ks n cs f) c.as_slice-calls.ensures h))
 
 pub loop-number-preserved : goal.loop-number-preserved
 loop-number-preserved c =
@@ -57,7 +57,7 @@ returns-clause-kept c =
     let d = c.args.design.now in
     let are = c.in_ok-kinds.ensures ∙ ap (map (λ p. p.kind)) c.as_slice.ensures in
     let long : length d.elements ≤ c.loop-number.number = subst (λ es. length es ≤ c.loop-number.number) c.as_slice-element-items.ensures c.loop-number-test.false in
-    λ n. keeps (blueprint d) n (λ e at. subst (λ k. AreFree k e.calls) are (c.loop-number.invariant.free n e (omega (arith, slice_get_within d.elements n e at, long)) at))
+    λ n. keeps (design_data d) n (λ e at. subst (λ k. AreFree k e.calls) are (c.loop-number.invariant.free n e (omega (arith, slice_get_within d.elements n e at, long)) at))
 
 pub returns-clause-lifted : goal.returns-clause-lifted
 returns-clause-lifted c =
@@ -65,4 +65,4 @@ returns-clause-lifted c =
     let are = c.in_ok-kinds.ensures ∙ ap (map (λ p. p.kind)) c.as_slice.ensures in
     let long = subst (λ es. length es ≤ c.loop-number.number) c.as_slice-element-items.ensures c.loop-number-test.false in
     let whole = needs_whole c.in_ok-kinds.kinds.items d.elements c.loop-number.number c.loop-number.needs c.loop-number.invariant.needs long in
-    lifted (blueprint d) c.loop-number.needs (whole ∙ ap (λ ks. needs_of ks d.elements) are)
+    lifted (design_data d) c.loop-number.needs (whole ∙ ap (λ ks. needs_of ks d.elements) are)

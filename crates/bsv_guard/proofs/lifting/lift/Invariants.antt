@@ -1,7 +1,7 @@
 use Rattle.std.proofs.Common.{◌≡◌, ℕ, ◌<◌, Some, take}
 use Rattle.std.specs.Prelude.{slice_get}
 use Rattle.bsv_design.specs.declared.element.Element.{Element}
-use Rattle.bsv_design.specs.Guards.{needs_of}
+use Rattle.bsv_design.specs.design.Guards.{needs_of}
 use Rattle.bsv_guard.specs.Pairs.{AreFree}
 use Rattle.bsv_guard.proofs.lifting.lift.Given as goal
 

@@ -1,6 +1,6 @@
 use Rattle.std.proofs.Common.{◌∙◌, sym, ap, refl}
 use Rattle.std.proofs.lemmas.Option.{slice_get_read, slice_get_past}
-use Rattle.bsv_design.specs.Guards.{is_guarded}
+use Rattle.bsv_design.specs.design.Guards.{is_guarded}
 use Rattle.bsv_guard.proofs.needs.is_guarded.Goals as goal
 
 pub returns-in-Some : goal.returns-in-Some

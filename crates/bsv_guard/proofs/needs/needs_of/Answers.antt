@@ -1,6 +1,6 @@
 use Rattle.std.proofs.Common.{arith}
 use Rattle.std.proofs.lemmas.Grind.{common_steps}
-use Rattle.bsv_design.specs.Guards.{needs_from}
+use Rattle.bsv_design.specs.design.Guards.{needs_from}
 use Rattle.bsv_guard.proofs.needs.needs_of.Goals as goal
 
 pub loop-number-preserved : goal.loop-number-preserved

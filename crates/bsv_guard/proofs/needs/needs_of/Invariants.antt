@@ -1,5 +1,5 @@
 use Rattle.std.proofs.Common.{◌≡◌, ◌++◌, drop}
-use Rattle.bsv_design.specs.Guards.{needs_from}
+use Rattle.bsv_design.specs.design.Guards.{needs_from}
 use Rattle.bsv_guard.proofs.needs.needs_of.Given as goal
 
 abbrev pub invariant-loop-number : goal.invariant-loop-number

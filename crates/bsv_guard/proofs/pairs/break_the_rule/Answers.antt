@@ -4,8 +4,8 @@ use Rattle.std.proofs.lemmas.Bool.{eq-eqb}
 use Rattle.std.proofs.lemmas.Option.{slice_get_read}
 use Rattle.bsv_design.specs.declared.element.Call.{Call}
 use Rattle.bsv_design.specs.declared.kind.Kind.{Kind}
-use Rattle.bsv_design.specs.Branches.{apart}
-use Rattle.bsv_design.specs.Relations.{may_stand}
+use Rattle.bsv_design.specs.design.Branches.{apart}
+use Rattle.bsv_design.specs.scheme.Relations.{may_stand}
 use Rattle.bsv_guard.specs.Pairs.{breaks}
 use Rattle.bsv_guard.proofs.pairs.break_the_rule.Goals as goal
 

@@ -1,5 +1,5 @@
 use Rattle.std.proofs.Common.{◌≡◌, drop}
-use Rattle.bsv_design.specs.Branches.{other_arm_of}
+use Rattle.bsv_design.specs.design.Branches.{other_arm_of}
 use Rattle.bsv_guard.proofs.pairs.other_arm_of.Given as goal
 
 abbrev pub invariant-loop-other : goal.invariant-loop-other

@@ -1,5 +1,5 @@
 use Rattle.std.proofs.Common.{◌≡◌, ◌++◌, take}
-use Rattle.bsv_net.specs.Circuits.{register_widths}
+use Rattle.bsv_net.specs.Nets.{register_widths}
 use Rattle.bsv_lockstep.proofs.evaluating.add_widths.Given as goal
 
 abbrev pub invariant-loop-register : goal.invariant-loop-register

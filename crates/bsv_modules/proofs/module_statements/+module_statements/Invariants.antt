@@ -18,8 +18,8 @@ decreases-block l = 8 * greatest (map module_stmt_depth l.stmts.now) + 2
 abbrev pub decreases-inside : goal.decreases-inside
 decreases-inside l = 8 * module_stmt_depth l.stmt.now + 1
 
-abbrev pub decreases-behind_condition : goal.decreases-behind_condition
-decreases-behind_condition l = 8 * module_branch_depth l.arm.now + 1
+abbrev pub decreases-after_condition : goal.decreases-after_condition
+decreases-after_condition l = 8 * module_branch_depth l.arm.now + 1
 
 abbrev pub decreases-arms : goal.decreases-arms
 decreases-arms l = 8 * greatest (map module_branch_depth l.written.now) + 2

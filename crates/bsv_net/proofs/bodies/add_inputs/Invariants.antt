@@ -1,5 +1,5 @@
 use Rattle.std.proofs.Common.{◌≡◌, ◌++◌, map, take}
-use Rattle.bsv_net.specs.Circuits.{port}
+use Rattle.bsv_net.specs.Nets.{port}
 use Rattle.bsv_net.proofs.bodies.add_inputs.Given as goal
 
 abbrev pub invariant-loop-width : goal.invariant-loop-width

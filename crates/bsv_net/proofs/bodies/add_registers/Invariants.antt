@@ -1,5 +1,5 @@
 use Rattle.std.proofs.Common.{◌≡◌, ◌++◌, map, take}
-use Rattle.bsv_net.specs.Circuits.{port, register_widths}
+use Rattle.bsv_net.specs.Nets.{port, register_widths}
 use Rattle.bsv_net.proofs.bodies.add_registers.Given as goal
 
 abbrev pub invariant-loop-register : goal.invariant-loop-register

@@ -1,6 +1,6 @@
 use Rattle.std.proofs.Common.{◌≡◌, length}
 use Rattle.std.specs.List.{list_all}
-use Rattle.bsv_net.specs.Circuits.{names}
+use Rattle.bsv_net.specs.Nets.{names}
 use Rattle.bsv_net.proofs.checks.are_names.Given as goal
 
 abbrev pub decreases-loop-node : goal.decreases-loop-node

@@ -1,6 +1,6 @@
 use Rattle.std.proofs.Common.{◌≡◌, length}
 use Rattle.std.specs.List.{list_all}
-use Rattle.bsv_net.specs.Circuits.{is_node}
+use Rattle.bsv_net.specs.Nets.{is_node}
 use Rattle.bsv_net.proofs.checks.are_nodes.Given as goal
 
 abbrev pub decreases-loop-node : goal.decreases-loop-node

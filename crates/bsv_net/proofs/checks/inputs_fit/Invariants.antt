@@ -1,6 +1,6 @@
 use Rattle.std.proofs.Common.{◌≡◌, length}
 use Rattle.std.specs.List.{list_all}
-use Rattle.bsv_net.specs.Circuits.{width_fits}
+use Rattle.bsv_net.specs.Nets.{width_fits}
 use Rattle.bsv_net.proofs.checks.inputs_fit.Given as goal
 
 abbrev pub decreases-loop-width : goal.decreases-loop-width

@@ -1,5 +1,5 @@
 use Rattle.std.proofs.Common.{◌≡◌, length}
-use Rattle.bsv_net.specs.Circuits.{nexts_fit}
+use Rattle.bsv_net.specs.Nets.{nexts_fit}
 use Rattle.bsv_net.proofs.checks.nexts_fit.Given as goal
 
 abbrev pub decreases-loop-next : goal.decreases-loop-next

@@ -1,6 +1,6 @@
 use Rattle.std.proofs.Common.{◌≡◌, length}
 use Rattle.std.specs.List.{list_all}
-use Rattle.bsv_net.specs.Circuits.{is_site}
+use Rattle.bsv_net.specs.Nets.{is_site}
 use Rattle.bsv_net.proofs.checks.sites_fit.Given as goal
 
 abbrev pub decreases-loop-sites : goal.decreases-loop-sites

@@ -1,6 +1,6 @@
 use Rattle.std.proofs.Common.{◌≡◌, ◌++◌, map, length}
-use Rattle.bsv_design.specs.Schemes.{outline}
-use Rattle.bsv_clock.specs.Hardware.{input_widths_of}
+use Rattle.bsv_design.specs.scheme.Schemes.{outline}
+use Rattle.bsv_clock.specs.Shows.{input_widths_of}
 use Rattle.bsv_ports.proofs.ground.inputs_of.Given as goal
 
 abbrev pub invariant-loop-element : goal.invariant-loop-element

@@ -1,5 +1,5 @@
 use Rattle.std.proofs.Common.{◌≡◌, ◌++◌, map, length}
-use Rattle.bsv_clock.specs.Hardware.{cell, cells_of}
+use Rattle.bsv_clock.specs.Shows.{cell, cells_of}
 use Rattle.bsv_ports.proofs.ground.registers_of.Given as goal
 
 abbrev pub invariant-loop-part : goal.invariant-loop-part

@@ -1,4 +1,4 @@
-use Rattle.bsv_schedule.specs.urging.Orders.{urgency_edges}
+use Rattle.bsv_schedule.specs.urgency_order.Orders.{urgency_edges}
 use Rattle.bsv_graph.proofs.OrderedLemmas.{least_one}
 use Rattle.bsv_schedule.proofs.OrderLaws.{execution_one}
 use Rattle.bsv_schedule.proofs.Answering.{stops_one}

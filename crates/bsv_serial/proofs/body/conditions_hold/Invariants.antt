@@ -1,6 +1,6 @@
 use Rattle.std.proofs.Common.{◌≡◌, false, map, length}
-use Rattle.bsv_design.specs.Schemes.{all_hold}
-use Rattle.bsv_design.specs.Traces.{demand_at}
+use Rattle.bsv_design.specs.scheme.Schemes.{all_hold}
+use Rattle.bsv_design.specs.scheme.Traces.{demand_at}
 use Rattle.bsv_serial.proofs.body.conditions_hold.Given as goal
 
 abbrev pub invariant-loop-condition : goal.invariant-loop-condition

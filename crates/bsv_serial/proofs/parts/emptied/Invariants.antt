@@ -1,5 +1,5 @@
 use Rattle.std.proofs.Common.{◌≡◌, ◌++◌, length}
-use Rattle.bsv_design.specs.States.{FitsKinds, emptied}
+use Rattle.bsv_design.specs.scheme.States.{FitsKinds, emptied}
 use Rattle.bsv_serial.specs.AtHand.{kinds}
 use Rattle.bsv_serial.proofs.parts.emptied.Given as goal
 

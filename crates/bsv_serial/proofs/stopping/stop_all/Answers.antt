@@ -1,6 +1,6 @@
 use Rattle.std.proofs.Common.{◌∙◌, ℕ, ◌<◌, List, Option, length, sym, ap, subst}
 use Rattle.std.specs.List.{AllByRecursion}
-use Rattle.bsv_serial.specs.Deciding.{all_stopped}
+use Rattle.bsv_serial.specs.Decider.{all_stopped}
 use Rattle.bsv_serial.proofs.stopping.stop_all.Goals as goal
 
 pub loop-number-preserved : goal.loop-number-preserved

@@ -1,6 +1,6 @@
 use Rattle.std.proofs.Common.{◌≡◌, ◌<◌, length}
 use Rattle.std.specs.List.{AllByRecursion}
-use Rattle.bsv_serial.specs.Deciding.{all_stopped}
+use Rattle.bsv_serial.specs.Decider.{all_stopped}
 use Rattle.bsv_serial.proofs.stopping.stop_all.Given as goal
 
 abbrev pub invariant-loop-number : goal.invariant-loop-number

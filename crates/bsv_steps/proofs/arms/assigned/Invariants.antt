@@ -1,5 +1,5 @@
 use Rattle.std.proofs.Common.{◌≡◌, drop}
-use Rattle.bsv_design.specs.Arms as spec
+use Rattle.bsv_design.specs.carrying.Arms as spec
 use Rattle.bsv_steps.proofs.arms.assigned.Given as goal
 
 abbrev pub invariant-loop-arm : goal.invariant-loop-arm

@@ -1,5 +1,5 @@
 use Rattle.std.proofs.Common.{◌≡◌, ◌++◌, map, length, reverse}
-use Rattle.bsv_design.specs.Arms as spec
+use Rattle.bsv_design.specs.carrying.Arms as spec
 use Rattle.bsv_steps.proofs.arms.closed.Given as goal
 
 abbrev pub decreases-loop-arm : goal.decreases-loop-arm

@@ -1,5 +1,5 @@
 use Rattle.std.proofs.Common.{◌≡◌, [], length}
-use Rattle.bsv_design.specs.Arms as spec
+use Rattle.bsv_design.specs.carrying.Arms as spec
 use Rattle.bsv_steps.proofs.arms.joined.Given as goal
 
 abbrev pub decreases-loop-old : goal.decreases-loop-old

@@ -1,5 +1,5 @@
 use Rattle.std.proofs.Common.{◌≡◌, ◌++◌, map, length}
-use Rattle.bsv_design.specs.Carrying as carrying
+use Rattle.bsv_design.specs.carrying.Carrying as carrying
 use Rattle.bsv_steps.proofs.bodies.arguments.Given as goal
 
 abbrev pub decreases-loop-value : goal.decreases-loop-value

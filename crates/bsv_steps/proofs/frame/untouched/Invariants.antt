@@ -1,5 +1,5 @@
 use Rattle.std.proofs.Common.{◌≡◌, take}
-use Rattle.bsv_design.specs.Frames as spec
+use Rattle.bsv_design.specs.carrying.Frames as spec
 use Rattle.bsv_steps.proofs.frame.untouched.Given as goal
 
 abbrev pub invariant-loop-old : goal.invariant-loop-old

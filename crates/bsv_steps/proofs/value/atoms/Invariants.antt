@@ -1,5 +1,5 @@
 use Rattle.std.proofs.Common.{◌≡◌, map, take}
-use Rattle.bsv_design.specs.Values as spec
+use Rattle.bsv_design.specs.carrying.Values as spec
 use Rattle.bsv_steps.proofs.value.atoms.Given as goal
 
 abbrev pub invariant-loop-value : goal.invariant-loop-value

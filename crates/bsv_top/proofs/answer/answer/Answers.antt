@@ -1,15 +1,15 @@
 use Rattle.std.proofs.Common.{◌∙◌, ℕ, List, sym, ap, subst}
 use Rattle.std.proofs.lemmas.Result.{on_ok_weaker}
 use Rattle.bsv_top.specs.Forms.{words_of}
-use Rattle.bsv_top.specs.Outcomes.{IsUnread, OutputBegun}
+use Rattle.bsv_top.specs.Outcomes.{IsUnread, OutputStarted}
 use Rattle.bsv_top.specs.Stops.{IsStopOf}
 use Rattle.bsv_top.proofs.Spelled.{same_trace}
 use Rattle.bsv_top.proofs.answer.answer.Goals as goal
 
-pub returns-in-Plan-clause-begun : goal.returns-in-Plan-clause-begun
-returns-in-Plan-clause-begun g c = λ contents told.
-    subst (λ (words : List (List ℕ)). OutputBegun words contents (g.O.Sink.writing c.args.out.now) (g.O.Sink.writing c.plan.new.out)) (sym (ap words_of c.in-Plan.is))
-    (c.plan.ensures.begun contents told)
+pub returns-in-Plan-clause-started : goal.returns-in-Plan-clause-started
+returns-in-Plan-clause-started g c = λ contents told.
+    subst (λ (words : List (List ℕ)). OutputStarted words contents (g.O.Sink.writing c.args.out.now) (g.O.Sink.writing c.plan.new.out)) (sym (ap words_of c.in-Plan.is))
+    (c.plan.ensures.started contents told)
 
 pub returns-in-Plan-clause-unread : goal.returns-in-Plan-clause-unread
 returns-in-Plan-clause-unread g c = λ name h.
@@ -23,10 +23,10 @@ returns-in-Sim-clause-stopped g c = λ s h contents told.
     subst (λ (words : List (List ℕ)). IsStopOf words contents (g.O.Sink.writing c.args.out.now) (g.O.Sink.writing c.simulate.new.out) s) (sym (ap words_of c.in-Sim.is))
     (c.simulate.ensures.stopped s h contents told)
 
-pub returns-in-Sim-clause-begun : goal.returns-in-Sim-clause-begun
-returns-in-Sim-clause-begun g c = λ contents told.
-    subst (λ (words : List (List ℕ)). OutputBegun words contents (g.O.Sink.writing c.args.out.now) (g.O.Sink.writing c.simulate.new.out)) (sym (ap words_of c.in-Sim.is))
-    (c.simulate.ensures.begun contents told)
+pub returns-in-Sim-clause-started : goal.returns-in-Sim-clause-started
+returns-in-Sim-clause-started g c = λ contents told.
+    subst (λ (words : List (List ℕ)). OutputStarted words contents (g.O.Sink.writing c.args.out.now) (g.O.Sink.writing c.simulate.new.out)) (sym (ap words_of c.in-Sim.is))
+    (c.simulate.ensures.started contents told)
 
 pub returns-in-Sim-clause-unread : goal.returns-in-Sim-clause-unread
 returns-in-Sim-clause-unread g c = λ name h.

@@ -4,15 +4,15 @@ use Rattle.std.proofs.lemmas.Result.{err_from_is_err_and}
 use Rattle.bsv_io.specs.Reading.{Reading, Gives, bytes_given, current_name, rest}
 use Rattle.bsv_io.proofs.Readings.{piece_read, rest_advanced, given_advanced, name_advanced, current_advanced, if_told}
 use Rattle.bsv_top.specs.declared.halt.Halt.TheVariants as halt
-use Rattle.bsv_top.specs.Running.{IsBegunOf, IsFaultyOf}
-use Rattle.bsv_top.proofs.Stepping.{begun_behind, read_within}
+use Rattle.bsv_top.specs.Running.{IsStartedOf, IsFaultyOf}
+use Rattle.bsv_top.proofs.Stepping.{started_after, read_within}
 use Rattle.bsv_top.proofs.follow.run_trace.Goals as goal
 
-pub returns-in-Err-clause-begun : goal.returns-in-Err-clause-begun
-returns-in-Err-clause-begun g c = λ start trace run told.
+pub returns-in-Err-clause-started : goal.returns-in-Err-clause-started
+returns-in-Err-clause-started g c = λ start trace run told.
     let read = c.loop-turn.invariant.read in
     let left = read.2 trace told in
-    begun_behind c.args.compiled.now start read.0 c.loop-turn.run (g.O.Sink.writing c.loop-turn.out) (read.3 start run) trace left.0 left.2
+    started_after c.args.compiled.now start read.0 c.loop-turn.run (g.O.Sink.writing c.loop-turn.out) (read.3 start run) trace left.0 left.2
 
 pub returns-in-Err-clause-within : goal.returns-in-Err-clause-within
 returns-in-Err-clause-within g c = λ start trace qs run told bad.
@@ -50,15 +50,15 @@ returns-in_err-run_piece-clause-bad g c = λ h start trace run told.
     subst (λ (t : List ℕ). IsFaultyOf c.args.compiled.now start t (g.O.Sink.writing c.run_piece.new.out) (c.run_piece.new.self.lines.done + 1)) (sym whole)
     (c.run_piece.ensures.bad e start read.0 (drop c.in-Ok.len left.0) (read.3 start run))
 
-pub returns-in_err-run_piece-clause-begun : goal.returns-in_err-run_piece-clause-begun
-returns-in_err-run_piece-clause-begun g c = λ start trace run told.
+pub returns-in_err-run_piece-clause-started : goal.returns-in_err-run_piece-clause-started
+returns-in_err-run_piece-clause-started g c = λ start trace run told.
     let read = c.loop-turn.invariant.read in
     let left = read.2 trace told in
     let given = if_told _ (Gives c.in-Ok.len c.read.new.buf) left.0 left.1 c.in-Ok.ensures.bytes in
     let piece = take c.in-Ok.len c.read.new.buf in
     let whole = left.2 ∙ ap (λ (t : List ℕ). read.0 ++ t) (piece_read c.in-Ok.len c.read.new.buf left.0 given) ∙ sym (append_assoc read.0 piece (drop c.in-Ok.len left.0)) in
-    subst (λ (t : List ℕ). IsBegunOf c.args.compiled.now start t (g.O.Sink.writing c.run_piece.new.out)) (sym whole)
-    (c.in_err-run_piece.ensures.begun start read.0 (drop c.in-Ok.len left.0) (read.3 start run))
+    subst (λ (t : List ℕ). IsStartedOf c.args.compiled.now start t (g.O.Sink.writing c.run_piece.new.out)) (sym whole)
+    (c.in_err-run_piece.ensures.started start read.0 (drop c.in-Ok.len left.0) (read.3 start run))
 
 pub loop-turn-preserved : goal.loop-turn-preserved
 loop-turn-preserved g c =

@@ -6,7 +6,7 @@ use Rattle.bsv_top.specs.declared.stop.Stop.TheVariants as stop
 use Rattle.bsv_top.specs.Products.{product_words}
 use Rattle.bsv_top.proofs.Spelled.{asks_product}
 use Rattle.bsv_top.proofs.Stopped.{fault_stops, fault_unread}
-use Rattle.bsv_top.proofs.Printed.{plan_begun, plan_done}
+use Rattle.bsv_top.proofs.Printed.{plan_started, plan_done}
 use Rattle.bsv_top.proofs.planning.plan.Goals as goal
 
 pub returns-in_err-compiled-clause-stopped : goal.returns-in_err-compiled-clause-stopped
@@ -34,12 +34,12 @@ returns-in-Ok-clause-done g c = λ contents told.
     plan_done c.args.form.file.now contents c.args.form.top.now c.in_ok-compiled.compiled (c.in_ok-compiled.ensures.compiled contents told)
     c.args.form.product (g.O.Sink.writing c.args.out.now) (g.O.Sink.writing c.put_product.new.out) c.in-Ok.ensures.ok
 
-pub returns-in-Ok-clause-begun : goal.returns-in-Ok-clause-begun
-returns-in-Ok-clause-begun g c = λ contents told.
-    plan_begun c.args.form.file.now contents c.args.form.top.now c.in_ok-compiled.compiled (c.in_ok-compiled.ensures.compiled contents told)
+pub returns-in-Ok-clause-started : goal.returns-in-Ok-clause-started
+returns-in-Ok-clause-started g c = λ contents told.
+    plan_started c.args.form.file.now contents c.args.form.top.now c.in_ok-compiled.compiled (c.in_ok-compiled.ensures.compiled contents told)
     c.args.form.product (g.O.Sink.writing c.args.out.now) (g.O.Sink.writing c.put_product.new.out) c.in-Ok.ensures.prefix
 
-pub returns-clause-begun : goal.returns-clause-begun
-returns-clause-begun g c = λ contents told.
-    plan_begun c.args.form.file.now contents c.args.form.top.now c.in_ok-compiled.compiled (c.in_ok-compiled.ensures.compiled contents told)
+pub returns-clause-started : goal.returns-clause-started
+returns-clause-started g c = λ contents told.
+    plan_started c.args.form.file.now contents c.args.form.top.now c.in_ok-compiled.compiled (c.in_ok-compiled.ensures.compiled contents told)
     c.args.form.product (g.O.Sink.writing c.args.out.now) (g.O.Sink.writing c.put_product.new.out) c.in-Err.ensures.prefix

@@ -7,7 +7,7 @@ use Rattle.bsv_top.specs.declared.stop.Stop.TheVariants as stop
 use Rattle.bsv_top.specs.Answers as a
 use Rattle.bsv_top.specs.Answers.{no_memory_line, usage_line}
 use Rattle.bsv_top.specs.Outcomes as o
-use Rattle.bsv_top.specs.Outcomes.{Answered, IsDecided, IsDoneBy, IsUnread, OutputBegun}
+use Rattle.bsv_top.specs.Outcomes.{Answered, IsDecided, IsDoneBy, IsUnread, OutputStarted}
 use Rattle.bsv_top.specs.Stops.{IsStopOf}
 use Rattle.bsv_top.proofs.OneAnswer as one
 use Rattle.bsv_top.proofs.Told.{decided_tells, done_answered, has_form, one_status, only_bad, only_memory, stop_answered, stop_complete, stop_text, stop_unreadable, unread_faults}
@@ -46,8 +46,8 @@ returns-in-Ok-clause-answer g c = λ contents told is.
 
 pub returns-in-Ok-clause-output : goal.returns-in-Ok-clause-output
 returns-in-Ok-clause-output g c = λ contents told.
-    subst (λ (words : List (List ℕ)). OutputBegun words contents (g.O.Sink.writing c.args.out.now) (g.O.Sink.writing c.answer.new.out)) (sym c.in-Some.ensures.form)
-    (c.answer.ensures.begun contents told)
+    subst (λ (words : List (List ℕ)). OutputStarted words contents (g.O.Sink.writing c.args.out.now) (g.O.Sink.writing c.answer.new.out)) (sym c.in-Some.ensures.form)
+    (c.answer.ensures.started contents told)
 
 pub returns-in-Ok-clause-text : goal.returns-in-Ok-clause-text
 returns-in-Ok-clause-text g c = λ contents told.
@@ -87,8 +87,8 @@ returns-in-Err-clause-answer g c = λ contents told is.
 
 pub returns-in-Err-clause-output : goal.returns-in-Err-clause-output
 returns-in-Err-clause-output g c = λ contents told.
-    subst (λ (words : List (List ℕ)). OutputBegun words contents (g.O.Sink.writing c.args.out.now) (g.O.Sink.writing c.answer.new.out)) (sym c.in-Some.ensures.form)
-    (c.answer.ensures.begun contents told)
+    subst (λ (words : List (List ℕ)). OutputStarted words contents (g.O.Sink.writing c.args.out.now) (g.O.Sink.writing c.answer.new.out)) (sym c.in-Some.ensures.form)
+    (c.answer.ensures.started contents told)
 
 pub returns-in-Err-clause-text : goal.returns-in-Err-clause-text
 returns-in-Err-clause-text g c = λ contents told.

@@ -2,16 +2,16 @@ use Rattle.std.proofs.Common.{inr, length, refl}
 use Rattle.std.proofs.lemmas.Result.{on_ok_weaker}
 use Rattle.bsv_flow.proofs.Sourced.{rest_chosen}
 use Rattle.bsv_top.specs.Running.{its_outlines}
-use Rattle.bsv_top.proofs.Opened.{followed, nothing_begun, opened, opened_at, opening_begun}
+use Rattle.bsv_top.proofs.Opened.{followed, nothing_started, opened, opened_at, opening_started}
 use Rattle.bsv_top.proofs.simulation.put_report.Goals as goal
 
-pub returns-in-Err-clause-begun : goal.returns-in-Err-clause-begun
-returns-in-Err-clause-begun g c = λ contents told.
-    nothing_begun c.args.compiled.now (g.O.Sink.writing c.args.out.now) (g.O.Sink.writing c.args.out.now) (contents c.args.name) refl
+pub returns-in-Err-clause-started : goal.returns-in-Err-clause-started
+returns-in-Err-clause-started g c = λ contents told.
+    nothing_started c.args.compiled.now (g.O.Sink.writing c.args.out.now) (g.O.Sink.writing c.args.out.now) (contents c.args.name) refl
 
-pub returns-in_err-write_opening-clause-begun : goal.returns-in_err-write_opening-clause-begun
-returns-in_err-write_opening-clause-begun g c = λ contents told.
-    opening_begun c.args.compiled.now (g.O.Sink.writing c.args.out.now) (g.O.Sink.writing c.write_opening.new.sink) (contents c.args.name) c.args.run.now.state.parts.items
+pub returns-in_err-write_opening-clause-started : goal.returns-in_err-write_opening-clause-started
+returns-in_err-write_opening-clause-started g c = λ contents told.
+    opening_started c.args.compiled.now (g.O.Sink.writing c.args.out.now) (g.O.Sink.writing c.write_opening.new.sink) (contents c.args.name) c.args.run.now.state.parts.items
     (opened_at c.args.compiled.now (g.O.Sink.writing c.args.out.now) (g.O.Sink.writing c.args.out.now) c.args.run.now c.requires.start) c.write_opening.ensures.prefix
 
 pub returns-clause-done : goal.returns-clause-done
@@ -28,9 +28,9 @@ returns-clause-bad g c = λ h contents told.
     (opened c.args.compiled.now (g.O.Sink.writing c.args.out.now) (g.O.Sink.writing c.write_opening.new.sink) c.args.run.now c.requires.start c.in_ok-write_opening.ensures.ok)
     (rest_chosen (g.F.Files.reading c.args.files.now) (g.F.Files.reading c.choose.new.self) c.args.name c.args.name contents c.in_default.ensures.ok refl told)
 
-pub returns-clause-begun : goal.returns-clause-begun
-returns-clause-begun g c = λ contents told.
-    c.run_trace.ensures.begun (g.O.Sink.writing c.args.out.now) (contents c.args.name)
+pub returns-clause-started : goal.returns-clause-started
+returns-clause-started g c = λ contents told.
+    c.run_trace.ensures.started (g.O.Sink.writing c.args.out.now) (contents c.args.name)
     (opened c.args.compiled.now (g.O.Sink.writing c.args.out.now) (g.O.Sink.writing c.write_opening.new.sink) c.args.run.now c.requires.start c.in_ok-write_opening.ensures.ok)
     (rest_chosen (g.F.Files.reading c.args.files.now) (g.F.Files.reading c.choose.new.self) c.args.name c.args.name contents c.in_default.ensures.ok refl told)
 

@@ -2,36 +2,36 @@ use Rattle.std.proofs.Common.{◌≡◌, ◌∙◌, ℕ, ◌+◌, List, length, 
 use Rattle.bsv_lemmas.proofs.Choices.{same_err}
 use Rattle.bsv_top.specs.declared.halt.Halt.TheVariants as halt
 use Rattle.bsv_top.specs.Places.{piece_limit}
-use Rattle.bsv_top.specs.Running.{IsBegunOf, IsDoneOf, IsFaultyOf, its_outlines}
+use Rattle.bsv_top.specs.Running.{IsStartedOf, IsDoneOf, IsFaultyOf, its_outlines}
 use Rattle.bsv_top.proofs.Halted.{halted_bad, halted_read, halted_refused, halted_unread, halted_unwritable, halted_written, not_unreadable}
-use Rattle.bsv_top.proofs.Opened.{followed_trace, follows, nothing_begun}
+use Rattle.bsv_top.proofs.Opened.{followed_trace, follows, nothing_started}
 use Rattle.bsv_top.proofs.simulation.run_over.Goals as goal
 
-pub returns-in_err-run-clause-begun : goal.returns-in_err-run-clause-begun
-returns-in_err-run-clause-begun g c = λ contents told.
-    nothing_begun c.args.compiled.now (g.O.Sink.writing c.args.out.now) (g.O.Sink.writing c.args.out.now) (contents c.args.trace.now) refl
+pub returns-in_err-run-clause-started : goal.returns-in_err-run-clause-started
+returns-in_err-run-clause-started g c = λ contents told.
+    nothing_started c.args.compiled.now (g.O.Sink.writing c.args.out.now) (g.O.Sink.writing c.args.out.now) (contents c.args.trace.now) refl
 
-pub returns-in_err-buffer-clause-begun : goal.returns-in_err-buffer-clause-begun
-returns-in_err-buffer-clause-begun g c = λ contents told.
-    nothing_begun c.args.compiled.now (g.O.Sink.writing c.args.out.now) (g.O.Sink.writing c.args.out.now) (contents c.args.trace.now) refl
+pub returns-in_err-buffer-clause-started : goal.returns-in_err-buffer-clause-started
+returns-in_err-buffer-clause-started g c = λ contents told.
+    nothing_started c.args.compiled.now (g.O.Sink.writing c.args.out.now) (g.O.Sink.writing c.args.out.now) (contents c.args.trace.now) refl
 
-pub returns-in_err-name-clause-begun : goal.returns-in_err-name-clause-begun
-returns-in_err-name-clause-begun g c = λ contents told.
-    nothing_begun c.args.compiled.now (g.O.Sink.writing c.args.out.now) (g.O.Sink.writing c.args.out.now) (contents c.args.trace.now) refl
+pub returns-in_err-name-clause-started : goal.returns-in_err-name-clause-started
+returns-in_err-name-clause-started g c = λ contents told.
+    nothing_started c.args.compiled.now (g.O.Sink.writing c.args.out.now) (g.O.Sink.writing c.args.out.now) (contents c.args.trace.now) refl
 
-pub returns-in_err-blamed-clause-begun : goal.returns-in_err-blamed-clause-begun
-returns-in_err-blamed-clause-begun g c = λ contents told.
-    nothing_begun c.args.compiled.now (g.O.Sink.writing c.args.out.now) (g.O.Sink.writing c.args.out.now) (contents c.args.trace.now) refl
+pub returns-in_err-blamed-clause-started : goal.returns-in_err-blamed-clause-started
+returns-in_err-blamed-clause-started g c = λ contents told.
+    nothing_started c.args.compiled.now (g.O.Sink.writing c.args.out.now) (g.O.Sink.writing c.args.out.now) (contents c.args.trace.now) refl
 
 pub returns-in-Ok-clause-done : goal.returns-in-Ok-clause-done
 returns-in-Ok-clause-done g c = λ contents told.
     subst (λ (name : List ℕ). IsDoneOf c.args.compiled.now (g.O.Sink.writing c.args.out.now) (contents name) (g.O.Sink.writing c.put_report.new.out)) (c.in_ok-name.ensures ∙ c.as_bytes.ensures.value)
     (c.in-Ok.ensures.done contents told)
 
-pub returns-in-Ok-clause-begun : goal.returns-in-Ok-clause-begun
-returns-in-Ok-clause-begun g c = λ contents told.
-    subst (λ (name : List ℕ). IsBegunOf c.args.compiled.now (g.O.Sink.writing c.args.out.now) (contents name) (g.O.Sink.writing c.put_report.new.out)) (c.in_ok-name.ensures ∙ c.as_bytes.ensures.value)
-    (c.in-Ok.ensures.begun contents told)
+pub returns-in-Ok-clause-started : goal.returns-in-Ok-clause-started
+returns-in-Ok-clause-started g c = λ contents told.
+    subst (λ (name : List ℕ). IsStartedOf c.args.compiled.now (g.O.Sink.writing c.args.out.now) (contents name) (g.O.Sink.writing c.put_report.new.out)) (c.in_ok-name.ensures ∙ c.as_bytes.ensures.value)
+    (c.in-Ok.ensures.started contents told)
 
 pub returns-in-Ok-clause-done_within : goal.returns-in-Ok-clause-done_within
 returns-in-Ok-clause-done_within g c = λ contents told.
@@ -46,10 +46,10 @@ returns-clause-bad g c = λ number h contents told.
     (subst (λ (name : List ℕ). IsFaultyOf c.args.compiled.now (g.O.Sink.writing c.args.out.now) (contents name) (g.O.Sink.writing c.put_report.new.out) (c.put_report.new.run.lines.done + 1)) (c.in_ok-name.ensures ∙ c.as_bytes.ensures.value)
     (c.in-Err.ensures.bad (ap Err why.0) contents told))
 
-pub returns-clause-begun : goal.returns-clause-begun
-returns-clause-begun g c = λ contents told.
-    subst (λ (name : List ℕ). IsBegunOf c.args.compiled.now (g.O.Sink.writing c.args.out.now) (contents name) (g.O.Sink.writing c.put_report.new.out)) (c.in_ok-name.ensures ∙ c.as_bytes.ensures.value)
-    (c.in-Err.ensures.begun contents told)
+pub returns-clause-started : goal.returns-clause-started
+returns-clause-started g c = λ contents told.
+    subst (λ (name : List ℕ). IsStartedOf c.args.compiled.now (g.O.Sink.writing c.args.out.now) (contents name) (g.O.Sink.writing c.put_report.new.out)) (c.in_ok-name.ensures ∙ c.as_bytes.ensures.value)
+    (c.in-Err.ensures.started contents told)
 
 pub returns-clause-own : goal.returns-clause-own
 returns-clause-own g c = λ r h. halted_refused c.stop_for.result c.in-Err.halt c.in_ok-blamed.blamed (c.put_report.new.run.lines.done + 1) c.stop_for.ensures r h

@@ -7,7 +7,7 @@ use Rattle.bsv_flow.proofs.Planned.{compiled_planned}
 use Rattle.bsv_top.specs.declared.stop.Stop.TheVariants as stop
 use Rattle.bsv_top.specs.Answers.{Asks, sim_words}
 use Rattle.bsv_top.specs.Outcomes as o
-use Rattle.bsv_top.proofs.Simulated.{run_within, simulated_begun, simulated_done, simulated_stop, trace_within}
+use Rattle.bsv_top.proofs.Simulated.{run_within, simulated_started, simulated_done, simulated_stop, trace_within}
 use Rattle.bsv_top.proofs.Stopped.{fault_stops, fault_unread}
 use Rattle.bsv_top.proofs.simulation.simulate.Goals as goal
 
@@ -44,10 +44,10 @@ returns-clause-stopped g c = λ s h contents told.
     (λ number e. c.run_over.ensures.bad number (h ∙ ap Err e) contents (c.in_ok-compiled.ensures.contents ∙ told))
     (λ r e. c.run_over.ensures.own r (h ∙ ap Err e)) (λ name e. (c.run_over.ensures.unread name (h ∙ ap Err e)).0)
 
-pub returns-clause-begun : goal.returns-clause-begun
-returns-clause-begun g c = λ contents told.
-    simulated_begun c.args.form.file.now contents c.args.form.top.now c.args.form.trace.now c.in_ok-compiled.compiled (c.in_ok-compiled.ensures.compiled contents told)
-    (g.O.Sink.writing c.args.out.now) (g.O.Sink.writing c.run_over.new.out) (c.run_over.ensures.begun contents (c.in_ok-compiled.ensures.contents ∙ told))
+pub returns-clause-started : goal.returns-clause-started
+returns-clause-started g c = λ contents told.
+    simulated_started c.args.form.file.now contents c.args.form.top.now c.args.form.trace.now c.in_ok-compiled.compiled (c.in_ok-compiled.ensures.compiled contents told)
+    (g.O.Sink.writing c.args.out.now) (g.O.Sink.writing c.run_over.new.out) (c.run_over.ensures.started contents (c.in_ok-compiled.ensures.contents ∙ told))
 
 pub returns-clause-unread : goal.returns-clause-unread
 returns-clause-unread g c = λ name h.

@@ -1,5 +1,5 @@
 use Rattle.std.proofs.Common.{◌≡◌, drop, map}
-use Rattle.bsv_design.specs.Schemes.{outline}
+use Rattle.bsv_design.specs.scheme.Schemes.{outline}
 use Rattle.bsv_trace.specs.Reading as spec
 use Rattle.bsv_trace.proofs.call.method_named.Given as goal
 

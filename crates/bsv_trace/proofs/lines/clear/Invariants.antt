@@ -1,6 +1,6 @@
 use Rattle.std.proofs.Common.{◌≡◌, false, map}
-use Rattle.bsv_design.specs.Schemes.{outline}
-use Rattle.bsv_design.specs.States.{zeros}
+use Rattle.bsv_design.specs.scheme.Schemes.{outline}
+use Rattle.bsv_design.specs.scheme.States.{zeros}
 use Rattle.bsv_trace.proofs.Filling.{filled}
 use Rattle.bsv_trace.proofs.lines.clear.Given as goal
 

@@ -1,5 +1,5 @@
 use Rattle.std.proofs.Common.{◌≡◌}
-use Rattle.bsv_design.specs.States.{zeros}
+use Rattle.bsv_design.specs.scheme.States.{zeros}
 use Rattle.bsv_trace.proofs.Filling.{filled}
 use Rattle.bsv_trace.proofs.lines.clear_words.Given as goal
 

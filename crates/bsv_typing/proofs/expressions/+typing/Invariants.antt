@@ -127,11 +127,11 @@ decreases-postfix l = 16 * max (expr_depth l.primary.now) (greatest (map suffix_
 abbrev pub decreases-behind : goal.decreases-behind
 decreases-behind l = 16 * suffix_depth l.suffix.now + 1
 
-abbrev pub decreases-method_behind : goal.decreases-method_behind
-decreases-method_behind l = 16 * deepest l.given.now + 2
+abbrev pub decreases-method_after : goal.decreases-method_after
+decreases-method_after l = 16 * deepest l.given.now + 2
 
-abbrev pub decreases-index_behind : goal.decreases-index_behind
-decreases-index_behind l = 16 * expr_depth l.place.now + 2
+abbrev pub decreases-index_after : goal.decreases-index_after
+decreases-index_after l = 16 * expr_depth l.place.now + 2
 
 abbrev pub decreases-bit_of : goal.decreases-bit_of
 decreases-bit_of l = 16 * expr_depth l.place.now + 1
@@ -186,7 +186,7 @@ decreases-postfix-loop-suffix l = length l.rest
 
 abbrev pub invariant-postfix-loop-suffix : goal.invariant-postfix-loop-suffix
 invariant-postfix-loop-suffix l = record {
-  same : table.all_behind (suffixes_seen l.context l.variables l.rest) (front_of l.found) ≡ table.all_behind (suffixes_seen l.context l.variables l.suffixes) (front_of l.initial.found);
+  same : table.all_after (suffixes_seen l.context l.variables l.rest) (front_of l.found) ≡ table.all_after (suffixes_seen l.context l.variables l.suffixes) (front_of l.initial.found);
   within : greatest (map suffix_depth l.rest) ≤ greatest (map suffix_depth l.suffixes);
 }
 

@@ -1,7 +1,7 @@
 use Rattle.std.proofs.Common.{◌≡◌, ◌∙◌}
-use Rattle.bsv_design.specs.Seen.{blueprint}
-use Rattle.bsv_net.specs.AtHand.{circuit}
-use Rattle.bsv_vtext.specs.AtHand.{contents}
+use Rattle.bsv_design.specs.tree.Seen.{design_data}
+use Rattle.bsv_net.specs.AtHand.{net_data}
+use Rattle.bsv_vtext.specs.AtHand.{module_data}
 use Rattle.bsv_vgen.specs.AtHand as hand
 use Rattle.bsv_vgen.specs.Modules.{module_of}
 use Rattle.bsv_vgen.proofs.Promise.{is_module, is_its_module, carries_too, runs_too, begins, resets_too}
@@ -15,35 +15,35 @@ new-requires c =
 
 pub returns-clause-module : goal.returns-clause-module
 returns-clause-module c =
-    let is : contents c.new.result ≡ module_of (blueprint c.args.design.now) (circuit c.args.net.now) =
-    same_contents (contents c.new.result) (hand.parts c.in_ok-name.field-0) c.new.ensures.name c.new.ensures.methods c.new.ensures.registers c.new.ensures.wires c.new.ensures.assigns c.new.ensures.nexts
+    let is : module_data c.new.result ≡ module_of (design_data c.args.design.now) (net_data c.args.net.now) =
+    same_contents (module_data c.new.result) (hand.parts c.in_ok-name.field-0) c.new.ensures.name c.new.ensures.methods c.new.ensures.registers c.new.ensures.wires c.new.ensures.assigns c.new.ensures.nexts
     ∙ c.in_ok-name.ensures.parts in
-    is_its_module c.args.design.now c.args.net.now (contents c.new.result) is c.requires.registers c.requires.inputs
+    is_its_module c.args.design.now c.args.net.now (module_data c.new.result) is c.requires.registers c.requires.inputs
 
 pub returns-clause-carries : goal.returns-clause-carries
 returns-clause-carries c =
-    let is : contents c.new.result ≡ module_of (blueprint c.args.design.now) (circuit c.args.net.now) =
-    same_contents (contents c.new.result) (hand.parts c.in_ok-name.field-0) c.new.ensures.name c.new.ensures.methods c.new.ensures.registers c.new.ensures.wires c.new.ensures.assigns c.new.ensures.nexts
+    let is : module_data c.new.result ≡ module_of (design_data c.args.design.now) (net_data c.args.net.now) =
+    same_contents (module_data c.new.result) (hand.parts c.in_ok-name.field-0) c.new.ensures.name c.new.ensures.methods c.new.ensures.registers c.new.ensures.wires c.new.ensures.assigns c.new.ensures.nexts
     ∙ c.in_ok-name.ensures.parts in
-    carries_too c.args.design.now c.args.net.now (contents c.new.result) is c.requires.registers c.requires.inputs
+    carries_too c.args.design.now c.args.net.now (module_data c.new.result) is c.requires.registers c.requires.inputs
 
 pub returns-clause-runs : goal.returns-clause-runs
 returns-clause-runs c =
-    let is : contents c.new.result ≡ module_of (blueprint c.args.design.now) (circuit c.args.net.now) =
-    same_contents (contents c.new.result) (hand.parts c.in_ok-name.field-0) c.new.ensures.name c.new.ensures.methods c.new.ensures.registers c.new.ensures.wires c.new.ensures.assigns c.new.ensures.nexts
+    let is : module_data c.new.result ≡ module_of (design_data c.args.design.now) (net_data c.args.net.now) =
+    same_contents (module_data c.new.result) (hand.parts c.in_ok-name.field-0) c.new.ensures.name c.new.ensures.methods c.new.ensures.registers c.new.ensures.wires c.new.ensures.assigns c.new.ensures.nexts
     ∙ c.in_ok-name.ensures.parts in
-    runs_too c.args.design.now c.args.net.now (contents c.new.result) is c.requires.registers c.requires.inputs c.new.result.right
+    runs_too c.args.design.now c.args.net.now (module_data c.new.result) is c.requires.registers c.requires.inputs c.new.result.right
 
 pub returns-clause-begins : goal.returns-clause-begins
 returns-clause-begins c =
-    let is : contents c.new.result ≡ module_of (blueprint c.args.design.now) (circuit c.args.net.now) =
-    same_contents (contents c.new.result) (hand.parts c.in_ok-name.field-0) c.new.ensures.name c.new.ensures.methods c.new.ensures.registers c.new.ensures.wires c.new.ensures.assigns c.new.ensures.nexts
+    let is : module_data c.new.result ≡ module_of (design_data c.args.design.now) (net_data c.args.net.now) =
+    same_contents (module_data c.new.result) (hand.parts c.in_ok-name.field-0) c.new.ensures.name c.new.ensures.methods c.new.ensures.registers c.new.ensures.wires c.new.ensures.assigns c.new.ensures.nexts
     ∙ c.in_ok-name.ensures.parts in
-    begins c.args.design.now c.args.net.now (contents c.new.result) is c.requires.registers c.requires.inputs
+    begins c.args.design.now c.args.net.now (module_data c.new.result) is c.requires.registers c.requires.inputs
 
 pub returns-clause-resets : goal.returns-clause-resets
 returns-clause-resets c =
-    let is : contents c.new.result ≡ module_of (blueprint c.args.design.now) (circuit c.args.net.now) =
-    same_contents (contents c.new.result) (hand.parts c.in_ok-name.field-0) c.new.ensures.name c.new.ensures.methods c.new.ensures.registers c.new.ensures.wires c.new.ensures.assigns c.new.ensures.nexts
+    let is : module_data c.new.result ≡ module_of (design_data c.args.design.now) (net_data c.args.net.now) =
+    same_contents (module_data c.new.result) (hand.parts c.in_ok-name.field-0) c.new.ensures.name c.new.ensures.methods c.new.ensures.registers c.new.ensures.wires c.new.ensures.assigns c.new.ensures.nexts
     ∙ c.in_ok-name.ensures.parts in
-    resets_too c.args.design.now c.args.net.now (contents c.new.result) is c.requires.registers c.requires.inputs
+    resets_too c.args.design.now c.args.net.now (module_data c.new.result) is c.requires.registers c.requires.inputs

@@ -1,5 +1,5 @@
 use Rattle.std.proofs.Common.{◌≡◌, ◌++◌, ◌≤◌, length, take, drop, ◌-◌}
-use Rattle.bsv_design.specs.States.{methods_in}
+use Rattle.bsv_design.specs.scheme.States.{methods_in}
 use Rattle.bsv_vgen.proofs.ports.methods_in.Given as goal
 
 abbrev pub invariant-loop-count : goal.invariant-loop-count

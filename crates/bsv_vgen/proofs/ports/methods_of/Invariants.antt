@@ -1,10 +1,10 @@
 use Rattle.std.proofs.Common.{◌≡◌, ◌++◌, length}
-use Rattle.bsv_net.specs.AtHand.{circuit}
+use Rattle.bsv_net.specs.AtHand.{net_data}
 use Rattle.bsv_vgen.specs.Modules.{methods_from}
 use Rattle.bsv_vgen.proofs.ports.methods_of.Given as goal
 
 abbrev pub invariant-loop-method : goal.invariant-loop-method
-invariant-loop-method l = l.made ++ methods_from l.known (circuit l.net) l.number l.rest ≡ methods_from l.known (circuit l.net) 0 l.methods
+invariant-loop-method l = l.made ++ methods_from l.known (net_data l.net) l.number l.rest ≡ methods_from l.known (net_data l.net) 0 l.methods
 
 abbrev pub decreases-loop-method : goal.decreases-loop-method
 decreases-loop-method l = length l.rest

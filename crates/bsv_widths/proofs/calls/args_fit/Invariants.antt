@@ -1,6 +1,6 @@
 use Rattle.std.proofs.Common.{◌≡◌, length, ◌≤◌}
-use Rattle.bsv_design.specs.Kinds.{kind_table}
-use Rattle.bsv_design.specs.Widths.{args_fit}
+use Rattle.bsv_design.specs.tree.Kinds.{kind_table}
+use Rattle.bsv_design.specs.design.Widths.{args_fit}
 use Rattle.bsv_widths.proofs.calls.args_fit.Given as goal
 
 abbrev pub decreases-loop-node : goal.decreases-loop-node

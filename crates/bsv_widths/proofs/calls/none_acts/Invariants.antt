@@ -1,6 +1,6 @@
 use Rattle.std.proofs.Common.{◌≡◌, length, map}
 use Rattle.std.specs.List.{list_all}
-use Rattle.bsv_design.specs.Widths.{acts_not}
+use Rattle.bsv_design.specs.design.Widths.{acts_not}
 use Rattle.bsv_widths.proofs.calls.none_acts.Given as goal
 
 abbrev pub decreases-loop-call : goal.decreases-loop-call

@@ -1,6 +1,6 @@
 use Rattle.std.proofs.Common.{◌≡◌, length}
 use Rattle.std.specs.List.{list_all}
-use Rattle.bsv_design.specs.Widths.{condition_fits}
+use Rattle.bsv_design.specs.design.Widths.{condition_fits}
 use Rattle.bsv_widths.proofs.elements.conditions_fit.Given as goal
 
 abbrev pub decreases-loop-condition : goal.decreases-loop-condition

@@ -1,6 +1,6 @@
 use Rattle.std.proofs.Common.{◌≡◌, length}
 use Rattle.std.specs.List.{list_all}
-use Rattle.bsv_design.specs.Widths.{port_fits}
+use Rattle.bsv_design.specs.design.Widths.{port_fits}
 use Rattle.bsv_widths.proofs.elements.ports_fit.Given as goal
 
 abbrev pub decreases-loop-port : goal.decreases-loop-port

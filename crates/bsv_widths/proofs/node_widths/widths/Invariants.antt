@@ -1,5 +1,5 @@
 use Rattle.std.proofs.Common.{◌≡◌, length, [], map}
-use Rattle.bsv_design.specs.Widths.{widths_from}
+use Rattle.bsv_design.specs.design.Widths.{widths_from}
 use Rattle.bsv_widths.proofs.node_widths.widths.Given as goal
 
 abbrev pub decreases-loop-node : goal.decreases-loop-node

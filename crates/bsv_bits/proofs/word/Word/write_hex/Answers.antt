@@ -1,7 +1,7 @@
 use Rattle.std.proofs.Common.{◌∙◌, ap, length, arith, decimal}
 use Rattle.bsv_bits.specs.Constants.{constant_text}
 use Rattle.bsv_bits.proofs.ConstantTexts.{length-width_text, length-constant_text, constant_text_short}
-use Rattle.bsv_bits.proofs.Digits.{same_behind}
+use Rattle.bsv_bits.proofs.Digits.{same_after}
 use Rattle.bsv_bits.proofs.word.Word.write_hex.Goals as goal
 
 pub put_digits-requires : goal.put_digits-requires
@@ -30,6 +30,6 @@ returns-clause-short c =
 pub returns-clause-rest : goal.returns-clause-rest
 returns-clause-rest c =
     c.put_digits.ensures.rest
-    ∙ same_behind c.put-digits.new.out c.args.out.now c.put-digits.result c.put_digits.result
-    (c.put-digits.ensures.rest ∙ same_behind c.put-base.new.out c.args.out.now c.put-base.result c.put-digits.result c.put-base.ensures.rest (omega arith))
+    ∙ same_after c.put-digits.new.out c.args.out.now c.put-digits.result c.put_digits.result
+    (c.put-digits.ensures.rest ∙ same_after c.put-base.new.out c.args.out.now c.put-base.result c.put-digits.result c.put-base.ensures.rest (omega arith))
     (omega arith)

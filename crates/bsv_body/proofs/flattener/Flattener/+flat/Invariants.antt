@@ -49,8 +49,8 @@ decreases-heads l = 16 * arms_size l.arms.now + 3
 abbrev pub decreases-last : goal.decreases-last
 decreases-last l = 16 * steps_size (out-Choice l.choice.now).last + 3
 
-abbrev pub decreases-last_behind : goal.decreases-last_behind
-decreases-last_behind l = 16 * steps_size (out-Choice l.choice.now).last + 4
+abbrev pub decreases-last_after : goal.decreases-last_after
+decreases-last_after l = 16 * steps_size (out-Choice l.choice.now).last + 4
 
 abbrev pub decreases-nests : goal.decreases-nests
 decreases-nests l = 16 * arms_size l.arms.now + 3
@@ -71,7 +71,7 @@ decreases-steps-loop-step l = length l.rest
 
 abbrev pub invariant-steps-loop-step : goal.invariant-steps-loop-step
 invariant-steps-loop-step l = record {
-  same : spec.steps l.self l.list l.fn.state ≡ flat.in_turn_from l.asked (map flat.flat l.rest) (spec.spot l.self) l.state;
+  same : spec.steps l.self l.list l.fn.state ≡ flat.in_turn_from l.asked (map flat.flat l.rest) (spec.position l.self) l.state;
   within : steps_size l.rest ≤ steps_size l.list;
 }
 
@@ -80,7 +80,7 @@ decreases-heads-loop-arm l = length l.rest
 
 abbrev pub invariant-heads-loop-arm : goal.invariant-heads-loop-arm
 invariant-heads-loop-arm l = record {
-  same : spec.heads l.self l.choice l.arms l.fn.state ≡ flat.heads_from l.choice l.heads (map flat.alternative l.rest) (spec.spot l.self) l.left l.state;
+  same : spec.heads l.self l.choice l.arms l.fn.state ≡ flat.heads_from l.choice l.heads (map flat.alternative l.rest) (spec.position l.self) l.left l.state;
   within : arms_size l.rest ≤ arms_size l.arms;
 }
 
@@ -89,6 +89,6 @@ decreases-nests-loop-arm l = length l.rest
 
 abbrev pub invariant-nests-loop-arm : goal.invariant-nests-loop-arm
 invariant-nests-loop-arm l = record {
-  same : flat.nest_from [] (map flat.alternative l.arms) (spec.spot l.self) l.fn.state ≡ flat.nest_from l.heads (map flat.alternative l.rest) (record { taken = l.taken; branches = l.branches }) l.state;
+  same : flat.nest_from [] (map flat.alternative l.arms) (spec.position l.self) l.fn.state ≡ flat.nest_from l.heads (map flat.alternative l.rest) (record { taken = l.taken; branches = l.branches }) l.state;
   within : arms_size l.rest ≤ arms_size l.arms;
 }

@@ -33,8 +33,8 @@ decreases-choice l = 8 * max (greatest (map branch_depth l.branches.now)) (or_ze
 abbrev pub decreases-repeat : goal.decreases-repeat
 decreases-repeat l = 8 * stmt_depth l.body.now + 1
 
-abbrev pub decreases-behind_labels : goal.decreases-behind_labels
-decreases-behind_labels l = 8 * case_depth l.case.now + 1
+abbrev pub decreases-after_labels : goal.decreases-after_labels
+decreases-after_labels l = 8 * case_depth l.case.now + 1
 
 abbrev pub decreases-cases : goal.decreases-cases
 decreases-cases l = 8 * greatest (map case_depth l.arms.now) + 2

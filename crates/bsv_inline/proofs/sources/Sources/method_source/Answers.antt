@@ -10,8 +10,8 @@ use Rattle.bsv_design.specs.declared.tree.Built.{Built}
 use Rattle.bsv_design.specs.declared.values.Fault.{Fault}
 use Rattle.bsv_design.specs.declared.values.Value.{Value}
 use Rattle.bsv_design.specs.declared.values.Work.{Work}
-use Rattle.bsv_design.specs.Carrying.{top_method}
-use Rattle.bsv_design.specs.Sources as sources
+use Rattle.bsv_design.specs.carrying.Carrying.{top_method}
+use Rattle.bsv_design.specs.tree.Sources as sources
 use Rattle.bsv_inline.specs.SourcesAtHand as at_hand
 use Rattle.bsv_inline.specs.declared.sources.Sources.{Sources}
 use Rattle.bsv_inline.proofs.sources.Sources.method_source.Goals as goal

@@ -3,14 +3,14 @@ use Rattle.std.specs.Prelude.{if◌then◌else◌, slice_get}
 use Rattle.std.proofs.lemmas.Bool.{le-ltb}
 use Rattle.std.proofs.lemmas.Result.{IfOk-weaker}
 use Rattle.bsv_design.specs.declared.source.Source.{Source}
-use Rattle.bsv_design.specs.Calls.{made_of}
-use Rattle.bsv_design.specs.Sources.{Standing, top_methods, top_source, rule_at, rule_source, source_at}
-use Rattle.bsv_design.specs.Trees.{Hierarchy}
+use Rattle.bsv_design.specs.carrying.Calls.{made_of}
+use Rattle.bsv_design.specs.tree.Sources.{Standing, top_methods, top_source, rule_at, rule_source, source_at}
+use Rattle.bsv_design.specs.tree.Trees.{TreeData}
 use Rattle.bsv_inline.specs.SourcesAtHand as at_hand
 use Rattle.bsv_inline.proofs.sources.Sources.source.Goals as goal
 
--- behind the methods of the top stand the rules
-behind : (h : Hierarchy) (n : ℕ) (r : Standing) (source : Option Source) → length (top_methods h) ≤ n → rule_at h.instances n ≡ Some r
+-- after the methods of the top stand the rules
+behind : (h : TreeData) (n : ℕ) (r : Standing) (source : Option Source) → length (top_methods h) ≤ n → rule_at h.instances n ≡ Some r
     → rule_source h (Some r) ≡ source → source_at h n ≡ source
 unfolding source_at
 behind h n r source past at is =

@@ -4,7 +4,7 @@ use Rattle.std.proofs.Math.ListN.{length-set}
 use Rattle.std.proofs.lemmas.List.{take_more_set}
 use Rattle.std.proofs.lemmas.Option.{slice_get_read}
 use Rattle.bsv_bits.specs.Words.{Bits}
-use Rattle.bsv_design.specs.Bodies.{at}
+use Rattle.bsv_design.specs.design.Bodies.{at}
 use Rattle.bsv_net.specs.declared.node.NetNode.{NetNode}
 use Rattle.bsv_net.specs.Equations.{computed}
 use Rattle.bsv_net.proofs.Evaluating.{words_none, net_word}

@@ -1,5 +1,5 @@
 use Rattle.std.proofs.Common.{◌≡◌, length, take}
-use Rattle.bsv_net.specs.Circuits.{words}
+use Rattle.bsv_net.specs.Nets.{words}
 use Rattle.bsv_net.proofs.net.Net.eval.Given as goal
 
 abbrev pub invariant-loop-place : goal.invariant-loop-place

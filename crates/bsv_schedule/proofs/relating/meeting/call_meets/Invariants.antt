@@ -1,6 +1,6 @@
 use Rattle.std.proofs.Common.{◌≡◌, map, drop}
 use Rattle.std.specs.List.{list_any}
-use Rattle.bsv_design.specs.Bodies.{target}
+use Rattle.bsv_design.specs.design.Bodies.{target}
 use Rattle.bsv_schedule.specs.relating.Related.{on_one_part}
 use Rattle.bsv_schedule.proofs.relating.meeting.call_meets.Given as goal
 

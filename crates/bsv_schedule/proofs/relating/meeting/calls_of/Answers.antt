@@ -1,9 +1,9 @@
 use Rattle.std.proofs.Common.{◌∙◌, map, sym, ap, subst, IsTrue}
 use Rattle.std.specs.List.{list_all}
-use Rattle.bsv_design.specs.Bodies.{target}
-use Rattle.bsv_design.specs.Schemes.{kinds_of}
-use Rattle.bsv_design.specs.Seen.{blueprint}
-use Rattle.bsv_design.specs.Widths.{call_named}
+use Rattle.bsv_design.specs.design.Bodies.{target}
+use Rattle.bsv_design.specs.scheme.Schemes.{kinds_of}
+use Rattle.bsv_design.specs.tree.Seen.{design_data}
+use Rattle.bsv_design.specs.design.Widths.{call_named}
 use Rattle.bsv_design.proofs.Named.{calls_named}
 use Rattle.bsv_schedule.proofs.DesignLemmas.{uses_some, uses_none}
 use Rattle.bsv_schedule.proofs.relating.meeting.calls_of.Goals as goal
@@ -14,7 +14,7 @@ returns-in-Some-clause-calls c =
 
 pub returns-in-Some-clause-named : goal.returns-in-Some-clause-named
 returns-in-Some-clause-named c =
-    subst (λ cs. IsTrue (list_all (call_named (kinds_of (blueprint c.args.design.now))) cs)) (sym c.as_slice.ensures)
+    subst (λ cs. IsTrue (list_all (call_named (kinds_of (design_data c.args.design.now))) cs)) (sym c.as_slice.ensures)
     (calls_named c.args.design.now c.args.element c.in-Some.element.now (sym c.in-Some.ensures.value))
 
 pub returns-in-None-clause-calls : goal.returns-in-None-clause-calls

@@ -1,7 +1,7 @@
 use Rattle.std.proofs.Common.{◌≡◌, ℕ, map, length, Some}
 use Rattle.std.specs.Prelude.{slice_get}
 use Rattle.bsv_design.specs.declared.element.Element.{Element}
-use Rattle.bsv_design.specs.Bodies.{target}
+use Rattle.bsv_design.specs.design.Bodies.{target}
 use Rattle.bsv_schedule.specs.declared.relating.usage.Usage.{Usage}
 use Rattle.bsv_schedule.specs.relating.Uses.{AllNamed, UseSame, used}
 use Rattle.bsv_schedule.proofs.relating.relations.usages.Given as goal

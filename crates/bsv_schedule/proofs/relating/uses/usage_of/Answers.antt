@@ -1,7 +1,7 @@
 use Rattle.std.proofs.Common.{◌≡◌, ◌∙◌, ◌+◌, ◌++◌, ◌∷◌, [], take, map, length, sym, ap, subst, arith}
 use Rattle.std.proofs.lemmas.List.{take_all, take_more, length-map}
-use Rattle.bsv_design.specs.Bodies.{target}
-use Rattle.bsv_design.specs.Widths.{call_named}
+use Rattle.bsv_design.specs.design.Bodies.{target}
+use Rattle.bsv_design.specs.design.Widths.{call_named}
 use Rattle.bsv_schedule.specs.relating.Uses.{UseSame, target_of}
 use Rattle.bsv_schedule.proofs.UsesLemmas.{noted_same, same_named, named_part, all_has, among_at}
 use Rattle.bsv_schedule.proofs.relating.uses.usage_of.Goals as goal

@@ -1,5 +1,5 @@
 use Rattle.std.proofs.Common.{◌≡◌, map, length, take, vec_len}
-use Rattle.bsv_design.specs.Bodies.{target}
+use Rattle.bsv_design.specs.design.Bodies.{target}
 use Rattle.bsv_schedule.specs.relating.Grouping.{AreGrouped}
 use Rattle.bsv_schedule.specs.relating.Uses.{UseSame, target_of}
 use Rattle.bsv_schedule.proofs.relating.uses.usage_of.Given as goal

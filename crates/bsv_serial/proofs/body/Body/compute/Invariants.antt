@@ -1,5 +1,5 @@
 use Rattle.std.proofs.Common.{◌≡◌, [], take}
-use Rattle.bsv_design.specs.Bodies.{values}
+use Rattle.bsv_design.specs.design.Bodies.{values}
 use Rattle.bsv_serial.specs.AtHand as hand
 use Rattle.bsv_serial.proofs.body.Body.compute.Given as goal
 

@@ -2,8 +2,8 @@ use Rattle.std.proofs.Common.{◌≡◌, ◌∙◌, map, sym, ap, subst}
 use Rattle.std.specs.Prelude.{slice_get}
 use Rattle.std.proofs.lemmas.Result.{IfOk-weaker}
 use Rattle.bsv_bits.specs.Words.{Bits}
-use Rattle.bsv_design.specs.Bodies.{Target, at, answer}
-use Rattle.bsv_design.specs.Schemes.{result_of}
+use Rattle.bsv_design.specs.design.Bodies.{Target, at, answer}
+use Rattle.bsv_design.specs.scheme.Schemes.{result_of}
 use Rattle.bsv_guard.specs.Fitting.{IsFitCall}
 use Rattle.bsv_serial.specs.AtHand as hand
 use Rattle.bsv_serial.proofs.Lists.{read_at}

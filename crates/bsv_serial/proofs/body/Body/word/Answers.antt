@@ -2,7 +2,7 @@ use Rattle.std.proofs.Common.{◌∙◌, ◌+◌, ◌<◌, ◌≤◌, sym, ap, a
 use Rattle.bsv_bits.specs.Operators.{operate}
 use Rattle.bsv_bits.specs.Signed.{word_sign_extend}
 use Rattle.bsv_bits.specs.Words.{Bits, word_slice, word_concat, word_extend}
-use Rattle.bsv_design.specs.Bodies.{at, node_word}
+use Rattle.bsv_design.specs.design.Bodies.{at, node_word}
 use Rattle.bsv_serial.specs.AtHand as hand
 use Rattle.bsv_serial.proofs.Operands.{two_same, two_is, slice_within, slice_is, join_within, join_is, extend_wider, extend_is, sign_wider, sign_is}
 use Rattle.bsv_serial.proofs.body.Body.word.Goals as goal

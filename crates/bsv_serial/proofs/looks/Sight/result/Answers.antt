@@ -1,7 +1,7 @@
 use Rattle.std.proofs.Common.{◌∙◌, sym, ap}
 use Rattle.bsv_prim.specs.declared.part.Part.{Part}
-use Rattle.bsv_design.specs.Kinds.{kind_table}
-use Rattle.bsv_serial.proofs.Looking.{behind_fits, unmoved}
+use Rattle.bsv_design.specs.tree.Kinds.{kind_table}
+use Rattle.bsv_serial.proofs.Looking.{after_fits, unmoved}
 use Rattle.bsv_serial.proofs.looks.Sight.result.Goals as goal
 
 pub returns-then-sees_none : goal.returns-then-sees_none
@@ -9,9 +9,9 @@ returns-then-sees_none c =
     let s = c.args.self in
     c.result.ensures
     ∙ ap (λ (p : Part). (kind_table s.kind.now).result c.args.method p c.args.args.now)
-    (sym (unmoved s.kind.now c.args.method s.plain.now s.made.now (sym c.sees_none.ensures ∙ c.if-sees_none.true)))
+    (sym (unmoved s.kind.now c.args.method s.plain.now s.calls_made.now (sym c.sees_none.ensures ∙ c.if-sees_none.true)))
 
 pub result-requires-2-clause-part : goal.result-requires-2-clause-part
 result-requires-2-clause-part c =
     let s = c.args.self in
-    behind_fits s.kind.now c.args.method s.plain.now _ s.made.now c.requires.look c.in_ok-part.ensures
+    after_fits s.kind.now c.args.method s.plain.now _ s.calls_made.now c.requires.look c.in_ok-part.ensures

@@ -2,7 +2,7 @@ use Rattle.std.proofs.Common.{◌+◌, ℕ, refl, ap, ◌∙◌}
 use Rattle.std.proofs.lemmas.Result.{on_ok_weaker}
 use Rattle.bsv_top.specs.declared.halt.Halt.TheVariants as halt
 use Rattle.bsv_top.specs.declared.lines.Lines.{Lines}
-use Rattle.bsv_top.proofs.Stepping.{at_fault, fails, over_ended, begun_here, ran_ended, bad_ended, stepped, stepped_ended}
+use Rattle.bsv_top.proofs.Stepping.{at_fault, fails, over_ended, started_here, ran_ended, bad_ended, stepped, stepped_ended}
 use Rattle.bsv_top.proofs.clocks.Run.run_ended.Goals as goal
 
 pub returns-in_err-gather-clause-bad : goal.returns-in_err-gather-clause-bad
@@ -10,9 +10,9 @@ returns-in_err-gather-clause-bad g c = λ _ start read left run.
     over_ended c.args.compiled.now start read c.args.self.now (g.O.Sink.writing c.args.out.now) run c.args.bytes.now left (c.gather.new.self.done + 1)
     c.requires.ended c.in_err-gather.ensures.over (ap (λ (n : ℕ). n + 1) c.in_err-gather.ensures.done)
 
-pub returns-in_err-gather-clause-begun : goal.returns-in_err-gather-clause-begun
-returns-in_err-gather-clause-begun g c = fails c.from_residual.result _ (λ start read left run.
-    begun_here c.args.compiled.now start read c.args.self.now (g.O.Sink.writing c.args.out.now) run c.args.bytes.now left)
+pub returns-in_err-gather-clause-started : goal.returns-in_err-gather-clause-started
+returns-in_err-gather-clause-started g c = fails c.from_residual.result _ (λ start read left run.
+    started_here c.args.compiled.now start read c.args.self.now (g.O.Sink.writing c.args.out.now) run c.args.bytes.now left)
 
 pub returns-clause-ran : goal.returns-clause-ran
 returns-clause-ran g c =
@@ -32,10 +32,10 @@ returns-clause-bad g c = λ h start read left run.
     (at_fault c.run_line.result halt.BadLine _ h c.run_line.ensures.quiet (λ e. let no_value : ⊥ = cc in no_value))
     (ap (λ (l : Lines). l.done + 1) same ∙ ap (λ (n : ℕ). n + 1) gathered.done)
 
-pub returns-clause-begun : goal.returns-clause-begun
-returns-clause-begun g c = fails c.run_line.result _ (λ start read left run.
+pub returns-clause-started : goal.returns-clause-started
+returns-clause-started g c = fails c.run_line.result _ (λ start read left run.
     let gathered = c.in_ok-gather.ensures in
     stepped_ended c.args.compiled.now start read c.args.self.now (g.O.Sink.writing c.args.out.now) run _ c.run_line.new.self refl
     gathered.at gathered.done c.args.bytes.now left (g.O.Sink.writing c.run_line.new.out) c.requires.ended gathered.gathered
     (stepped c.args.compiled.now _ c.run_line.new.self (g.O.Sink.writing c.args.out.now) (g.O.Sink.writing c.run_line.new.out) c.run_line.result
-    c.run_line.ensures.ran c.run_line.ensures.begun c.run_line.ensures.quiet))
+    c.run_line.ensures.ran c.run_line.ensures.started c.run_line.ensures.quiet))

@@ -1,5 +1,5 @@
 use Rattle.std.proofs.Common.{List, ℕ, ap, ◌∙◌, subst}
-use Rattle.bsv_design.specs.Seen.{asking}
+use Rattle.bsv_design.specs.tree.Seen.{asking}
 use Rattle.bsv_io.specs.Writing.{appended, AppendsPrefix}
 use Rattle.bsv_top.proofs.Named.{asks_here, asks_there, clock_same}
 use Rattle.bsv_top.proofs.clocks.Run.run_line.Goals as goal
@@ -8,8 +8,8 @@ pub returns-in_err-line-clause-bad : goal.returns-in_err-line-clause-bad
 returns-in_err-line-clause-bad g c = λ _ q asks.
     c.in_err-line.ensures.bad q (asks_there c.args.compiled.now.design c.text.result.now _ q c.text.ensures asks)
 
-pub returns-in_err-write_clock-clause-begun : goal.returns-in_err-write_clock-clause-begun
-returns-in_err-write_clock-clause-begun g c = λ _.
+pub returns-in_err-write_clock-clause-started : goal.returns-in_err-write_clock-clause-started
+returns-in_err-write_clock-clause-started g c = λ _.
     let d = c.args.compiled.now.design in
     record {
       ran = record {

@@ -1,8 +1,8 @@
 use Rattle.std.proofs.Common.{◌≡◌, ◌+◌, ℕ, List, [], ◌++◌, Err, refl, sym, ap, ◌∙◌, subst, append-nil, append_assoc, arith, length, length-append}
 use Rattle.std.proofs.lemmas.Result.{err_from_is_err_and}
 use Rattle.bsv_top.specs.declared.halt.Halt.TheVariants as halt
-use Rattle.bsv_top.specs.Running.{HasRun, IsBegunOf, IsFaultyOf}
-use Rattle.bsv_top.proofs.Stepping.{begun_here, cut, cut_rest, fails, gathered_more, over_begun}
+use Rattle.bsv_top.specs.Running.{HasRun, IsStartedOf, IsFaultyOf}
+use Rattle.bsv_top.proofs.Stepping.{started_here, cut, cut_rest, fails, gathered_more, over_started}
 use Rattle.bsv_top.proofs.clocks.Run.run_piece.Goals as goal
 
 pub returns-in_err-run_ended-clause-bad : goal.returns-in_err-run_ended-clause-bad
@@ -15,13 +15,13 @@ returns-in_err-run_ended-clause-bad g c = λ h start read left run.
     (cut read gone.0 c.in-Some.ended.now c.in-Some.behind.now c.args.piece.now c.loop-ended.left.now left gone.1 first.whole)
     (c.run_ended.ensures.bad e start (read ++ gone.0) (c.in-Some.behind.now ++ left) (gone.2 start read run))
 
-pub returns-in_err-run_ended-clause-begun : goal.returns-in_err-run_ended-clause-begun
-returns-in_err-run_ended-clause-begun g c = fails c.from_residual.result _ (λ start read left run.
+pub returns-in_err-run_ended-clause-started : goal.returns-in_err-run_ended-clause-started
+returns-in_err-run_ended-clause-started g c = fails c.from_residual.result _ (λ start read left run.
     let gone = c.loop-ended.invariant.gone in
     let first = c.in-Some.ensures.line in
-    subst (λ (t : List ℕ). IsBegunOf c.args.compiled.now start t (g.O.Sink.writing c.run_ended.new.out))
+    subst (λ (t : List ℕ). IsStartedOf c.args.compiled.now start t (g.O.Sink.writing c.run_ended.new.out))
     (cut read gone.0 c.in-Some.ended.now c.in-Some.behind.now c.args.piece.now c.loop-ended.left.now left gone.1 first.whole)
-    (c.in_err-run_ended.ensures.begun start (read ++ gone.0) (c.in-Some.behind.now ++ left) (gone.2 start read run)))
+    (c.in_err-run_ended.ensures.started start (read ++ gone.0) (c.in-Some.behind.now ++ left) (gone.2 start read run)))
 
 pub loop-ended-init : goal.loop-ended-init
 loop-ended-init g c = record {
@@ -60,15 +60,15 @@ returns-in_err-gather-clause-bad g c = λ h start read left run.
     let over = c.in_err-gather.ensures in
     subst (λ (t : List ℕ). IsFaultyOf c.args.compiled.now start (t ++ left) (g.O.Sink.writing c.loop-ended.out) (c.gather.new.self.done + 1))
     (cut_rest read gone.0 c.args.piece.now c.loop-ended.left.now gone.1)
-    (over_begun c.args.compiled.now start (read ++ gone.0) c.loop-ended.self (g.O.Sink.writing c.loop-ended.out) (gone.2 start read run) c.loop-ended.left.now left
+    (over_started c.args.compiled.now start (read ++ gone.0) c.loop-ended.self (g.O.Sink.writing c.loop-ended.out) (gone.2 start read run) c.loop-ended.left.now left
     (c.gather.new.self.done + 1) c.in_default.ensures.none over.over (ap (λ (n : ℕ). n + 1) over.done))
 
-pub returns-in_err-gather-clause-begun : goal.returns-in_err-gather-clause-begun
-returns-in_err-gather-clause-begun g c = fails c.from_residual-in_err-gather.result _ (λ start read left run.
+pub returns-in_err-gather-clause-started : goal.returns-in_err-gather-clause-started
+returns-in_err-gather-clause-started g c = fails c.from_residual-in_err-gather.result _ (λ start read left run.
     let gone = c.loop-ended.invariant.gone in
-    subst (λ (t : List ℕ). IsBegunOf c.args.compiled.now start (t ++ left) (g.O.Sink.writing c.loop-ended.out))
+    subst (λ (t : List ℕ). IsStartedOf c.args.compiled.now start (t ++ left) (g.O.Sink.writing c.loop-ended.out))
     (cut_rest read gone.0 c.args.piece.now c.loop-ended.left.now gone.1)
-    (begun_here c.args.compiled.now start (read ++ gone.0) c.loop-ended.self (g.O.Sink.writing c.loop-ended.out) (gone.2 start read run) c.loop-ended.left.now left))
+    (started_here c.args.compiled.now start (read ++ gone.0) c.loop-ended.self (g.O.Sink.writing c.loop-ended.out) (gone.2 start read run) c.loop-ended.left.now left))
 
 pub returns-clause-ran : goal.returns-clause-ran
 returns-clause-ran g c = λ start read run.

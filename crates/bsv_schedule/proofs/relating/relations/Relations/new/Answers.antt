@@ -1,8 +1,8 @@
 use Rattle.std.proofs.Common.{◌≡◌, ◌∙◌, map, length, sym, ap, subst, IsTrue}
 use Rattle.std.specs.List.{list_all, list_any}
 use Rattle.std.proofs.lemmas.List.{length-map}
-use Rattle.bsv_design.specs.Schemes.{design_scheme}
-use Rattle.bsv_design.specs.Seen.{blueprint}
+use Rattle.bsv_design.specs.scheme.Schemes.{design_scheme}
+use Rattle.bsv_design.specs.tree.Seen.{design_data}
 use Rattle.bsv_graph.specs.Edges.{AllBelow}
 use Rattle.bsv_schedule.specs.relating.Elements.{edges_of, is_ordering, is_urging, preempts}
 use Rattle.bsv_schedule.specs.relating.Relating.{Agrees}
@@ -48,7 +48,7 @@ invariant_of-result c =
 pub returns-clause-relating : goal.returns-clause-relating
 returns-clause-relating c =
     let d = c.args.design.now in
-    let S = design_scheme (blueprint d) in
+    let S = design_scheme (design_data d) in
     let kinds = ap (map (λ p. p.kind)) c.as_slice-parts.ensures in
     let n : c.len.result ≡ length d.elements = c.len.ensures ∙ (ap length c.in_ok-roles.ensures ∙ (length-map _ _ ∙ ap length c.as_slice-elements.ensures)) in
     let below : IsTrue (list_all (pair_below c.len.result) c.as_slice-pairs.result.now) = rw (n, c.as_slice-pairs.ensures) (pairs_below d) in

@@ -1,0 +1,36 @@
+use Rattle.std.proofs.Common.{◌≡◌, ◌<◌, length, arith, ◌∙◌}
+use Rattle.bsv_schedule.specs.relating.Relating.{feed_edges}
+use Rattle.bsv_schedule.specs.relating.Relations.{relating_of}
+use Rattle.bsv_graph.proofs.GraphLemmas.{graph_first}
+use Rattle.bsv_graph.proofs.WalkLemmas.{none_acyclic}
+use Rattle.bsv_schedule.proofs.UrgencyLemmas.{as_many}
+use Rattle.bsv_schedule.proofs.urgency_order.order.graph_of_urgency.Goals as goal
+
+pub cycle_at-requires : goal.cycle_at-requires
+cycle_at-requires c =
+    let p = c.urging.ensures.urging in
+    let l : c.in-Some.place < length c.urging.result.now = c.in-Some.ensures.within in
+    omega (arith, l, as_many c.args.pairs.now c.urging.result.now (p ∙ c.requires.pairs))
+
+pub returns-in-Some-clause-err : goal.returns-in-Some-clause-err
+returns-in-Some-clause-err c =
+    let r = relating_of c.args.relations.now in
+    let e : c.as_slice.result.now ≡ feed_edges r = c.as_slice.ensures ∙ c.in_ok-feeds.ensures.edges in
+    let m = graph_first c.in_ok-graph.graph c.join_all.new.self c.as_slice.result.now (feed_edges r) c.in_ok-graph.ensures.empty e c.join_all.ensures.gains in
+    let p = c.urging.ensures.urging in
+    let h = c.cycle_at.ensures in
+    rw h.2 (c.in-Some.place, rw p at (c.in-Some.ensures.some _ m), h.1)
+
+pub returns-in-None-clause-ok : goal.returns-in-None-clause-ok
+returns-in-None-clause-ok c =
+    let r = relating_of c.args.relations.now in
+    let e : c.as_slice.result.now ≡ feed_edges r = c.as_slice.ensures ∙ c.in_ok-feeds.ensures.edges in
+    let m = graph_first c.in_ok-graph.graph c.join_all.new.self c.as_slice.result.now (feed_edges r) c.in_ok-graph.ensures.empty e c.join_all.ensures.gains in
+    let p = c.urging.ensures.urging in
+    let n = rw p at (c.in-None.ensures.none _ m) in
+    record {
+      size = c.in-None.ensures.size ∙ (c.join_all.ensures.size ∙ (c.in_ok-graph.ensures.size ∙ c.count.ensures.count));
+      graph = rw p at (c.in-None.ensures.all _ m);
+      pairs = n;
+      urging = none_acyclic _ _ c.requires.feeds n;
+    }

@@ -1,0 +1,14 @@
+use Rattle.std.proofs.Common.{◌≡◌, ◌++◌, ◌+◌, ◌≤◌, length}
+use Rattle.std.specs.Prelude.{vec_len, vec_capacity}
+use Rattle.bsv_serial.specs.ToldEvents.{all_stopped}
+use Rattle.bsv_serial.proofs.told_events.tell_stopped.Given as goal
+
+abbrev pub invariant-loop-number : goal.invariant-loop-number
+invariant-loop-number l = record {
+  room : vec_len l.stopped + length l.rest ≤ vec_capacity l.stopped;
+  capacity : vec_capacity l.initial.stopped ≤ vec_capacity l.stopped;
+  tells : l.stopped.items ++ all_stopped l.fates l.rest ≡ all_stopped l.fates l.urgency;
+}
+
+abbrev pub decreases-loop-number : goal.decreases-loop-number
+decreases-loop-number l = length l.rest
