@@ -6,8 +6,8 @@ use crate::statements::Acted;
 use bsv_design::{Count, Local, Pending, Value, Work};
 use bsv_fail::Fail;
 use bsv_steps::{
-    Counted, Got, Locals, Valued, at_count, after_arm, close, either, is_static, is_true,
-    no_steps, or_false, untouched, with_pending,
+    Counted, Got, Locals, Valued, after_arm, at_count, close, either, is_static, is_true, no_steps,
+    or_false, untouched, with_pending,
 };
 use bsv_types::{CaseArm, Expr, Stmt};
 use sqlite_items::{Boxed, Items};

@@ -5,7 +5,7 @@ use crate::carrier::Carrier;
 use crate::statements::Acted;
 use bsv_design::{Count, Local, Pending, Value, Work};
 use bsv_steps::{
-    Counted, Got, Locals, at_count, after_arm, close, front, is_static, is_true, no_steps, slice,
+    Counted, Got, Locals, after_arm, at_count, close, front, is_static, is_true, no_steps, slice,
     untouched, with_pending, with_variable,
 };
 use bsv_types::{Branch, Condition, Stmt};

@@ -6,7 +6,7 @@ use crate::carrier::Carrier;
 use bsv_design::{Arm, Choice, Count, Local, Value, Work};
 use bsv_fail::Fail;
 use bsv_steps::{
-    Counted, Got, Valued, at_count, after_arm, counted, is_static, is_true, loosened, no_steps,
+    Counted, Got, Valued, after_arm, at_count, counted, is_static, is_true, loosened, no_steps,
     tick, value_choice, with_value_arm,
 };
 use bsv_types::{Expr, Op, Place, Ty};

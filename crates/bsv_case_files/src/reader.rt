@@ -1,4 +1,4 @@
-use crate::case::{Case, UnreadCase, Part};
+use crate::case::{Case, Part, UnreadCase};
 use crate::fault::Unread;
 use crate::row::{Frame, Row, words_of};
 use crate::section::{Head, Section, head_of};

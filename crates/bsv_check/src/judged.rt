@@ -14,8 +14,8 @@ use crate::judged_modules::{ModuleJudge, judge_body};
 use bsv_ast::{Function as WrittenFunction, Item, Module as WrittenModule, Package};
 use bsv_bits::{Name, OutOfMemory};
 use bsv_modules::{
-    Program, ModuleContext, State, asked, defines_all, function_heading, module_heading, no_methods,
-    param_scopes,
+    ModuleContext, Program, State, asked, defines_all, function_heading, module_heading,
+    no_methods, param_scopes,
 };
 use bsv_names::{Place, Reach, Untyped, Variables};
 use bsv_scopes::Space;

@@ -10,11 +10,11 @@ ghost use Rattle.bsv_design.specs.tree.Seen.{design_data};
 ghost use Rattle.bsv_fire.specs.Firing.{Fires};
 ghost use Rattle.bsv_net.specs.AtHand.{net_data};
 
-use crate::net_so_far::NetSoFar;
 use crate::builder::FireBuilder;
+use crate::net_so_far::NetSoFar;
 use bsv_bits::OutOfMemory;
 use bsv_design::{Design, Guards, Schedule};
-use bsv_net::{NetData, Net};
+use bsv_net::{Net, NetData};
 use bsv_ports::{
     all_call_sites, first_nodes, input_starts, inputs_of, register_starts, registers_of,
 };

@@ -5,8 +5,8 @@
 #![tactic(auto)]
 
 mod body;
-mod net_so_far;
-mod firing;
 mod builder;
+mod firing;
+mod net_so_far;
 
 pub use firing::add_fire;

@@ -15,7 +15,7 @@ use bsv_ast::{
     ModuleStmt as WrittenStmt, Span, WrittenType,
 };
 use bsv_bits::Name;
-use bsv_context::{TypedExpr, Slot, Variable, is_interface, is_lower, written_type};
+use bsv_context::{Slot, TypedExpr, Variable, is_interface, is_lower, written_type};
 use bsv_scopes::Scopes;
 use bsv_statements::{BodyFail, Task, assignable, at, checked, declare, declared_type, head};
 use bsv_types::{Boxed as TypedBox, Expr as Typed, Items, ModuleBranch, ModuleStmt, Ty};

@@ -12,7 +12,7 @@ ghost use Rattle.bsv_mux.specs.Nexts as spec;
 use crate::parts::Muxing;
 use bsv_bits::{OutOfMemory, Word};
 use bsv_design::{Design, NamedPart, Schedule};
-use bsv_net::{NetData, Net, NetNode, add, node_at};
+use bsv_net::{Net, NetData, NetNode, add, node_at};
 use bsv_ports::{CallSite, Firing, all_call_sites, register_starts};
 use sqlite_items::{Items, at};
 use std::alloc::Global;

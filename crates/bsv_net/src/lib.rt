@@ -8,14 +8,14 @@
 
 mod bodies;
 mod checks;
-mod net_data;
 mod net;
+mod net_data;
 mod node;
 mod nodes;
 mod wires;
 
-pub use net_data::NetData;
 pub use net::Net;
+pub use net_data::NetData;
 pub use node::{NetNode, Site};
 pub use nodes::{add, both, either, negated};
 pub use wires::{MethodPort, Wires, node_at};

@@ -8,11 +8,11 @@
 #![tactic(auto)]
 
 mod body;
+mod calls_made;
 mod clocks;
 mod decider;
 mod fates;
 mod looks;
-mod calls_made;
 mod making;
 mod outcome;
 mod parts;

@@ -10,8 +10,8 @@ ghost use Rattle.bsv_serial.specs.Settings as spec;
 ghost use Rattle.bsv_serial.specs.Sights.{or_none};
 
 use crate::body::{Body, value_of};
-use crate::looks::Looks;
 use crate::calls_made::MadeCalls;
+use crate::looks::Looks;
 use crate::making::make_calls;
 use bsv_bits::{OutOfMemory, Word};
 use bsv_design::{Design, Element, Guards, Need, Requests};

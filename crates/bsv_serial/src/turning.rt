@@ -47,6 +47,10 @@ pub fn turn(
     }
     setting.make_calls(element, 0, words.as_slice(), &mut calls_made)?;
     let value = setting.value(element, words.as_slice());
-    apply_all(design.parts.as_slice(), &mut state.parts, calls_made.as_slice());
+    apply_all(
+        design.parts.as_slice(),
+        &mut state.parts,
+        calls_made.as_slice(),
+    );
     Ok(Turn::Ran(value))
 }

@@ -9,7 +9,7 @@ ghost use Rattle.bsv_statements.specs.SeenBodies.{GivesAt, placed, task_of, call
 use crate::fail::BodyFail;
 use bsv_ast::{Call, DeclaredType, Expr, Place, Span};
 use bsv_bits::Name;
-use bsv_context::{Context, Fail, TypedExpr, Slot, Variable, method_named, written_type};
+use bsv_context::{Context, Fail, Slot, TypedExpr, Variable, method_named, written_type};
 use bsv_scopes::Scopes;
 use bsv_types::{Boxed, Expr as Typed, Items, MethodResult, Ty};
 use bsv_typing::{Instance, arguments, place_number, typing};

@@ -17,7 +17,7 @@ use bsv_ast::{
     Branch, Call, CaseArm, Condition, Declaration, DeclaredType, Expr, Head, Place, Span,
 };
 use bsv_bits::Name;
-use bsv_context::{TypedExpr, Slot, Variable, is_lower};
+use bsv_context::{Slot, TypedExpr, Variable, is_lower};
 use bsv_scopes::Scopes;
 use bsv_types::{
     Boxed, Condition as TypedCondition, Expr as TypedExpr, Head as TypedHead, Items, MethodResult,

@@ -1,5 +1,5 @@
 use bsv_bits::{Operator, Word};
-use bsv_net::{NetData, Net, NetNode};
+use bsv_net::{Net, NetData, NetNode};
 use bsv_prim::RegisterInfo;
 use sqlite_items::Items;
 use std::alloc::Global;

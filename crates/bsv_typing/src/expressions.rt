@@ -26,9 +26,9 @@ use crate::openness::{are_literals, are_open, is_open, literal, split_open};
 use bsv_ast::{Expr, FieldValue, Level, Operator, Suffix, UnaryOperator};
 use bsv_bits::Name;
 use bsv_context::{
-    Context, Fail, FunctionHeader, TypedExpr, Params, Variable, applied, applied_to_one, applied_to_two,
-    as_wanted, beside, called, chosen, has_family, is_amount, is_bit, is_number, method_named,
-    no_wider, one, with_suffix,
+    Context, Fail, FunctionHeader, Params, TypedExpr, Variable, applied, applied_to_one,
+    applied_to_two, as_wanted, beside, called, chosen, has_family, is_amount, is_bit, is_number,
+    method_named, no_wider, one, with_suffix,
 };
 use bsv_scopes::Scopes;
 use bsv_types::{Boxed, Expr as Typed, GivenFunction, Items, Op, Ty};

@@ -13,8 +13,8 @@ use crate::front::{Front, value_at};
 use bsv_ast::{Level, Literal, Operator};
 use bsv_bits::Name;
 use bsv_context::{
-    Context, Fail, TypedExpr, applied, applied_to_one, as_wanted, fits, fits_negated, is_below_power,
-    literal, one,
+    Context, Fail, TypedExpr, applied, applied_to_one, as_wanted, fits, fits_negated,
+    is_below_power, literal, one,
 };
 use bsv_types::{Boxed, Expr as Typed, Items, Op, Ty};
 use std::alloc::{AllocError, Global};
@@ -50,7 +50,12 @@ fn unsized_number(
 
 /// A number with a size.
 #[tactic(auto, unfolding(crate::specs::Forms::sized_case))]
-fn sized_number(alloc: Global, size: u32, number: u128, want: Option<&Ty>) -> Result<TypedExpr, Fail>
+fn sized_number(
+    alloc: Global,
+    size: u32,
+    number: u128,
+    want: Option<&Ty>,
+) -> Result<TypedExpr, Fail>
     ensures { Gives made result (spec.sized_case size number (expected want.entry)) }
 {
     match want {

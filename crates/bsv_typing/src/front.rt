@@ -12,7 +12,7 @@ ghost use Rattle.bsv_context.specs.Seen.{function_named};
 
 use bsv_bits::Name;
 use bsv_context::{
-    Context, Fail, FoundMethod, FunctionHeader, TypedExpr, Params, Slot, Variable, below, called,
+    Context, Fail, FoundMethod, FunctionHeader, Params, Slot, TypedExpr, Variable, below, called,
     capped, is_interface, method_named, with_suffix,
 };
 use bsv_scopes::Scopes;
@@ -218,7 +218,12 @@ pub(crate) fn field_named<'a>(context: &'a Context, ty: &Ty, name: &[u8]) -> Opt
 
 /// The field of the name of a typed expression.
 #[tactic(auto, unfolding(crate::specs::Places::field_of))]
-fn field_after(alloc: Global, context: &Context, name: &[u8], typed: TypedExpr) -> Result<Front, Fail>
+fn field_after(
+    alloc: Global,
+    context: &Context,
+    name: &[u8],
+    typed: TypedExpr,
+) -> Result<Front, Fail>
     ensures { Gives front_of result (spec.field_of (limits context.now) name.now (made typed)) }
 {
     let typed = Boxed::new(alloc, typed)?;
