@@ -12,7 +12,7 @@ use bsv_ast::{Branch, CaseArm, Expr, Head, Span, Stmt};
 use bsv_context::Variable;
 use bsv_scopes::Scopes;
 use bsv_types::{
-    Boxed, Branch as TypedBranch, CaseArm as TypedCaseArm, Expr as TypedExpr, Items, Stmt as Typed,
+    Boxed, Branch as TypedBranch, CaseArm as TypedCaseArm, Expr as ExprTree, Items, Stmt as Typed,
 };
 use std::alloc::Global;
 
@@ -250,7 +250,7 @@ fn cases(
     alloc: Global,
     task: &Task<'_>,
     scopes: &mut Scopes<Variable>,
-    labels: Vec<Items<TypedExpr>>,
+    labels: Vec<Items<ExprTree>>,
     arms: &[CaseArm],
 ) -> Result<Items<TypedCaseArm>, BodyFail>
     ensures { GivesAt (λ cs. (shown scopes.new, cs)) result

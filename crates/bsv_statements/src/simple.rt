@@ -20,7 +20,7 @@ use bsv_bits::Name;
 use bsv_context::{Slot, TypedExpr, Variable, is_lower};
 use bsv_scopes::Scopes;
 use bsv_types::{
-    Boxed, Condition as TypedCondition, Expr as TypedExpr, Head as TypedHead, Items, MethodResult,
+    Boxed, Condition as TypedCondition, Expr as ExprTree, Head as TypedHead, Items, MethodResult,
     PartTy, Place as TypedPlace, Stmt as Typed, Ty,
 };
 use bsv_typing::{Instance, payload};
@@ -316,7 +316,7 @@ fn step(
     scopes: &Scopes<Variable>,
     span: Span,
     given: &Head,
-) -> Result<(u32, TypedExpr), BodyFail>
+) -> Result<(u32, ExprTree), BodyFail>
     ensures { GivesAt (λ r. r) result (spec.step_of (task_of task.now)
         (shown scopes.now) span given.now) }
 {
@@ -334,7 +334,7 @@ fn turn(
     scopes: &Scopes<Variable>,
     span: Span,
     given: &Head,
-) -> Result<(TypedExpr, u32, TypedExpr), BodyFail>
+) -> Result<(ExprTree, u32, ExprTree), BodyFail>
     ensures { GivesAt (λ r. r) result (spec.turn_of (task_of task.now)
         (shown scopes.now) span given.now) }
 {
@@ -350,7 +350,7 @@ fn start(
     scopes: &mut Scopes<Variable>,
     span: Span,
     given: &Head,
-) -> Result<TypedExpr, BodyFail>
+) -> Result<ExprTree, BodyFail>
     ensures { GivesAt (λ x. (shown scopes.new, x)) result
         (spec.start_of (task_of task.now) span given.now (shown scopes.old)) }
 {
@@ -397,7 +397,7 @@ fn all_labels(
     span: Span,
     ty: &Ty,
     labels: &[Expr],
-) -> Result<Items<TypedExpr>, BodyFail>
+) -> Result<Items<ExprTree>, BodyFail>
     ensures { GivesAt (λ xs. xs) result (spec.all_labels (task_of task.now) (shown scopes.now) span
         (kind ty.now) labels.now) }
 {
@@ -419,7 +419,7 @@ fn labels_of_arm(
     span: Span,
     ty: &Ty,
     case: &CaseArm,
-) -> Result<Items<TypedExpr>, BodyFail>
+) -> Result<Items<ExprTree>, BodyFail>
     ensures { GivesAt (λ xs. xs) result (spec.all_labels (task_of task.now) (shown scopes.now) span
         (kind ty.now) (spec.labelled_of (task_of task.now) case.now).labels) }
 {
@@ -435,7 +435,7 @@ pub(crate) fn labels_of(
     span: Span,
     ty: &Ty,
     arms: &[CaseArm],
-) -> Result<Vec<Items<TypedExpr>>, BodyFail>
+) -> Result<Vec<Items<ExprTree>>, BodyFail>
     ensures { GivesAt (λ xs. xs.items) result
         (spec.labels_of (task_of task.now) (shown scopes.now) span (kind ty.now)
         (map (spec.labelled_of (task_of task.now)) arms.now)) }
