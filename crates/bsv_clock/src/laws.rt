@@ -53,7 +53,8 @@ pub fn settled()
     ensures rests { (aggressive : Bool) (S : Scheme) (made : Schedule) → IsLawful S
         → IsScheduleOf S made → RestsOnUrgent aggressive S made }
     ensures sees { (S : Scheme) (made : Schedule) → IsScheduleOf S made → SeesRestOnUrgent S made }
-    ensures settles { (aggressive : Bool) (S : Scheme) (made : Schedule) (q : Asking) (s : List Part)
+    ensures settles { (aggressive : Bool) (S : Scheme) (made : Schedule) (q : Asking)
+        (s : List Part)
         → IsLawful S → IsScheduleOf S made
         → IsSettled aggressive S made q s (settling.the_clock aggressive S made q s) }
     ensures within { (aggressive : Bool) (S : Scheme) (made : Schedule) (q : Asking) (s : List Part)
@@ -66,7 +67,8 @@ pub fn settled()
         → calls_in_turn S q (emptied S.kinds s)
         (fired_in made (settling.the_clock aggressive S made q s))
         ≡ deeds (settling.the_clock aggressive S made q s) made.execution }
-    ensures results { (aggressive : Bool) (S : Scheme) (made : Schedule) (q : Asking) (s : List Part)
+    ensures results { (aggressive : Bool) (S : Scheme) (made : Schedule) (q : Asking)
+        (s : List Part)
         → BelongTogether S made q s
         → results_in_turn S q (emptied S.kinds s)
         (fired_in made (settling.the_clock aggressive S made q s))
@@ -126,7 +128,8 @@ pub fn one_run()
         → AllFit S qs
         → Runs aggressive S made qs rows → Runs aggressive S made qs others
         → TellRunsAlike rows others }
-    ensures alike { (aggressive : Bool) (S T : Scheme) (made : Schedule) (q : Asking) (s : List Part)
+    ensures alike { (aggressive : Bool) (S T : Scheme) (made : Schedule) (q : Asking)
+        (s : List Part)
         (fired : Fired) (after : List Part) → AreAlike S T
         → Happens aggressive S made q s fired after → Happens aggressive T made q s fired after }
 {}
@@ -136,5 +139,6 @@ pub fn one_run()
 pub fn carried()
     ensures { (aggressive : Bool) (S T : Scheme) (made : Schedule) (cells : List Cell)
         (widths : List ℕ) (gives : List Bits → List Bits → Given) → AreAlike S T
-        → Carries aggressive S made cells widths gives → Carries aggressive T made cells widths gives }
+        → Carries aggressive S made cells widths gives → Carries aggressive T made cells widths
+        gives }
 {}

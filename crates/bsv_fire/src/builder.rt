@@ -179,7 +179,8 @@ impl<'a> FireBuilder<'a> {
         method: u32,
     ) -> Result<(), OutOfMemory>
         requires { method < (kind_table kind.now).methods }
-        ensures { OnOk result (hand.net_so_far net_so_far.new ≡ spec.with_method (hand.ground self.entry)
+        ensures { OnOk result
+            (hand.net_so_far net_so_far.new ≡ spec.with_method (hand.ground self.entry)
             kind.now part method (hand.net_so_far net_so_far.old)) }
     {
         if !is_open(net_so_far.ports.as_slice(), part, method) {
@@ -207,7 +208,8 @@ impl<'a> FireBuilder<'a> {
         part: u32,
         by: u32,
     ) -> Result<(), OutOfMemory>
-        ensures { OnOk result (hand.net_so_far net_so_far.new ≡ spec.with_seen_in (hand.ground self.entry)
+        ensures { OnOk result
+            (hand.net_so_far net_so_far.new ≡ spec.with_seen_in (hand.ground self.entry)
             (Some kind.now) part by (hand.net_so_far net_so_far.old)) }
     {
         let methods = kind.methods();
@@ -225,7 +227,8 @@ impl<'a> FireBuilder<'a> {
     /// All that are seen by the methods of these calls.
     #[tactic(auto, unfolding(crate::specs::FireBuilder::with_ports))]
     fn place_all_seen(self, net_so_far: &mut NetSoFar, calls: &[Call]) -> Result<(), OutOfMemory>
-        ensures { OnOk result (hand.net_so_far net_so_far.new ≡ spec.with_ports (hand.ground self.entry)
+        ensures { OnOk result
+            (hand.net_so_far net_so_far.new ≡ spec.with_ports (hand.ground self.entry)
             (hand.net_so_far net_so_far.old) calls.now) }
     {
         let mut rest = calls;
@@ -245,7 +248,8 @@ impl<'a> FireBuilder<'a> {
         number: u32,
         element: &Element,
     ) -> Result<Items<u32>, OutOfMemory>
-        ensures net_so_far { OnOk result (hand.net_so_far net_so_far.new ≡ spec.at_nodes (hand.net_so_far net_so_far.old)
+        ensures net_so_far { OnOk result (hand.net_so_far net_so_far.new
+            ≡ spec.at_nodes (hand.net_so_far net_so_far.old)
             (spec.element_body (hand.ground self.entry) (hand.net_so_far net_so_far.old) number
             element.now).nodes) }
         ensures places { IfOk result (λ places. places ≡ (spec.element_body
@@ -270,8 +274,10 @@ impl<'a> FireBuilder<'a> {
         element: &Element,
         places: &[u32],
     ) -> Result<u32, OutOfMemory>
-        ensures net_so_far { OnOk result (hand.net_so_far net_so_far.new ≡ spec.at_nodes (hand.net_so_far net_so_far.old)
-            (spec.element_ready (hand.ground self.entry) (hand.net_so_far net_so_far.old) number element.now
+        ensures net_so_far { OnOk result (hand.net_so_far net_so_far.new
+            ≡ spec.at_nodes (hand.net_so_far net_so_far.old)
+            (spec.element_ready (hand.ground self.entry) (hand.net_so_far net_so_far.old) number
+            element.now
             places.now).nodes) }
         ensures place { IfOk result (λ n. n ≡ (spec.element_ready (hand.ground self.entry)
             (hand.net_so_far net_so_far.old) number element.now places.now).place) }
@@ -328,8 +334,10 @@ impl<'a> FireBuilder<'a> {
         element: &Element,
         ready: u32,
     ) -> Result<u32, OutOfMemory>
-        ensures net_so_far { OnOk result (hand.net_so_far net_so_far.new ≡ spec.at_nodes (hand.net_so_far net_so_far.old)
-            (spec.element_fire (hand.ground self.entry) (hand.net_so_far net_so_far.old) number element.now
+        ensures net_so_far { OnOk result (hand.net_so_far net_so_far.new
+            ≡ spec.at_nodes (hand.net_so_far net_so_far.old)
+            (spec.element_fire (hand.ground self.entry) (hand.net_so_far net_so_far.old) number
+            element.now
             ready).nodes) }
         ensures place { IfOk result (λ n. n ≡ (spec.element_fire (hand.ground self.entry)
             (hand.net_so_far net_so_far.old) number element.now ready).place) }
@@ -349,7 +357,8 @@ impl<'a> FireBuilder<'a> {
         telling: ReadyAndFire,
     ) -> Result<(), OutOfMemory>
         ensures { OnOk result (hand.net_so_far net_so_far.new ≡ spec.kept (hand.ground self.entry)
-            (hand.net_so_far net_so_far.old) number element.now places.now telling.ready telling.fire) }
+            (hand.net_so_far net_so_far.old) number element.now places.now telling.ready
+            telling.fire) }
     {
         let stopped = self.stopped_by(number);
         stop_all(
@@ -381,7 +390,8 @@ impl<'a> FireBuilder<'a> {
         number: u32,
         element: &Element,
     ) -> Result<(), OutOfMemory>
-        ensures { OnOk result (hand.net_so_far net_so_far.new ≡ spec.with_element (hand.ground self.entry)
+        ensures { OnOk result
+            (hand.net_so_far net_so_far.new ≡ spec.with_element (hand.ground self.entry)
             (hand.net_so_far net_so_far.old) number element.now) }
     {
         self.place_all_seen(net_so_far, element.calls.as_slice())?;

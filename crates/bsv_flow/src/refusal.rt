@@ -302,7 +302,8 @@ fn put_four<S: Sink>(
 ) -> Result<(), Failed>
     ensures ok { OnOk result (S.writing sink.new ≡ appended
         (front.now ++ four_text first.now second.now third.now fourth.now) (S.writing sink.old)) }
-    ensures prefix { AppendsPrefix (front.now ++ four_text first.now second.now third.now fourth.now)
+    ensures prefix { AppendsPrefix
+        (front.now ++ four_text first.now second.now third.now fourth.now)
         (S.writing sink.old) (S.writing sink.new) }
     ensures count { (S.writing sink.old).faults ≤ (S.writing sink.new).faults }
     ensures counted { OnErr result (MayFault (S.writing sink.old).faults

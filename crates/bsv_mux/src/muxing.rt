@@ -175,7 +175,8 @@ pub fn add_next(
 ) -> Result<Net, OutOfMemory>
     requires rules { KeepsRules (design_scheme (design_data design.now)) }
     requires schedule { IsScheduleOf (design_scheme (design_data design.now)) schedule.now }
-    requires fires { Fires false (design_scheme (design_data design.now)) schedule.now (net_data net) }
+    requires fires { Fires false (design_scheme (design_data design.now)) schedule.now
+        (net_data net) }
     ensures carries { IfOk result (λ made.
         NetCarries false (design_scheme (design_data design.now)) schedule.now made) }
     ensures sites { IfOk result (λ made. made.sites ≡ []) }

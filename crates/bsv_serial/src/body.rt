@@ -128,7 +128,8 @@ impl Body<'_> {
         requires body { hand.IsComputable self }
         requires needs { hand.AreNeedsOf self needs.now }
         ensures truth { IfOk result (λ truth. truth ≡ spec.holds (hand.body_kinds self.entry)
-            (hand.look self.entry.looks) self.entry.element.now needs.now (hand.arguments self.entry)) }
+            (hand.look self.entry.looks) self.entry.element.now needs.now
+            (hand.arguments self.entry)) }
         ensures words { IfOk result (λ truth.
             OnTrue truth (words.new.items ≡ hand.body_words self.entry)) }
     {

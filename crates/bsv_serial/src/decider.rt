@@ -84,7 +84,8 @@ impl Decider<'_> {
     pub fn decide_all(self) -> Result<Fates, OutOfMemory>
         requires { spec.CanDecideAll (hand.course self) (spec.undecided (hand.course self))
             self.schedule.now.urgency }
-        ensures { IfOk result (λ found. hand.so_far found ≡ spec.all_decided (hand.course self.entry)
+        ensures { IfOk result
+            (λ found. hand.so_far found ≡ spec.all_decided (hand.course self.entry)
             (spec.undecided (hand.course self.entry)) self.entry.schedule.now.urgency) }
     {
         let design = self.setting.design;

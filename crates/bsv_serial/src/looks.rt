@@ -42,7 +42,8 @@ impl Sight<'_> {
     fn after_seen(self, alloc: Global, method: u32) -> Result<Part, OutOfMemory>
         requires { spec.CanLook self.kind.now method self.plain.now self.calls_made.now }
         ensures { IfOk result (λ part. part
-            ≡ spec.after_seen self.entry.kind.now method self.entry.plain.now self.entry.calls_made.now) }
+            ≡ spec.after_seen self.entry.kind.now method self.entry.plain.now
+            self.entry.calls_made.now) }
     {
         let mut part = self.plain.copy(alloc)?;
         let mut rest = self.calls_made;
@@ -60,7 +61,8 @@ impl Sight<'_> {
     pub fn guard(self, alloc: Global, method: u32) -> Result<bool, OutOfMemory>
         requires { spec.CanLook self.kind.now method self.plain.now self.calls_made.now }
         ensures { IfOk result (λ truth. truth ≡ (kind_table self.entry.kind.now).guard method
-            (spec.after_seen self.entry.kind.now method self.entry.plain.now self.entry.calls_made.now)) }
+            (spec.after_seen self.entry.kind.now method self.entry.plain.now
+            self.entry.calls_made.now)) }
     {
         if self.sees_none(method) {
             return Ok(self.kind.guard(method, self.plain));
@@ -75,7 +77,8 @@ impl Sight<'_> {
         requires value { (kind_table self.kind.now).is_action method ≡ false }
         requires args { ArgsFit (kind_table self.kind.now) method args.now }
         ensures { IfOk result (λ word. word ≡ (kind_table self.entry.kind.now).result method
-            (spec.after_seen self.entry.kind.now method self.entry.plain.now self.entry.calls_made.now)
+            (spec.after_seen self.entry.kind.now method self.entry.plain.now
+            self.entry.calls_made.now)
             args.now) }
     {
         if self.sees_none(method) {
@@ -114,7 +117,8 @@ impl<'a> Looks<'a> {
         requires there { part < length self.state.now }
         ensures kind { slice_get (kinds self.entry.parts.now) part ≡ Some result.kind.now }
         ensures plain { result.plain.now ≡ part_at self.entry.state.now part }
-        ensures calls_made { result.calls_made.now ≡ spec.or_none (slice_get self.entry.calls_made.now part) }
+        ensures calls_made { result.calls_made.now
+            ≡ spec.or_none (slice_get self.entry.calls_made.now part) }
     {
         Sight {
             kind: &self.parts[part as usize].kind,
@@ -141,7 +145,8 @@ impl<'a> Looks<'a> {
             (record { part = part; method = method }) }
         requires value { acts (slice_get (kinds self.parts.now) part) method ≡ false }
         requires args { IsFitCall (slice_get (kinds self.parts.now) part) method args.now }
-        ensures { IfOk result (λ word. word ≡ result_of (slice_get (kinds self.entry.parts.now) part) method
+        ensures { IfOk result
+            (λ word. word ≡ result_of (slice_get (kinds self.entry.parts.now) part) method
             (look self.entry (record { part = part; method = method })) args.now) }
     {
         self.at(part).result(self.alloc, method, args)

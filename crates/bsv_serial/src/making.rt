@@ -24,7 +24,8 @@ fn make_call(
 ) -> Result<(), OutOfMemory>
     requires named { IsTrue (call_named (kinds parts.now) call.now) }
     requires count { length calls_made.old.items ≡ length parts.now }
-    ensures makes { OnOk result (calls_made.new.items ≡ spec.with_site (kinds parts.now) place calls_made.old.items
+    ensures makes { OnOk result (calls_made.new.items
+        ≡ spec.with_site (kinds parts.now) place calls_made.old.items
         (site_at (kinds parts.now) words.now call.now)) }
     ensures count { OnOk result (length calls_made.new.items ≡ length calls_made.old.items) }
 {
@@ -54,7 +55,8 @@ pub fn make_calls(
 ) -> Result<(), OutOfMemory>
     requires named { IsTrue (list_all (call_named (kinds parts.now)) calls.now) }
     requires count { length calls_made.old.items ≡ length parts.now }
-    ensures { OnOk result (calls_made.new.items ≡ spec.with_sites (kinds parts.now) place calls_made.old.items
+    ensures { OnOk result
+        (calls_made.new.items ≡ spec.with_sites (kinds parts.now) place calls_made.old.items
         (map (site_at (kinds parts.now) words.now) calls.now)) }
 {
     let mut rest = calls;

@@ -30,7 +30,8 @@ pub fn turn(
     ensures ran { IfOk result (λ turn. spec.IfRan turn (spec.RunsWhole
         (design_scheme (design_data design.now)) (asking requests.now) element
         state.old.parts.items state.new.parts.items)) }
-    ensures fits { OnOk result (FitsKinds (kinds_of (design_data design.now)) state.new.parts.items) }
+    ensures fits { OnOk result
+        (FitsKinds (kinds_of (design_data design.now)) state.new.parts.items) }
     ensures unchanged { OnErr result (state.new.parts.items ≡ state.old.parts.items) }
 {
     let mut calls_made = none_made(alloc, design.parts.len())?;

@@ -61,10 +61,12 @@ pub fn run<R: Threads + Sync, F: Files, O: Sink, E: Sink>(
         → OutputStarted (map string_bytes words.now) contents (O.writing out.old)
         (O.writing out.new) }
     ensures text { (contents : List ℕ → List ℕ) → (F.reading files.old).contents ≡ Some contents
-        → TextStarted (map string_bytes words.now) contents (E.writing err.old) (E.writing err.new) }
+        → TextStarted (map string_bytes words.now) contents (E.writing err.old)
+            (E.writing err.new) }
 
-    // Nothing at all is put to the output where a file is refused; and nothing where memory is wanting, but by
-    // a run: it may want memory when it has begun, and then it put a prefix of an answer's output, as above.
+    // Nothing at all is put to the output where a file is refused; and nothing where memory is
+    // wanting, but by a run: it may want memory after it started, and then it put a prefix of an
+    // answer's output, as above.
     ensures refused { result ≡ Status.Refused → O.writing out.new ≡ O.writing out.old }
     ensures no_memory { result ≡ Status.OutOfMemory
         → (E.writing err.new ≡ appended no_memory_line (E.writing err.old))

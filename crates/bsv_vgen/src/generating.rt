@@ -110,7 +110,7 @@ pub fn generate(alloc: Global, design: &Design, net: &Net) -> Result<VModule, Ou
     requires inputs { net.now.inputs ≡ input_widths (design_scheme (design_data design.now)) }
     ensures module { IfOk result (λ made. IsModuleOf design.now.name design.now.parts
         (map outline design.now.elements) (module_data made)) }
-    // Where the net carries the design, or a tree from which the design was made, so does the module.
+    // Where the net carries the design, or a tree from which it was made, so does the module.
     ensures carries { IfOk result (λ made. (aggressive : Bool) (S : Scheme) (made_by : Schedule)
         → AreAlike S (design_scheme (design_data design.now)) → IsLawful S
         → IsScheduleOf S made_by → WordsCarry aggressive S made_by net.now
