@@ -74,8 +74,8 @@ pub fn run<R: Threads + Sync, F: Files, O: Sink, E: Sink>(
     ensures no_output { result ≡ Status.OutOfMemory → AsksNoRun (map string_bytes words.now)
         → O.writing out.new ≡ O.writing out.old }
 
-    // No source is read on after one byte more than it may have; where the trace was run, it was read
-    // at most one piece after its first bad line.
+    // No source is read on after one byte more than it may have; where the trace was run, it was
+    // read at most one piece after its first bad line.
     ensures sources_within { AsksNoRun (map string_bytes words.now)
         → read_limit < bytes_given (F.reading files.new)
         → (F.reading files.new).current ≡ (F.reading files.old).current }
