@@ -10,7 +10,7 @@ use Rattle.bsv_flow.specs.declared.refusal.Refusal.{Refusal}
 use Rattle.bsv_flow.specs.declared.refusal.Refusal.TheVariants as refusal
 use Rattle.bsv_flow.specs.Loads.{Loads, Reaches, IsLoaded, Refuses, most_packages}
 use Rattle.bsv_ast.specs.Packages.{items_of}
-use Rattle.bsv_flow.specs.Queues.{with_imports}
+use Rattle.bsv_flow.specs.LoadOrder.{with_imports}
 use Rattle.bsv_flow.specs.Yields.{Yields}
 use Rattle.bsv_flow.proofs.Queued.{with_items_longer}
 use Rattle.bsv_flow.proofs.Yielded.{found_once, found_or_refused, some_yield}

@@ -4,7 +4,7 @@ use Rattle.std.proofs.lemmas.List.{take_more}
 use Rattle.std.proofs.lemmas.List.Folds.{list_any-append}
 use Rattle.std.specs.List.{list_any}
 use Rattle.bsv_lemmas.proofs.Truths.{or_false, or_true}
-use Rattle.bsv_flow.specs.Queues.{is_slash, folder}
+use Rattle.bsv_flow.specs.LoadOrder.{is_slash, folder}
 
 any_more : (xs : List ℕ) (b : ℕ) (is : Bool) → (b == 47) ≡ is → list_any is_slash (xs ++ b ∷ []) ≡ (list_any is_slash xs || is)
 any_more xs b true e = list_any-append is_slash xs (b ∷ []) ∙ rw e refl

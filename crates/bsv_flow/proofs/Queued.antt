@@ -4,7 +4,7 @@ use Rattle.std.specs.List.{list_any}
 use Rattle.std.specs.Str.{bytes_eq}
 use Rattle.bsv_ast.specs.declared.package.Item.{Item}
 use Rattle.bsv_ast.specs.declared.package.Item.TheVariants as item
-use Rattle.bsv_flow.specs.Queues.{file_of, is_given, with_item, with_items}
+use Rattle.bsv_flow.specs.LoadOrder.{file_of, is_given, with_item, with_items}
 
 abbrev Extends : List (List ℕ) → List (List ℕ) → Type 0
 Extends queue longer = (more : List (List ℕ)) × (longer ≡ queue ++ more)

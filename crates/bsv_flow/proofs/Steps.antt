@@ -8,7 +8,7 @@ use Rattle.bsv_ast.specs.declared.package.Package.{Package}
 use Rattle.bsv_flow.specs.declared.refusal.Refusal.{Refusal}
 use Rattle.bsv_flow.specs.declared.refusal.Refusal.TheVariants as refusal
 use Rattle.bsv_flow.specs.Loads.{Loads, Reaches, IsLoaded, Refuses, most_packages}
-use Rattle.bsv_flow.specs.Queues.{with_imports}
+use Rattle.bsv_flow.specs.LoadOrder.{with_imports}
 use Rattle.bsv_flow.specs.Sources.{read_limit}
 use Rattle.bsv_flow.specs.Yields.{Yields, most_bytes}
 use Rattle.bsv_flow.proofs.Yielded.{yields_of_front}

@@ -4,7 +4,7 @@ pub mod Buildings
 pub mod Loads
 pub mod OneAnswer
 pub mod Positions
-pub mod Queues
+pub mod LoadOrder
 pub mod Refusals
 pub mod Sources
 pub mod Typings

@@ -5,7 +5,7 @@ use Rattle.bsv_ast.specs.declared.package.Package.{Package}
 use Rattle.bsv_flow.specs.declared.loading.Loaded.{Loaded}
 use Rattle.bsv_flow.specs.declared.refusal.Refusal.{Refusal}
 use Rattle.bsv_flow.specs.declared.refusal.Refusal.TheVariants as refusal
-use Rattle.bsv_flow.specs.Queues.{with_imports}
+use Rattle.bsv_flow.specs.LoadOrder.{with_imports}
 use Rattle.bsv_flow.specs.Yields.{Yields}
 
 -- at most so many packages are loaded

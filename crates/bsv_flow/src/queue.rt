@@ -2,7 +2,7 @@ ghost use Rattle.std.specs.Prelude.{◌≡◌, ◌<◌, ◌≤◌, ℕ, List, le
 ghost use Rattle.std.specs.List.{list_any};
 ghost use Rattle.std.specs.Str.{bytes_eq};
 ghost use Rattle.bsv_flow.specs.Loads.{most_packages};
-ghost use Rattle.bsv_flow.specs.Queues as spec;
+ghost use Rattle.bsv_flow.specs.LoadOrder as spec;
 ghost use Rattle.bsv_flow.specs.declared.refusal.CompileFault.TheVariants.{Refused, ReadFault};
 ghost use Rattle.bsv_flow.specs.declared.refusal.Refusal.{Refusal as TheRefusal};
 ghost use Rattle.bsv_flow.specs.declared.refusal.Refusal.TheVariants as refusal;

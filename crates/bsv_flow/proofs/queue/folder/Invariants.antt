@@ -1,5 +1,5 @@
 use Rattle.std.proofs.Common.{◌≡◌, ◌≤◌, take}
-use Rattle.bsv_flow.specs.Queues.{folder}
+use Rattle.bsv_flow.specs.LoadOrder.{folder}
 use Rattle.bsv_flow.proofs.queue.folder.Given as goal
 
 abbrev pub invariant-loop-at : goal.invariant-loop-at

@@ -1,6 +1,6 @@
 use Rattle.std.proofs.Common.{◌≡◌, ◌≤◌, length, drop}
 use Rattle.bsv_flow.specs.Loads.{most_packages}
-use Rattle.bsv_flow.specs.Queues.{with_imports, with_items}
+use Rattle.bsv_flow.specs.LoadOrder.{with_imports, with_items}
 use Rattle.bsv_flow.proofs.queue.with_imports.Given as goal
 
 abbrev pub invariant-loop-item : goal.invariant-loop-item
