@@ -1,4 +1,4 @@
--- A circuit in which all elements stand tells what happens in each clock, since the net tells it in each scene.
+-- A net in which all elements stand tells what happens in each clock, since the net tells it in each scene.
 use Rattle.std.proofs.Common.{◌≡◌, ◌∙◌, ◌<◌, ◌≤◌, ◌⊎◌, inl, inr, ℕ, zero, suc, true, false, List, [], ◌∷◌, Option, Some, None, refl, sym, ap, ap₂, subst, arith, length, map}
 use Rattle.std.specs.Prelude.{slice_get, unwrap_or}
 use Rattle.std.proofs.lemmas.Bool.{cases_lt}

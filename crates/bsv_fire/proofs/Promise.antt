@@ -1,4 +1,4 @@
--- The promise of a circuit in which all elements stand, out of what the net tells in each scene.
+-- The promise of a net in which all elements stand, out of what the net tells in each scene.
 use Rattle.std.proofs.Common.{◌≡◌, ◌∙◌, ◌<◌, ◌≤◌, ◌+◌, ◌⊎◌, inl, inr, ℕ, zero, suc, Bool, true, false, List, [], ◌∷◌, Option, Some, None, refl, sym, ap, subst, arith, length, map, option_map}
 use Rattle.std.specs.Prelude.{slice_get, unwrap_or, nat_lt}
 use Rattle.std.proofs.lemmas.Bool.{and_parts, cases_lt}

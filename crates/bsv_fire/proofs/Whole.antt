@@ -1,4 +1,4 @@
--- A circuit in which all elements stand tells what happens in each clock.
+-- A net in which all elements stand tells what happens in each clock.
 use Rattle.std.proofs.Common.{◌≡◌, ◌∙◌, ◌<◌, ℕ, Bool, true, false, List, is_some, refl, sym, ap, subst, length, filter}
 use Rattle.bsv_prim.specs.declared.part.Part.{Part}
 use Rattle.bsv_design.specs.declared.schedule.Schedule.{Schedule}

@@ -33,7 +33,7 @@ pub record TellsSite (vs : List Bits) (x : Site) (s : NetSite) : Type 0 where
 
 -- ---- clocks
 
--- what a circuit tells of a clock in which these elements fire, whose nodes have these words
+-- what a net tells of a clock in which these elements fire, whose nodes have these words
 pub record TellsFiring (aggressive : Bool) (S : Scheme) (q : Asking) (s : List Part) (fired : List ℕ) (c : NetData) (vs : List Bits) : Type 0 where
   pub elements : TellsElements aggressive S q s fired (given_at c vs)
   -- the calls of an element that fires, as it makes them under the look of the clock

@@ -1,4 +1,4 @@
--- The circuit of a design up to its firing, as it is made: all elements are in it, and each register keeps its word.
+-- The net of a design up to its firing, as it is made: all elements are in it, and each register keeps its word.
 use Rattle.std.specs.Prelude.{◌≡◌, ℕ, ◌+◌, List, map, length, unwrap_or}
 use Rattle.bsv_design.specs.declared.schedule.Need.{Need}
 use Rattle.bsv_design.specs.declared.schedule.Schedule.{Schedule}

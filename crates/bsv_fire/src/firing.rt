@@ -85,8 +85,8 @@ fn whole_draft(
     Ok(net_so_far)
 }
 
-/// The circuit of a design, in which every register keeps its word.
-fn fire_circuit(
+/// The net of a design, in which every register keeps its word.
+fn firing_net(
     alloc: Global,
     design: &Design,
     guards: &Guards,
@@ -136,7 +136,7 @@ pub fn add_fire(
     ensures { IfOk result (λ net. Fires false (design_scheme (design_data design.now))
         schedule.now (net_data net)) }
 {
-    let net_data = fire_circuit(alloc, design, guards, schedule)?;
+    let net_data = firing_net(alloc, design, guards, schedule)?;
     match Net::new(alloc, net_data)? {
         Some(net) => Ok(net),
         None => Err(OutOfMemory),

@@ -86,7 +86,7 @@ module _ (b : DesignData) (made : Schedule) (c : NetData) where
       nexts told (register_starts (length c.nodes) (kinds_of b)) (all_call_sites (kinds_of b) b.elements made.execution) 0
       (with_registers c.nodes (length c.registers)) [] (kinds_of b)
 
-  -- the circuit with the next word of each register
+  -- the net with the next word of each register
   pub record IsNextNet (d : NetData) : Type 0 where
     pub inputs : d.inputs ≡ c.inputs
     pub registers : d.registers ≡ c.registers

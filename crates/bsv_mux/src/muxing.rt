@@ -137,8 +137,8 @@ fn with_next_words(
     Ok(Extended { nodes, nexts })
 }
 
-/// The circuit of a net with the next word of each register.
-fn next_circuit(
+/// The net of a net with the next word of each register.
+fn next_net(
     alloc: Global,
     design: &Design,
     schedule: &Schedule,
@@ -181,7 +181,7 @@ pub fn add_next(
         NetCarries false (design_scheme (design_data design.now)) schedule.now made) }
     ensures sites { IfOk result (λ made. made.sites ≡ []) }
 {
-    let net_data = next_circuit(alloc, design, schedule, net)?;
+    let net_data = next_net(alloc, design, schedule, net)?;
     match Net::new(alloc, net_data)? {
         Some(made) => Ok(made),
         None => Err(OutOfMemory),

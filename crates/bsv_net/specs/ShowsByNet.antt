@@ -13,7 +13,7 @@ use Rattle.bsv_net.specs.declared.net.Net.{Net}
 use Rattle.bsv_net.specs.AtHand.{net_data}
 use Rattle.bsv_net.specs.Nets.{words}
 
--- the words that a circuit gives, where its nodes have these
+-- the words that a net gives, where its nodes have these
 abbrev pub given_at : NetData → List Bits → Given
 given_at c vs = record {
   fires = map (at vs) c.fires;

@@ -190,8 +190,8 @@ fn is_in_order(widths: &[u32], net_data: &NetData) -> bool
         && sites_fit(widths, net_data.sites.as_slice())
 }
 
-/// Whether a circuit is in order.
-pub(crate) fn is_circuit(alloc: Global, net_data: &NetData) -> Result<bool, OutOfMemory>
+/// Whether a net is in order.
+pub(crate) fn is_net(alloc: Global, net_data: &NetData) -> Result<bool, OutOfMemory>
     ensures { IfOk result (λ b. (b ≡ true) ↔ spec.IsNet net_data.now) }
 {
     if !is_few(net_data) {

@@ -5,7 +5,7 @@ ghost use Rattle.bsv_net.specs.Nets.{IsNet};
 ghost use Rattle.bsv_net.specs.Nets as spec;
 ghost use Rattle.bsv_net.specs.Equations.{computed};
 
-use crate::checks::is_circuit;
+use crate::checks::is_net;
 use crate::net_data::NetData;
 use crate::node::{NetNode, Site};
 use bsv_bits::{OutOfMemory, Word};
@@ -14,7 +14,7 @@ use bsv_prim::RegisterInfo;
 use sqlite_items::Items;
 use std::alloc::Global;
 
-/// A circuit in order: each node uses earlier nodes alone, operands have the widths that their operators need, there is
+/// A net in order: each node uses earlier nodes alone, operands have the widths that their operators need, there is
 /// one next word for each register, and what tells of firing and readiness has one bit.
 #[derive(Drop)]
 pub struct Net {
@@ -61,12 +61,12 @@ fn node_word(registers: &[Word], inputs: &[Word], words: &[Word], node: NetNode)
 impl Net {
     ghost use Rattle.bsv_net.specs.AtHand as hand;
 
-    /// The net of a circuit, where it is in order.
+    /// The net of a net, where it is in order.
     pub fn new(alloc: Global, net_data: NetData) -> Result<Option<Net>, OutOfMemory>
         ensures is { IfOk result (λ found. IfSome found (λ net. hand.net_data net ≡ net_data)) }
         ensures none { IfOk result (λ found. IsNone found → IsNet net_data → ⊥) }
     {
-        if !is_circuit(alloc, &net_data)? {
+        if !is_net(alloc, &net_data)? {
             return Ok(None);
         }
         Ok(Some(Net {

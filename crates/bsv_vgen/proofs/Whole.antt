@@ -92,7 +92,7 @@ none_past [] k e = omega arith
 none_past (x ∷ xs) zero e = absurd (let h : ⊥ = cc in h)
 none_past (x ∷ xs) (suc k) e = let l = none_past xs k e in omega (arith, l)
 
--- what is beside the nodes of a circuit
+-- what is beside the nodes of a net
 record IsOrdered (us : List ℕ) (c : NetData) : Type 0 where
   inputs : list_all nets.width_fits c.inputs ≡ true
   nexts : nexts_fit us c.nexts c.registers ≡ true
@@ -228,7 +228,7 @@ module _ (b : DesignData) (c : NetData)
   pub methods_count : length m.methods ≡ length methods
   methods_count = ports_count ks c methods 0
 
-  -- ---- the lines are right, where the circuit is in order
+  -- ---- the lines are right, where the net is in order
 
   module _ (right : IsNet c) where
     abbrev us : List ℕ
@@ -467,7 +467,7 @@ module _ (b : DesignData) (c : NetData)
 
   -- ---- it computes what the net does
 
-  module _ (design : ∥ IsDesign b ∥₁) (ordered_circuit : ∥ IsNet c ∥₁) (vs ws : List Bits) (ins : Inputs) (nets : Nets) (have : HaveWidths c.inputs vs) (hold : HaveWidths (register_widths c.registers) ws)
+  module _ (design : ∥ IsDesign b ∥₁) (ordered_net : ∥ IsNet c ∥₁) (vs ws : List Bits) (ins : Inputs) (nets : Nets) (have : HaveWidths c.inputs vs) (hold : HaveWidths (register_widths c.registers) ws)
       (given : input_words (atom_word ws ins nets) (inputs b) ≡ vs) (solved : Solved m ws ins nets) where
     abbrev word : Atom → Bits
     word a = atom_word ws ins nets a
@@ -498,7 +498,7 @@ module _ (b : DesignData) (c : NetData)
               ap (λ (o : Option Known). word (or_nothing o).atom) none ∙ sym (ap running.or_zero end)
 
     word_told : (p : ℕ) → word (known_at ks p).atom ≡ at values p
-    word_told p = ∥∥₁_elim ordered_circuit (bits_set _ _) (λ (right : IsNet c). known_told right p)
+    word_told p = ∥∥₁_elim ordered_net (bits_set _ _) (λ (right : IsNet c). known_told right p)
 
     entry_told : (ns : List ℕ) (n : ℕ) → word (told_at ks ns n).atom ≡ or_zero (slice_get (map (at values) ns) n)
     entry_told ns n = of (slice_get ns n) ∙ ap or_zero (sym (slice_get-map (at values) ns n))
