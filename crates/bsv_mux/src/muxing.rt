@@ -137,7 +137,7 @@ fn with_next_words(
     Ok(Extended { nodes, nexts })
 }
 
-/// The net of a net with the next word of each register.
+/// The data of a net with the next word of each register.
 fn next_net(
     alloc: Global,
     design: &Design,

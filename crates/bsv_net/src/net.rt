@@ -61,7 +61,7 @@ fn node_word(registers: &[Word], inputs: &[Word], words: &[Word], node: NetNode)
 impl Net {
     ghost use Rattle.bsv_net.specs.AtHand as hand;
 
-    /// The net of a net, where it is in order.
+    /// The net of some data, where they are in order.
     pub fn new(alloc: Global, net_data: NetData) -> Result<Option<Net>, OutOfMemory>
         ensures is { IfOk result (λ found. IfSome found (λ net. hand.net_data net ≡ net_data)) }
         ensures none { IfOk result (λ found. IsNone found → IsNet net_data → ⊥) }
