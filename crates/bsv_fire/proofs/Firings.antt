@@ -36,6 +36,7 @@ use Rattle.bsv_net.specs.Placing.{node_at}
 use Rattle.bsv_net.proofs.Solution.{satisfies}
 use Rattle.bsv_fire.specs.Nets.{IsFiringNet, net}
 use Rattle.bsv_net.specs.ShowsByNet.{given_at}
+use Rattle.bsv_ports.specs.Ports.{arity_of}
 use Rattle.bsv_fire.specs.Firing as firing
 use Rattle.bsv_fire.specs.FireBuilder.{FireBuilder}
 use Rattle.bsv_ports.specs.CallSites.{or_none}
@@ -161,10 +162,10 @@ module _ (b : DesignData) (right : IsDesign b) (needs : List (List Need)) (made 
 
     -- a call that is told has as many argument words as its site has nodes
     arguments_long : (n k : ℕ) (y : Site) → n < length T.elements → slice_get (seen T q n (looks scene)).sites k ≡ Some y
-        → length y.arguments ≡ firing.arity_of (kind_at T.kinds y.target) y.target.method
+        → length y.arguments ≡ arity_of (kind_at T.kinds y.target) y.target.method
     arguments_long n k y l there = arity_is (kind_at T.kinds y.target) y.target.method y.arguments (site_fits n k y there)
       where
-        arity_is : (o : Option Kind) (m : ℕ) (args : List Bits) → IsFitCall o m args → length args ≡ firing.arity_of o m
+        arity_is : (o : Option Kind) (m : ℕ) (args : List Bits) → IsFitCall o m args → length args ≡ arity_of o m
         arity_is None m args f = absurd f
         arity_is (Some kind) m args f = f.args.arity
 

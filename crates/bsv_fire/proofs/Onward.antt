@@ -3,7 +3,6 @@ use Rattle.std.proofs.Common.{◌≡◌, ◌∙◌, ℕ, ◌+◌, cond, List, []
 use Rattle.bsv_design.specs.declared.kind.Kind.{Kind}
 use Rattle.bsv_design.specs.tree.Kinds.{kind_table}
 use Rattle.bsv_graph.specs.Edges.{numbers_below}
-use Rattle.bsv_net.specs.declared.node.NetNode.TheVariants as net
 use Rattle.bsv_fire.specs.Grounds.{Ground}
 use Rattle.bsv_fire.specs.FireBuilder.{FireBuilder, with_method, with_seen}
 use Rattle.bsv_graph.proofs.Below.{numbers_more}

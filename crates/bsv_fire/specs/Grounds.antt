@@ -3,7 +3,6 @@ use Rattle.std.specs.Prelude.{ℕ, List}
 use Rattle.bsv_design.specs.declared.element.Element.{Element}
 use Rattle.bsv_design.specs.declared.kind.Kind.{Kind}
 use Rattle.bsv_design.specs.declared.schedule.Need.{Need}
-use Rattle.bsv_net.specs.declared.node.NetNode.TheVariants as net
 use Rattle.bsv_ports.specs.declared.call_sites.CallSite.{CallSite}
 
 -- what the pieces of parts are placed with

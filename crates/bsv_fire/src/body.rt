@@ -1,6 +1,7 @@
 ghost use Rattle.std.specs.Prelude.{◌≡◌, ◌++◌, [], IfOk, OnOk, map, slice_get};
 ghost use Rattle.std.specs.Option.{option_copied};
 ghost use Rattle.bsv_fire.specs.Bodies as spec;
+ghost use Rattle.bsv_ports.specs.CallSites.{or_none};
 ghost use Rattle.bsv_net.specs.Placing as placing;
 
 use bsv_bits::OutOfMemory;
@@ -29,7 +30,7 @@ impl<'a> Pieces<'a> {
 
     /// The nodes of the methods of a part.
     fn ports_of(self, part: u32) -> &'a [Option<MethodPort>]
-        ensures { result.now ≡ spec.or_none (slice_get self.entry.ports.now part) }
+        ensures { result.now ≡ or_none (slice_get self.entry.ports.now part) }
     {
         match at(self.ports, part as usize) {
             Some(ports) => ports.as_slice(),
