@@ -101,7 +101,7 @@ module _ (S T : Scheme) (al : AreAlike S T) where
   schedule_alike made ok =
       let r = relating_alike in
       record {
-        agrees_design = subst Agrees r ok.agrees;
+        agrees = subst Agrees r ok.agrees;
         named = subst PreemptsNameRules r ok.named;
         executes = subst (λ (x : Relating). Executes x made.execution) r ok.executes;
         urges = subst (λ (x : Relating). Urges x made.urgency) r ok.urges;
