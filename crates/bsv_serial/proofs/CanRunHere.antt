@@ -25,7 +25,7 @@ use Rattle.bsv_clock.specs.Grounds.{Fit, IsLawful, IsScheduleOf}
 use Rattle.bsv_clock.specs.Settling.{Doing, DoesWithin, look_of}
 use Rattle.bsv_serial.specs.declared.calls_made.MadeCall.{MadeCall}
 use Rattle.bsv_serial.specs.Bodies.{CanBeComputed}
-use Rattle.bsv_serial.specs.Settings.{Setting, CanRun}
+use Rattle.bsv_serial.specs.Settings.{SettingData, CanRun}
 use Rattle.bsv_serial.proofs.DecidedFront.{so_far}
 use Rattle.bsv_serial.proofs.Joining.{made_on}
 use Rattle.bsv_serial.proofs.LookingSoFar.{same_look_here, can_look_here}
@@ -92,7 +92,7 @@ module _ (d : Design) (made : Schedule) (lawful : IsLawful (design_scheme (desig
   abbrev S : Scheme
   S = design_scheme (design_data d)
 
-  abbrev pub ground : Setting
+  abbrev pub ground : SettingData
   ground = record { kinds = kinds_of (design_data d); elements = d.elements; needs = needs; asking = q; state = emptied (kinds_of (design_data d)) s }
 
   module _ (e : Element) (is : slice_get d.elements n ≡ Some e) where

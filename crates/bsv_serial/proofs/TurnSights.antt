@@ -42,7 +42,7 @@ use Rattle.bsv_serial.specs.AtHand.{kinds}
 use Rattle.bsv_serial.specs.Bodies.{CanBeComputed, holds, words_under}
 use Rattle.bsv_serial.specs.CallsMade.{as_calls}
 use Rattle.bsv_serial.specs.Making.{with_sites}
-use Rattle.bsv_serial.specs.Settings.{Setting, CanRun, is_ready, sites_of, value_of, words_at}
+use Rattle.bsv_serial.specs.Settings.{SettingData, CanRun, is_ready, sites_of, value_of, words_at}
 use Rattle.bsv_serial.specs.Sights.{CanBeApplied, CanLook, CanLookAt, MayLook, after_seen, look_with, or_none, part_after}
 use Rattle.bsv_serial.specs.Turning.{CanTurn}
 use Rattle.bsv_serial.proofs.AppliedClock.{after_all, take_all}
@@ -73,7 +73,7 @@ module _ (d : Design) (guards : List (List Need)) (n : ℕ) (s : List Part) (q :
   abbrev S : Scheme
   S = design_scheme (design_data d)
 
-  abbrev pub ground : Setting
+  abbrev pub ground : SettingData
   ground = record { kinds = ks; elements = d.elements; needs = guards; asking = q; state = s }
 
   lawful : IsLawful S
@@ -259,7 +259,7 @@ module _ (d : Design) (guards : List (List Need)) (n : ℕ) (s : List Part) (q :
   found : (e : Element) × (slice_get d.elements n ≡ Some e)
   found = item_there d.elements n can.element
 
-  abbrev on : List Part → Setting
+  abbrev on : List Part → SettingData
   on xs = record { kinds = kinds_of (design_data d); elements = d.elements; needs = guards; asking = q; state = xs }
 
   pub can_run_on : CanRun (on ps) lists n

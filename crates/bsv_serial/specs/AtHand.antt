@@ -22,7 +22,7 @@ use Rattle.bsv_serial.specs.declared.looks.Looks.{Looks}
 use Rattle.bsv_serial.specs.declared.setting.Setting.{Setting}
 use Rattle.bsv_serial.specs.Bodies.{CanBeComputed, AreOpen, HasOperands, words_under}
 use Rattle.bsv_serial.specs.Decider.{Course, SoFar}
-use Rattle.bsv_serial.specs.Settings.{Setting}
+use Rattle.bsv_serial.specs.Settings.{SettingData}
 use Rattle.bsv_serial.specs.Sights.{look_with}
 
 abbrev pub kinds : List NamedPart → List Kind
@@ -61,7 +61,7 @@ AreNeedsOf b needs = needs ≡ needs_from (body_kinds b) 0 b.element.now.calls
 
 -- ---- all elements
 
-abbrev pub ground : Setting → Setting
+abbrev pub ground : Setting → SettingData
 ground s = record {
   kinds = kinds s.design.now.parts;
   elements = s.design.now.elements;

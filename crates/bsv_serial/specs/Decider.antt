@@ -9,12 +9,12 @@ use Rattle.bsv_serial.specs.declared.fates.Fate.{Fate}
 use Rattle.bsv_serial.specs.declared.fates.Fate.TheVariants as fate
 use Rattle.bsv_serial.specs.declared.calls_made.MadeCall.{MadeCall}
 use Rattle.bsv_serial.specs.Making.{with_sites}
-use Rattle.bsv_serial.specs.Settings.{Setting, CanRun, is_ready, words_at, sites_of, value_of}
+use Rattle.bsv_serial.specs.Settings.{SettingData, CanRun, is_ready, words_at, sites_of, value_of}
 use Rattle.bsv_serial.specs.Sights.{or_none}
 
 -- what a clock is decided from
 pub record Course : Type 0 where
-  pub ground : Setting
+  pub ground : SettingData
   -- of each element those that it stops, and its place in the execution order
   pub stops : List (List ℕ)
   pub places : List ℕ

@@ -17,7 +17,7 @@ use Rattle.bsv_serial.specs.Bodies.{CanBeComputed, holds, words_under}
 use Rattle.bsv_serial.specs.Sights.{look_with, or_none}
 
 -- what elements are computed from
-pub record Setting : Type 0 where
+pub record SettingData : Type 0 where
   pub kinds : List Kind
   pub elements : List Element
   -- the guards that have to hold
@@ -27,10 +27,10 @@ pub record Setting : Type 0 where
   pub state : List Part
 
 -- the words that the element is asked with, and 0 where it is not asked
-abbrev pub given_to : Setting → Element → ℕ → List Bits
+abbrev pub given_to : SettingData → Element → ℕ → List Bits
 given_to g e n = filled e.arguments (if_asked (slice_get g.asking.asked n) (slice_get g.asking.args n))
 
-module _ (g : Setting) (calls_made : List (List MadeCall)) (n : ℕ) where
+module _ (g : SettingData) (calls_made : List (List MadeCall)) (n : ℕ) where
   abbrev ready_of : Option Element → Bool
   ready_of None = false
   ready_of (Some e) = holds g.kinds (look_with g.kinds g.state calls_made) e (or_none (slice_get g.needs n)) (given_to g e n)
