@@ -62,7 +62,7 @@ pub fn run<R: Threads + Sync, F: Files, O: Sink, E: Sink>(
         (O.writing out.new) }
     ensures text { (contents : List ℕ → List ℕ) → (F.reading files.old).contents ≡ Some contents
         → TextStarted (map string_bytes words.now) contents (E.writing err.old)
-            (E.writing err.new) }
+        (E.writing err.new) }
 
     // Nothing at all is put to the output where a file is refused; and nothing where memory is
     // wanting, but by a run: it may want memory after it started, and then it put a prefix of an
