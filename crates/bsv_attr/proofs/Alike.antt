@@ -2,7 +2,7 @@
 use Rattle.std.proofs.Common.{◌≡◌, ◌∙◌, ℕ, Bool, true, false, ◌&&◌, List, [], ◌++◌, map, sym, ap, subst, inl, inr, IsTrue}
 use Rattle.std.specs.Prelude.{◌↔◌, IsFalse, slice_get}
 use Rattle.bsv_design.specs.declared.schedule.Schedule.{Schedule}
-use Rattle.bsv_design.specs.declared.tree.Attribute.{Attribute}
+use Rattle.bsv_design.specs.declared.attributes.Attribute.{Attribute}
 use Rattle.bsv_design.specs.scheme.Relations.{goes, for_all, may_precede, no_answers}
 use Rattle.bsv_design.specs.scheme.Schemes.{Scheme, Asking, Look, AreAlike, answers, filled, given, ports_of, ready, seen, all_hold, all_open}
 use Rattle.bsv_design.specs.scheme.Traces.{Trace}

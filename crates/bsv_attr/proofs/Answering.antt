@@ -4,7 +4,7 @@ use Rattle.std.specs.Prelude.{slice_get, Some, Result, Ok, Err}
 use Rattle.std.proofs.lemmas.Bool.{cases_eq, cases_lt}
 use Rattle.std.proofs.lemmas.Option.{same_Some}
 use Rattle.bsv_design.specs.declared.schedule.Schedule.{Schedule}
-use Rattle.bsv_design.specs.declared.tree.Assert.{Assert}
+use Rattle.bsv_design.specs.declared.attributes.Assert.{Assert}
 use Rattle.bsv_design.specs.scheme.Schemes.{Scheme}
 use Rattle.bsv_graph.specs.Orders.{In}
 use Rattle.bsv_graph.proofs.Deciding.{Decided, first_with}

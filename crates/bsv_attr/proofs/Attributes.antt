@@ -12,9 +12,9 @@ use Rattle.bsv_design.specs.declared.element.Condition.{Condition}
 use Rattle.bsv_design.specs.declared.element.Element.{Element}
 use Rattle.bsv_design.specs.declared.kind.Kind.{Kind}
 use Rattle.bsv_design.specs.declared.schedule.Schedule.{Schedule}
-use Rattle.bsv_design.specs.declared.tree.Attribute.{Attribute}
-use Rattle.bsv_design.specs.declared.tree.Attribute.TheVariants as attribute
-use Rattle.bsv_design.specs.declared.tree.Pair.{Pair}
+use Rattle.bsv_design.specs.declared.attributes.Attribute.{Attribute}
+use Rattle.bsv_design.specs.declared.attributes.Attribute.TheVariants as attribute
+use Rattle.bsv_design.specs.declared.attributes.Pair.{Pair}
 use Rattle.bsv_design.specs.design.Bodies.{target, words}
 use Rattle.bsv_design.specs.design.Designs.{DesignData}
 use Rattle.bsv_design.specs.scheme.Schemes.{Scheme, Look, Asking, design_scheme, kinds_of, trace_of, answers, given, seen, ready, is_open, required, all_hold, all_open}

@@ -15,7 +15,7 @@ use Rattle.bsv_design.specs.design.Bodies.{words}
 use Rattle.bsv_design.specs.design.Designs.{DesignData, IsDesign, IsRuleIn}
 use Rattle.bsv_design.specs.scheme.Relations.{no_answers}
 use Rattle.bsv_design.specs.scheme.Schemes.{design_scheme, kinds_of, trace_of, ports_of, filled}
-use Rattle.bsv_design.specs.tree.Seen.{design_data}
+use Rattle.bsv_design.specs.scheme.Seen.{design_data}
 use Rattle.bsv_design.specs.scheme.Traces.{Trace, body_trace, site_at, demand_at}
 use Rattle.bsv_attr.specs.Calling.{is_countable, condition_named, implicit_places}
 use Rattle.bsv_design.specs.scheme.Traces.{has_name}

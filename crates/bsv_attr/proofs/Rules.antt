@@ -5,9 +5,9 @@ use Rattle.bsv_design.specs.declared.design.Design.{Design}
 use Rattle.bsv_design.specs.declared.design.NamedPart.{NamedPart}
 use Rattle.bsv_design.specs.declared.element.Element.{Element}
 use Rattle.bsv_design.specs.declared.schedule.Schedule.{Schedule}
-use Rattle.bsv_design.specs.declared.tree.Assert.{Assert}
+use Rattle.bsv_design.specs.declared.attributes.Assert.{Assert}
 use Rattle.bsv_design.specs.scheme.Schemes.{Scheme, design_scheme}
-use Rattle.bsv_design.specs.tree.Seen.{design_data}
+use Rattle.bsv_design.specs.scheme.Seen.{design_data}
 use Rattle.bsv_attr.specs.Asserting.{IsExplicit, IsUnstopped, AreExplicit, AreUnstopped, NamesImplicit, NamesStopped}
 use Rattle.bsv_attr.specs.Calling.{implicit_places}
 use Rattle.bsv_attr.specs.Implicit.{IsFirstTrue, NoneTrue}

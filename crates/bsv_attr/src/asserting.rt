@@ -5,7 +5,7 @@ ghost use Rattle.bsv_attr.specs.Asserting.{AreExplicit, AreUnstopped, IsAccepted
 ghost use Rattle.bsv_attr.specs.Asserting.{NamesStopper, TellsImplicit, TellsStopper};
 ghost use Rattle.bsv_attr.specs.Calling as calling;
 ghost use Rattle.bsv_design.specs.scheme.Schemes.{design_scheme};
-ghost use Rattle.bsv_design.specs.tree.Seen.{design_data};
+ghost use Rattle.bsv_design.specs.scheme.Seen.{design_data};
 
 use crate::fault::AttrFault;
 use crate::implicit::first_implicit;

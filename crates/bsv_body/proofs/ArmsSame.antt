@@ -4,11 +4,13 @@ use Rattle.std.specs.Prelude.{slice_get, ◌==◌, if◌then◌else◌}
 use Rattle.bsv_bits.specs.Words.{Bits, bit}
 use Rattle.bsv_design.specs.declared.node.Branch.{Branch}
 use Rattle.bsv_design.specs.declared.node.Node.TheVariants as node
-use Rattle.bsv_design.specs.declared.steps.Atom.{Atom}
+use Rattle.bsv_tree.specs.declared.steps.Atom.{Atom}
 use Rattle.bsv_design.specs.design.Bodies.{at}
-use Rattle.bsv_design.specs.carrying.Computing as computing
-use Rattle.bsv_design.specs.carrying.Running as steps
-use Rattle.bsv_design.specs.carrying.Running.{Results, Run, Standing, Happening, or_zero, word_of, words_of, is_one, picked, either_run, last_run, arms_run, nested_run}
+use Rattle.bsv_design.specs.design.Computing as computing
+use Rattle.bsv_tree.specs.carrying.Running as steps
+use Rattle.bsv_tree.specs.meaning.Evaluation.{Results, Standing}
+use Rattle.bsv_tree.specs.carrying.Running.{Run, Happening, word_of, words_of, picked, either_run, last_run, arms_run, nested_run}
+use Rattle.bsv_design.specs.design.Words.{or_zero, is_one}
 use Rattle.bsv_body.specs.declared.choices.Given.{Given}
 use Rattle.bsv_body.specs.declared.choices.Head.{Head}
 use Rattle.bsv_body.specs.declared.choices.Tested.{Tested}

@@ -1,14 +1,14 @@
 -- What laying out gives at each step, each choice and each arm.
 use Rattle.std.proofs.Common.{◌≡◌, ◌∙◌, List, map, Option, ap, sym}
-use Rattle.bsv_design.specs.declared.steps.Arm.{Arm, fold_out-Arm}
-use Rattle.bsv_design.specs.declared.steps.Atom.{Atom}
-use Rattle.bsv_design.specs.declared.steps.Choice.{Choice, fold_out-Choice, out-Choice}
-use Rattle.bsv_design.specs.declared.steps.Compute.{Compute}
-use Rattle.bsv_design.specs.declared.steps.MethodPlace.{MethodPlace}
-use Rattle.bsv_design.specs.declared.steps.Step.{Step, roll-Step, map-Step, fold-roll-Step}
-use Rattle.bsv_design.specs.declared.steps.Step.TheOpen.{Step-F}
-use Rattle.bsv_design.specs.declared.steps.Step.TheViews.{rolls-Let, rolls-Read, rolls-Act, rolls-Need, rolls-Choose}
-use Rattle.bsv_design.specs.declared.steps.Step.TheVariants as step
+use Rattle.bsv_tree.specs.declared.steps.Arm.{Arm, fold_out-Arm}
+use Rattle.bsv_tree.specs.declared.steps.Atom.{Atom}
+use Rattle.bsv_tree.specs.declared.steps.Choice.{Choice, fold_out-Choice, out-Choice}
+use Rattle.bsv_tree.specs.declared.steps.Compute.{Compute}
+use Rattle.bsv_tree.specs.declared.steps.MethodPlace.{MethodPlace}
+use Rattle.bsv_tree.specs.declared.steps.Step.{Step, roll-Step, map-Step, fold-roll-Step}
+use Rattle.bsv_tree.specs.declared.steps.Step.TheOpen.{Step-F}
+use Rattle.bsv_tree.specs.declared.steps.Step.TheViews.{rolls-Let, rolls-Read, rolls-Act, rolls-Need, rolls-Choose}
+use Rattle.bsv_tree.specs.declared.steps.Step.TheVariants as step
 use Rattle.bsv_body.specs.declared.state.State.{State}
 use Rattle.bsv_body.specs.Flat.{Flat, Alternative, Position, nothing, compute, read, act, needed, choose, flat, alternative, choice, step_flat, arm_flat, choice_flat}
 

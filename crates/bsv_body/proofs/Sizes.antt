@@ -1,10 +1,10 @@
 -- How much is left to lay out.
 use Rattle.std.proofs.Common.{◌≡◌, ℕ, ◌+◌, List, map}
 use Rattle.bsv_lemmas.proofs.Sums.{total}
-use Rattle.bsv_design.specs.declared.steps.Arm.{Arm, fold-Arm, fold_out-Arm}
-use Rattle.bsv_design.specs.declared.steps.Choice.{Choice, fold-Choice, fold_out-Choice, out-Choice}
-use Rattle.bsv_design.specs.declared.steps.Step.{Step, fold-Step}
-use Rattle.bsv_design.specs.declared.steps.Step.TheOpen.{Step-F, Choice-F, Arm-F}
+use Rattle.bsv_tree.specs.declared.steps.Arm.{Arm, fold-Arm, fold_out-Arm}
+use Rattle.bsv_tree.specs.declared.steps.Choice.{Choice, fold-Choice, fold_out-Choice, out-Choice}
+use Rattle.bsv_tree.specs.declared.steps.Step.{Step, fold-Step}
+use Rattle.bsv_tree.specs.declared.steps.Step.TheOpen.{Step-F, Choice-F, Arm-F}
 
 abbrev pub step_size_step : Step-F ℕ ℕ ℕ → ℕ
 step_size_step (Step-F.Let c) = 1

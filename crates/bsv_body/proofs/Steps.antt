@@ -1,7 +1,7 @@
 -- What single steps of the code leave, from what the calls in them give.
 use Rattle.std.proofs.Common.{◌≡◌, ◌∙◌, ℕ, List, [], ◌∷◌, ◌++◌, sym, ap}
 use Rattle.bsv_design.specs.declared.node.Node.TheVariants as node
-use Rattle.bsv_design.specs.declared.steps.Atom.{Atom}
+use Rattle.bsv_tree.specs.declared.steps.Atom.{Atom}
 use Rattle.bsv_body.specs.declared.calls.Call.{Call}
 use Rattle.bsv_body.specs.declared.calls.Condition.{Condition}
 use Rattle.bsv_body.specs.declared.choices.Given.{Given}

@@ -3,11 +3,13 @@ use Rattle.std.proofs.Common.{◌≡◌, ◌∙◌, ℕ, suc, ◌+◌, Bool, tru
 use Rattle.std.specs.Prelude.{slice_get}
 use Rattle.bsv_bits.specs.Words.{Bits, bit}
 use Rattle.bsv_design.specs.declared.node.Node.TheVariants as node
-use Rattle.bsv_design.specs.declared.steps.Atom.{Atom}
-use Rattle.bsv_design.specs.declared.steps.Compute.{Compute}
-use Rattle.bsv_design.specs.declared.steps.MethodPlace.{MethodPlace}
-use Rattle.bsv_design.specs.carrying.Running as steps
-use Rattle.bsv_design.specs.carrying.Running.{Results, Run, Standing, Happening, SiteCall, Need, followed, quiet, word_of, words_of, is_one}
+use Rattle.bsv_tree.specs.declared.steps.Atom.{Atom}
+use Rattle.bsv_tree.specs.declared.steps.Compute.{Compute}
+use Rattle.bsv_tree.specs.declared.steps.MethodPlace.{MethodPlace}
+use Rattle.bsv_tree.specs.carrying.Running as steps
+use Rattle.bsv_tree.specs.meaning.Evaluation.{Results, Standing, SiteCall, Need}
+use Rattle.bsv_tree.specs.carrying.Running.{Run, Happening, followed, quiet, word_of, words_of}
+use Rattle.bsv_design.specs.design.Words.{is_one}
 use Rattle.bsv_body.specs.declared.calls.Call.{Call}
 use Rattle.bsv_body.specs.declared.calls.Condition.{Condition}
 use Rattle.bsv_body.specs.declared.state.Asked.{Asked}

@@ -4,13 +4,15 @@ use Rattle.std.specs.Prelude.{slice_get}
 use Rattle.bsv_lemmas.proofs.Places.{at_middle}
 use Rattle.bsv_bits.specs.Words.{Bits, bit}
 use Rattle.bsv_design.specs.declared.node.Node.TheVariants as node
-use Rattle.bsv_design.specs.declared.steps.Arm.{Arm, roll-Arm, map-Arm, fold-Arm, fold-roll-Arm}
-use Rattle.bsv_design.specs.declared.steps.Atom.{Atom}
-use Rattle.bsv_design.specs.declared.steps.Choice.{Choice, roll-Choice, map-Choice, fold-Choice, fold-roll-Choice}
-use Rattle.bsv_design.specs.declared.steps.Step.{Step, fold-roll-Step, ind-Step, roll-Step, map-Step}
-use Rattle.bsv_design.specs.declared.steps.Step.TheOpen.{Step-F, Choice-F, Arm-F}
-use Rattle.bsv_design.specs.carrying.Running as steps
-use Rattle.bsv_design.specs.carrying.Running.{Results, Run, happening, or_zero, word_of, step_run, choice_run, arm_run}
+use Rattle.bsv_tree.specs.declared.steps.Arm.{Arm, roll-Arm, map-Arm, fold-Arm, fold-roll-Arm}
+use Rattle.bsv_tree.specs.declared.steps.Atom.{Atom}
+use Rattle.bsv_tree.specs.declared.steps.Choice.{Choice, roll-Choice, map-Choice, fold-Choice, fold-roll-Choice}
+use Rattle.bsv_tree.specs.declared.steps.Step.{Step, fold-roll-Step, ind-Step, roll-Step, map-Step}
+use Rattle.bsv_tree.specs.declared.steps.Step.TheOpen.{Step-F, Choice-F, Arm-F}
+use Rattle.bsv_tree.specs.carrying.Running as steps
+use Rattle.bsv_tree.specs.meaning.Evaluation.{Results}
+use Rattle.bsv_tree.specs.carrying.Running.{Run, happening, word_of, step_run, choice_run, arm_run}
+use Rattle.bsv_design.specs.design.Words.{or_zero}
 use Rattle.bsv_body.specs.declared.body.Body.{Body}
 use Rattle.bsv_body.specs.declared.calls.Call.{Call}
 use Rattle.bsv_body.specs.declared.state.Asked.{Asked}

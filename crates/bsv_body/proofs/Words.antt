@@ -5,15 +5,17 @@ use Rattle.bsv_lemmas.proofs.Places.{at_end}
 use Rattle.bsv_bits.specs.Words.{Bits, bit, word_not}
 use Rattle.bsv_design.specs.declared.node.Node.{Node}
 use Rattle.bsv_design.specs.declared.node.Node.TheVariants as node
-use Rattle.bsv_design.specs.declared.steps.Atom.{Atom}
-use Rattle.bsv_design.specs.declared.steps.Atom.TheVariants as atom
-use Rattle.bsv_design.specs.declared.steps.Compute.{Compute}
-use Rattle.bsv_design.specs.declared.steps.Compute.TheVariants as computed
+use Rattle.bsv_tree.specs.declared.steps.Atom.{Atom}
+use Rattle.bsv_tree.specs.declared.steps.Atom.TheVariants as atom
+use Rattle.bsv_tree.specs.declared.steps.Compute.{Compute}
+use Rattle.bsv_tree.specs.declared.steps.Compute.TheVariants as computed
 use Rattle.bsv_design.specs.design.Bodies.{at}
-use Rattle.bsv_design.specs.carrying.Computing as computing
+use Rattle.bsv_design.specs.design.Computing as computing
 use Rattle.bsv_design.proofs.Bodies.{words_long, words_one}
-use Rattle.bsv_design.specs.carrying.Running as steps
-use Rattle.bsv_design.specs.carrying.Running.{Results, or_zero, word_of, words_of}
+use Rattle.bsv_tree.specs.carrying.Running as steps
+use Rattle.bsv_tree.specs.meaning.Evaluation.{Results}
+use Rattle.bsv_design.specs.design.Words.{or_zero}
+use Rattle.bsv_tree.specs.carrying.Running.{word_of, words_of}
 use Rattle.bsv_body.specs.declared.calls.Call.{Call}
 use Rattle.bsv_body.specs.declared.state.State.{State}
 use Rattle.bsv_body.specs.Bodies.{Shows}

@@ -1,11 +1,11 @@
 -- For each method of the code the definition of its name, with what is at hand in front.
 use Rattle.std.specs.Prelude.{ℕ, Bool, List, [], map, Option}
 use Rattle.bsv_design.specs.declared.node.Branch.{Branch}
-use Rattle.bsv_design.specs.declared.steps.Arm.{Arm}
-use Rattle.bsv_design.specs.declared.steps.Atom.{Atom}
-use Rattle.bsv_design.specs.declared.steps.Choice.{Choice, out-Choice}
-use Rattle.bsv_design.specs.declared.steps.MethodPlace.{MethodPlace}
-use Rattle.bsv_design.specs.declared.steps.Step.{Step}
+use Rattle.bsv_tree.specs.declared.steps.Arm.{Arm}
+use Rattle.bsv_tree.specs.declared.steps.Atom.{Atom}
+use Rattle.bsv_tree.specs.declared.steps.Choice.{Choice, out-Choice}
+use Rattle.bsv_tree.specs.declared.steps.MethodPlace.{MethodPlace}
+use Rattle.bsv_tree.specs.declared.steps.Step.{Step}
 use Rattle.bsv_body.specs.declared.flattener.Flattener.{Flattener}
 use Rattle.bsv_body.specs.declared.calls.Call.{Call}
 use Rattle.bsv_body.specs.declared.state.Asked.{Asked}

@@ -1,9 +1,11 @@
 -- What is promised of a flat body: its nodes mean what the steps do, whatever methods give.
 use Rattle.std.specs.Prelude.{◌≡◌, ℕ, List, [], ◌∷◌, length, Option, Some, None, slice_get}
 use Rattle.bsv_bits.specs.Words.{Bits, bit}
-use Rattle.bsv_design.specs.declared.steps.Atom.{Atom}
-use Rattle.bsv_design.specs.declared.steps.Step.{Step}
-use Rattle.bsv_design.specs.carrying.Running.{Results, SiteCall, Need, word_of, is_one, happening}
+use Rattle.bsv_tree.specs.declared.steps.Atom.{Atom}
+use Rattle.bsv_tree.specs.declared.steps.Step.{Step}
+use Rattle.bsv_tree.specs.meaning.Evaluation.{Results, SiteCall, Need}
+use Rattle.bsv_tree.specs.carrying.Running.{word_of, happening}
+use Rattle.bsv_design.specs.design.Words.{is_one}
 use Rattle.bsv_body.specs.declared.body.Body.{Body}
 use Rattle.bsv_body.specs.declared.calls.Call.{Call}
 use Rattle.bsv_body.specs.declared.calls.Condition.{Condition}

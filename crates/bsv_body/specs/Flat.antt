@@ -3,15 +3,15 @@ use Rattle.std.specs.Prelude.{ℕ, ◌+◌, Bool, true, false, List, [], ◌∷�
 use Rattle.bsv_bits.specs.Words.{bit}
 use Rattle.bsv_design.specs.declared.node.Node.{Node}
 use Rattle.bsv_design.specs.declared.node.Node.TheVariants as node
-use Rattle.bsv_design.specs.declared.steps.Atom.{Atom}
-use Rattle.bsv_design.specs.declared.steps.Atom.TheVariants as atom
-use Rattle.bsv_design.specs.declared.steps.Compute.{Compute}
-use Rattle.bsv_design.specs.declared.steps.Compute.TheVariants as computed
-use Rattle.bsv_design.specs.declared.steps.MethodPlace.{MethodPlace}
-use Rattle.bsv_design.specs.declared.steps.Arm.{Arm, fold-Arm}
-use Rattle.bsv_design.specs.declared.steps.Choice.{Choice, fold-Choice}
-use Rattle.bsv_design.specs.declared.steps.Step.{Step, fold-Step}
-use Rattle.bsv_design.specs.declared.steps.Step.TheOpen.{Step-F, Choice-F, Arm-F}
+use Rattle.bsv_tree.specs.declared.steps.Atom.{Atom}
+use Rattle.bsv_tree.specs.declared.steps.Atom.TheVariants as atom
+use Rattle.bsv_tree.specs.declared.steps.Compute.{Compute}
+use Rattle.bsv_tree.specs.declared.steps.Compute.TheVariants as computed
+use Rattle.bsv_tree.specs.declared.steps.MethodPlace.{MethodPlace}
+use Rattle.bsv_tree.specs.declared.steps.Arm.{Arm, fold-Arm}
+use Rattle.bsv_tree.specs.declared.steps.Choice.{Choice, fold-Choice}
+use Rattle.bsv_tree.specs.declared.steps.Step.{Step, fold-Step}
+use Rattle.bsv_tree.specs.declared.steps.Step.TheOpen.{Step-F, Choice-F, Arm-F}
 use Rattle.bsv_design.specs.declared.node.Branch.{Branch}
 use Rattle.bsv_body.specs.declared.calls.Call.{Call}
 use Rattle.bsv_body.specs.declared.calls.Condition.{Condition}

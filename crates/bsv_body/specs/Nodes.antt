@@ -2,7 +2,7 @@
 use Rattle.std.specs.Prelude.{ℕ, List, Option}
 use Rattle.bsv_bits.specs.Words.{Bits}
 use Rattle.bsv_design.specs.design.Bodies.{Calling, at, call_word, word_over, words_after}
-use Rattle.bsv_design.specs.carrying.Running.{Results}
+use Rattle.bsv_tree.specs.meaning.Evaluation.{Results}
 use Rattle.bsv_design.specs.declared.node.Node.{Node}
 use Rattle.bsv_body.specs.declared.calls.Call.{Call}
 

@@ -1,7 +1,7 @@
 -- How a body begins and ends.
 use Rattle.std.specs.Prelude.{ℕ, zero, suc, ◌+◌, true, false, [], Option, Some, None}
 use Rattle.bsv_bits.specs.Words.{bit}
-use Rattle.bsv_design.specs.declared.steps.Atom.{Atom}
+use Rattle.bsv_tree.specs.declared.steps.Atom.{Atom}
 use Rattle.bsv_design.specs.declared.node.Node.TheVariants as node
 use Rattle.bsv_body.specs.declared.state.State.{State}
 use Rattle.bsv_body.specs.Flat.{put, stand, operand}

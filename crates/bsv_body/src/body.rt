@@ -9,7 +9,8 @@ use crate::flattener::Flattener;
 use crate::operands::operand;
 use crate::state::{Laid, State, put, stand};
 use bsv_bits::{OutOfMemory, Word};
-use bsv_design::{Atom, Node, Step};
+use bsv_design::Node;
+use bsv_tree::{Atom, Step};
 use sqlite_items::Items;
 use std::alloc::Global;
 

@@ -1,4 +1,5 @@
-use bsv_design::{Branch, MethodPlace};
+use bsv_design::Branch;
+use bsv_tree::MethodPlace;
 use sqlite_items::Items;
 
 /// A call of a method of a primitive, at its site.

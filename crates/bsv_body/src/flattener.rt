@@ -3,7 +3,8 @@ ghost use Rattle.bsv_body.specs.AtHand as spec;
 
 use crate::calls::Call;
 use crate::state::Laid;
-use bsv_design::{Branch, MethodPlace};
+use bsv_design::Branch;
+use bsv_tree::MethodPlace;
 use sqlite_items::Items;
 use std::alloc::Global;
 

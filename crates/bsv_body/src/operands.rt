@@ -5,7 +5,8 @@ ghost use Rattle.bsv_body.specs.Flat as spec;
 
 use crate::state::{Laid, State, put, stand};
 use bsv_bits::Word;
-use bsv_design::{Atom, Compute, Node};
+use bsv_design::Node;
+use bsv_tree::{Atom, Compute};
 use sqlite_items::Items;
 use std::alloc::Global;
 

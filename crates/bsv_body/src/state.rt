@@ -5,7 +5,7 @@ ghost use Rattle.bsv_body.specs.Flat as spec;
 use crate::calls::{Call, Condition};
 use bsv_bits::OutOfMemory;
 use bsv_design::Node;
-use bsv_steps::front;
+use bsv_tree::front;
 use sqlite_items::Items;
 use std::alloc::{AllocError, Global};
 use std::mem::replace;

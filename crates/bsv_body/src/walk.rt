@@ -11,7 +11,8 @@ use crate::state::{
     Asked, Laid, State, add, cut, nothing, numbered, one_call, one_choice, put, stand, standing,
     with_call, with_condition,
 };
-use bsv_design::{Arm, Atom, Branch, Choice, MethodPlace, Node, Step};
+use bsv_design::{Branch, Node};
+use bsv_tree::{Arm, Atom, Choice, MethodPlace, Step};
 use sqlite_items::Items;
 use std::alloc::Global;
 

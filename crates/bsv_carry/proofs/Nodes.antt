@@ -16,12 +16,13 @@ use Rattle.bsv_types.specs.declared.statements.Stmt.TheViews.{rolls-Block, rolls
 use Rattle.bsv_types.specs.declared.statements.Stmt.TheVariants as s
 use Rattle.bsv_types.specs.declared.types.Ty.{Ty}
 use Rattle.bsv_types.specs.Kinds.{kind}
-use Rattle.bsv_design.specs.declared.values.Local.{Local}
-use Rattle.bsv_design.specs.declared.values.Work.{Work}
-use Rattle.bsv_design.specs.declared.values.Value.{Value}
-use Rattle.bsv_design.specs.carrying.Calls.{Callee, Caller, Context, static_fault, variable}
-use Rattle.bsv_design.specs.carrying.Carrying.{Carried, Placing, Acts, Branched, Labelled, expression, place, expr, expr_step, place_step, as_static, literal, apply, function, method, choice, stmt, branch, case_arm, stmt_step, branch_step, case_step, asked, run, inside, chain, or_nothing, loop_of, cases, called, call_at}
-use Rattle.bsv_design.specs.carrying.Working.{counted}
+use Rattle.bsv_tree.specs.declared.values.Local.{Local}
+use Rattle.bsv_tree.specs.declared.values.Work.{Work}
+use Rattle.bsv_tree.specs.declared.values.Value.{Value}
+use Rattle.bsv_tree.specs.tree.Contexts.{Callee, Context}
+use Rattle.bsv_tree.specs.carrying.Calls.{Caller, static_fault, variable}
+use Rattle.bsv_tree.specs.carrying.Carrying.{Carried, Placing, Acts, Branched, Labelled, expression, place, expr, expr_step, place_step, as_static, literal, apply, function, method, choice, stmt, branch, case_arm, stmt_step, branch_step, case_step, asked, run, inside, chain, or_nothing, loop_of, cases, called, call_at}
+use Rattle.bsv_tree.specs.carrying.Working.{counted}
 
 module _ (call : Caller) (site : Context) where
   -- ---- expressions

@@ -5,8 +5,9 @@ use Rattle.bsv_types.specs.declared.expressions.Expr.TheOpen.{Expr-F}
 use Rattle.bsv_types.specs.declared.expressions.Place.{Place}
 use Rattle.bsv_types.specs.Expressions.{carried_type, expr_type}
 use Rattle.bsv_types.specs.Kinds.{kind}
-use Rattle.bsv_design.specs.carrying.Calls.{Caller, Context}
-use Rattle.bsv_design.specs.carrying.Carrying.{Carried, Placing, expression, place, expr_step, place_step}
+use Rattle.bsv_tree.specs.carrying.Calls.{Caller}
+use Rattle.bsv_tree.specs.tree.Contexts.{Context}
+use Rattle.bsv_tree.specs.carrying.Carrying.{Carried, Placing, expression, place, expr_step, place_step}
 
 module _ (f : Expr → Carried) (g : Place → Placing) where
   same_type : (y : Expr-F Expr Place) → carried_type (map-Expr Expr Place Carried Placing f g y) ≡ carried_type y

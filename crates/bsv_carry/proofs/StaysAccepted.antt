@@ -17,13 +17,13 @@ use Rattle.std.specs.Prelude.{slice_get}
 use Rattle.bsv_types.specs.declared.expressions.Expr.{Expr}
 use Rattle.bsv_types.specs.declared.modules.Method.{Method}
 use Rattle.bsv_types.specs.declared.statements.Stmt.{Stmt}
-use Rattle.bsv_design.specs.declared.tree.Built.{Built}
-use Rattle.bsv_design.specs.declared.tree.Instance.{Instance}
-use Rattle.bsv_design.specs.declared.tree.Made.TheVariants as made
-use Rattle.bsv_design.specs.declared.values.Fault.{Fault}
-use Rattle.bsv_design.specs.carrying.Calls.{Context, made_of}
-use Rattle.bsv_design.specs.carrying.Carrying as carrying
-use Rattle.bsv_design.specs.tree.Trees.{IsAccepted}
+use Rattle.bsv_tree.specs.declared.tree.Built.{Built}
+use Rattle.bsv_tree.specs.declared.tree.Instance.{Instance}
+use Rattle.bsv_tree.specs.declared.tree.Made.TheVariants as made
+use Rattle.bsv_tree.specs.declared.values.Fault.{Fault}
+use Rattle.bsv_tree.specs.tree.Contexts.{Context, made_of}
+use Rattle.bsv_tree.specs.carrying.Carrying as carrying
+use Rattle.bsv_tree.specs.tree.Trees.{IsAccepted}
 use Rattle.bsv_carry.specs.StaysAccepted.{Stays, Grows, over, weighing, StaysAccepted}
 use Rattle.bsv_carry.proofs.StaysAccepted.SideBySide.{Into, heavier, at_heavier}
 use Rattle.bsv_carry.proofs.StaysAccepted.Instances.{stays_same}

@@ -18,24 +18,27 @@ use Rattle.bsv_types.specs.Kinds.{Kind}
 use Rattle.bsv_types.specs.Shapes.{Shapes}
 use Rattle.bsv_bits.specs.declared.operator.Operator.{Operator}
 use Rattle.bsv_design.specs.declared.kind.Kind.{Kind as PartKind}
-use Rattle.bsv_design.specs.declared.steps.Arm.{Arm}
-use Rattle.bsv_design.specs.declared.steps.Atom.{Atom}
-use Rattle.bsv_design.specs.declared.steps.MethodPlace.{MethodPlace}
-use Rattle.bsv_design.specs.declared.tree.Built.{Built}
-use Rattle.bsv_design.specs.declared.values.Count.{Count}
-use Rattle.bsv_design.specs.declared.values.Fault.{Fault}
-use Rattle.bsv_design.specs.declared.values.Local.{Local}
-use Rattle.bsv_design.specs.declared.values.Pending.{Pending}
-use Rattle.bsv_design.specs.declared.values.Value.{Value}
-use Rattle.bsv_design.specs.declared.values.Work.{Work}
-use Rattle.bsv_design.specs.carrying.Applied as applying
-use Rattle.bsv_design.specs.carrying.Operated as operated
-use Rattle.bsv_design.specs.carrying.Calls as calls
-use Rattle.bsv_design.specs.carrying.Calls.{Caller, made_of, place_in_body}
-use Rattle.bsv_design.specs.carrying.Carrying as carrying
-use Rattle.bsv_design.specs.carrying.Carrying.{Carried, Carry, Acts, Test, Branched, Labelled, call_at}
-use Rattle.bsv_design.specs.carrying.Frames.{no_variables}
-use Rattle.bsv_design.specs.carrying.Working.{Valued}
+use Rattle.bsv_tree.specs.declared.steps.Arm.{Arm}
+use Rattle.bsv_tree.specs.declared.steps.Atom.{Atom}
+use Rattle.bsv_tree.specs.declared.steps.MethodPlace.{MethodPlace}
+use Rattle.bsv_tree.specs.declared.tree.Built.{Built}
+use Rattle.bsv_tree.specs.declared.values.Count.{Count}
+use Rattle.bsv_tree.specs.declared.values.Fault.{Fault}
+use Rattle.bsv_tree.specs.declared.values.Local.{Local}
+use Rattle.bsv_tree.specs.declared.values.Pending.{Pending}
+use Rattle.bsv_tree.specs.declared.values.Value.{Value}
+use Rattle.bsv_tree.specs.declared.values.Work.{Work}
+use Rattle.bsv_tree.specs.carrying.Applied as applying
+use Rattle.bsv_tree.specs.tree.Widths as type_widths
+use Rattle.bsv_tree.specs.carrying.Operated as operated
+use Rattle.bsv_tree.specs.carrying.Calls as calls
+use Rattle.bsv_tree.specs.tree.Contexts as contexts
+use Rattle.bsv_tree.specs.carrying.Calls.{Caller}
+use Rattle.bsv_tree.specs.tree.Contexts.{made_of, place_in_body}
+use Rattle.bsv_tree.specs.carrying.Carrying as carrying
+use Rattle.bsv_tree.specs.carrying.Carrying.{Carried, Carry, Acts, Test, Branched, Labelled, call_at}
+use Rattle.bsv_tree.specs.carrying.Frames.{no_variables}
+use Rattle.bsv_tree.specs.carrying.Working.{Valued}
 use Rattle.bsv_carry.specs.declared.carrier.Carrier.{Carrier}
 use Rattle.bsv_carry.specs.declared.site.Context.{Context}
 use Rattle.bsv_carry.specs.declared.suffixes.BitRange.{BitRange}
@@ -46,7 +49,7 @@ shapes_of t = record { enums = t.enums; structs = t.structs; interfaces = t.inte
 abbrev pub shapes : Carrier → Shapes
 shapes c = shapes_of c.typed.now
 
-abbrev pub site : Carrier → calls.Context
+abbrev pub site : Carrier → contexts.Context
 site c = record {
   shapes = shapes c;
   functions = c.typed.now.functions;
@@ -57,7 +60,7 @@ site c = record {
 }
 
 -- the same of what is at hand for the calls of other crates
-abbrev pub text : Context → calls.Context
+abbrev pub text : Context → contexts.Context
 text t = record {
   shapes = shapes_of t.typed.now;
   functions = t.typed.now.functions;
@@ -76,7 +79,7 @@ caller c = call_at c.depth
 -- ---- operators
 
 abbrev pub width : Carrier → Kind → ℕ
-width c = applying.width (shapes c)
+width c = type_widths.width (shapes c)
 
 abbrev pub fields : Carrier → Kind → List Field
 fields c = applying.fields (shapes c) (fault_of c)

@@ -7,14 +7,14 @@ use Rattle.std.proofs.Common.{◌⊎◌}
 use Rattle.bsv_types.specs.declared.expressions.Expr.{Expr}
 use Rattle.bsv_types.specs.declared.modules.Method.{Method}
 use Rattle.bsv_types.specs.declared.statements.Stmt.{Stmt}
-use Rattle.bsv_design.specs.declared.tree.Instance.{Instance}
-use Rattle.bsv_design.specs.declared.tree.Made.{Made}
-use Rattle.bsv_design.specs.declared.tree.Made.TheVariants as made
-use Rattle.bsv_design.specs.declared.values.Work.{Work}
-use Rattle.bsv_design.specs.carrying.Calls.{Context, made_of}
-use Rattle.bsv_design.specs.carrying.Carrying as carrying
-use Rattle.bsv_design.specs.tree.Trees.{IsAccepted}
-use Rattle.bsv_design.specs.carrying.Working.{no_steps}
+use Rattle.bsv_tree.specs.declared.tree.Instance.{Instance}
+use Rattle.bsv_tree.specs.declared.tree.Made.{Made}
+use Rattle.bsv_tree.specs.declared.tree.Made.TheVariants as made
+use Rattle.bsv_tree.specs.declared.values.Work.{Work}
+use Rattle.bsv_tree.specs.tree.Contexts.{Context, made_of}
+use Rattle.bsv_tree.specs.carrying.Carrying as carrying
+use Rattle.bsv_tree.specs.tree.Trees.{IsAccepted}
+use Rattle.bsv_tree.specs.carrying.Working.{no_steps}
 
 -- what is at a place, and what is there later. A module that is not built yet, so that it has no methods, may become another
 abbrev pub Stays : Option Made → Option Made → Type 0

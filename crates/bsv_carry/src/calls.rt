@@ -2,15 +2,15 @@ ghost use Rattle.bsv_fail.specs.Given.{Gives};
 ghost use Rattle.bsv_carry.specs.AtHand as spec;
 
 use crate::carrier::Carrier;
-use bsv_design::{Built, Fault, MethodPlace, Value, Work};
+use bsv_tree::{Built, Fault, MethodPlace, Value, Work};
 use bsv_fail::Fail;
-use bsv_steps::{Got, Valued, arguments, is_integer, needed, no_steps, no_variables, seen};
+use bsv_tree::{Got, Valued, arguments, is_integer, needed, no_steps, no_variables, seen};
 use bsv_types::{Body, Expr, Method, Stmt};
 
 impl<'a> Carrier<'a> {
     /// A condition, which has to hold.
     #[cycle(carry)]
-    #[tactic(auto, unfolding(bsv_design::specs::carrying::Carrying::asking))]
+    #[tactic(auto, unfolding(bsv_tree::specs::carrying::Carrying::asking))]
     fn asking(self, name: Option<MethodPlace>, condition: &Option<Expr>, work: Work) -> Got<Work>
         ensures { Gives result (spec.asking self.entry name condition.now work) }
     {
@@ -27,7 +27,7 @@ impl<'a> Carrier<'a> {
 
     /// A body, and what it returns.
     #[cycle(carry)]
-    #[tactic(auto, unfolding(bsv_design::specs::carrying::Carrying::giving))]
+    #[tactic(auto, unfolding(bsv_tree::specs::carrying::Carrying::giving))]
     fn giving(self, body: &Body, integer: bool, values: &[Value], work: Work) -> Valued
         ensures { Gives result (spec.giving self.entry body.now integer values.now work) }
     {
@@ -43,7 +43,7 @@ impl<'a> Carrier<'a> {
 
     /// A call of a function, which sees its parameters alone.
     #[cycle(carry)]
-    #[tactic(auto, using(crate::proofs::Depths::falls, crate::proofs::Nodes::calls), unfolding(bsv_design::specs::carrying::Calls::function_at, bsv_design::specs::carrying::Carrying::call_at, bsv_design::specs::carrying::Carrying::called, bsv_design::specs::carrying::Carrying::asking))]
+    #[tactic(auto, using(crate::proofs::Depths::falls, crate::proofs::Nodes::calls), unfolding(bsv_tree::specs::carrying::Calls::function_at, bsv_tree::specs::carrying::Carrying::call_at, bsv_tree::specs::carrying::Carrying::called, bsv_tree::specs::carrying::Carrying::asking))]
     pub(crate) fn function_at(self, number: u32, values: &[Value], work: Work) -> Valued
         ensures { Gives result (spec.function_at self.entry number values.now work) }
     {
@@ -65,7 +65,7 @@ impl<'a> Carrier<'a> {
 
     /// A method of a module's instance.
     #[cycle(carry)]
-    #[tactic(auto, unfolding(bsv_design::specs::carrying::Carrying::called))]
+    #[tactic(auto, unfolding(bsv_tree::specs::carrying::Carrying::called))]
     fn entered(self, name: MethodPlace, method: &Method, values: &[Value], work: Work) -> Valued
         ensures { Gives result (spec.entered self.entry name method.now values.now work) }
     {
@@ -75,7 +75,7 @@ impl<'a> Carrier<'a> {
 
     /// A call of a method of a module's instance, which sees the variables that come before it.
     #[cycle(carry)]
-    #[tactic(auto, using(crate::proofs::Depths::falls, crate::proofs::Nodes::calls), unfolding(bsv_design::specs::carrying::Calls::user_method, bsv_design::specs::carrying::Carrying::call_at))]
+    #[tactic(auto, using(crate::proofs::Depths::falls, crate::proofs::Nodes::calls), unfolding(bsv_tree::specs::carrying::Calls::user_method, bsv_tree::specs::carrying::Carrying::call_at))]
     pub(crate) fn user_method(
         self,
         instance: u32,

@@ -1,10 +1,10 @@
 ghost use Rattle.std.specs.Prelude.{◌≡◌};
 ghost use Rattle.bsv_types.specs.Kinds.{kind};
-ghost use Rattle.bsv_design.specs.carrying.Applied as applied;
-ghost use Rattle.bsv_design.specs.carrying.Calls as calls;
+ghost use Rattle.bsv_tree.specs.carrying.Applied as applied;
+ghost use Rattle.bsv_tree.specs.carrying.Calls as calls;
 ghost use Rattle.bsv_carry.specs.AtHand as spec;
 
-use bsv_design::{Binding, Fault, Instance};
+use bsv_tree::{Binding, Fault, Instance};
 use bsv_fail::Fail;
 use bsv_types::{Field, Ty, Typed, counted_width};
 use std::alloc::Global;
@@ -33,7 +33,7 @@ impl<'a> Carrier<'a> {
     }
 
     /// The bits of a type.
-    #[tactic(auto, unfolding(bsv_design::specs::carrying::Applied::width))]
+    #[tactic(auto, unfolding(bsv_tree::specs::tree::Widths::width))]
     pub(crate) fn width(self, ty: &Ty) -> u32
         ensures { result ≡ spec.width self.entry (kind ty.now) }
     {

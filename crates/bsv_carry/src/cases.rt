@@ -3,9 +3,9 @@ ghost use Rattle.bsv_carry.specs.AtHand as spec;
 
 use crate::carrier::Carrier;
 use crate::statements::Acted;
-use bsv_design::{Count, Local, Pending, Value, Work};
+use bsv_tree::{Count, Local, Pending, Value, Work};
 use bsv_fail::Fail;
-use bsv_steps::{
+use bsv_tree::{
     Counted, Got, Locals, Valued, after_arm, at_count, close, either, is_static, is_true, no_steps,
     or_false, untouched, with_pending,
 };
@@ -15,7 +15,7 @@ use sqlite_items::{Boxed, Items};
 impl Carrier<'_> {
     /// Whether the subject has the label, which is static, or one before.
     #[cycle(carry)]
-    #[tactic(auto, unfolding(bsv_design::specs::carrying::Carrying::label))]
+    #[tactic(auto, unfolding(bsv_tree::specs::carrying::Carrying::label))]
     fn label(
         self,
         subject: &Value,
@@ -37,7 +37,7 @@ impl Carrier<'_> {
 
     /// Whether the subject has one of the labels.
     #[cycle(carry)]
-    #[tactic(auto, unfolding(bsv_design::specs::carrying::Carrying::labels, bsv_design::specs::carrying::Carrying::labels_from))]
+    #[tactic(auto, unfolding(bsv_tree::specs::carrying::Carrying::labels, bsv_tree::specs::carrying::Carrying::labels_from))]
     fn labels(self, subject: &Value, labels: &[Expr], locals: &[Local], count: Count) -> Valued
         ensures { Gives result (spec.labels self.entry subject.now labels.now locals.now count) }
     {
@@ -55,7 +55,7 @@ impl Carrier<'_> {
 
     /// An arm, which is carried out where it is the first one that has the subject.
     #[cycle(carry)]
-    #[tactic(auto, unfolding(bsv_design::specs::carrying::Carrying::static_arm, bsv_design::specs::carrying::Carrying::case_arm, bsv_design::specs::carrying::Carrying::stmt))]
+    #[tactic(auto, unfolding(bsv_tree::specs::carrying::Carrying::static_arm, bsv_tree::specs::carrying::Carrying::case_arm, bsv_tree::specs::carrying::Carrying::stmt))]
     fn static_arm(
         self,
         subject: &Value,
@@ -79,7 +79,7 @@ impl Carrier<'_> {
 
     /// A `case` whose subject is static: all labels are carried out.
     #[cycle(carry)]
-    #[tactic(auto, unfolding(bsv_design::specs::carrying::Carrying::static_case))]
+    #[tactic(auto, unfolding(bsv_tree::specs::carrying::Carrying::static_case))]
     fn static_case(
         self,
         subject: &Value,
@@ -111,7 +111,7 @@ impl Carrier<'_> {
 
     /// An arm of a `case` whose subject is not static.
     #[cycle(carry)]
-    #[tactic(auto, unfolding(bsv_design::specs::carrying::Carrying::open_arm, bsv_design::specs::carrying::Carrying::case_arm, bsv_design::specs::carrying::Carrying::stmt))]
+    #[tactic(auto, unfolding(bsv_tree::specs::carrying::Carrying::open_arm, bsv_tree::specs::carrying::Carrying::case_arm, bsv_tree::specs::carrying::Carrying::stmt))]
     fn open_arm(
         self,
         subject: &Value,
@@ -133,7 +133,7 @@ impl Carrier<'_> {
 
     /// A `case` whose subject is not static.
     #[cycle(carry)]
-    #[tactic(auto, unfolding(bsv_design::specs::carrying::Carrying::open_case))]
+    #[tactic(auto, unfolding(bsv_tree::specs::carrying::Carrying::open_case))]
     fn open_case(
         self,
         subject: &Value,
@@ -168,7 +168,7 @@ impl Carrier<'_> {
 
     /// A `case`.
     #[cycle(carry)]
-    #[tactic(auto, unfolding(bsv_design::specs::carrying::Carrying::cases))]
+    #[tactic(auto, unfolding(bsv_tree::specs::carrying::Carrying::cases))]
     pub(crate) fn cases(
         self,
         subject: &Expr,

@@ -3,8 +3,8 @@ ghost use Rattle.bsv_carry.specs.AtHand as spec;
 
 use crate::carrier::Carrier;
 use crate::statements::Acted;
-use bsv_design::{Count, Local, Pending, Value, Work};
-use bsv_steps::{
+use bsv_tree::{Count, Local, Pending, Value, Work};
+use bsv_tree::{
     Counted, Got, Locals, after_arm, at_count, close, front, is_static, is_true, no_steps, slice,
     untouched, with_pending, with_variable,
 };
@@ -17,7 +17,7 @@ pub(crate) type Bound = Option<(Value, u32)>;
 impl Carrier<'_> {
     /// What a condition asks, and the Maybe whose payload it binds.
     #[cycle(carry)]
-    #[tactic(auto, unfolding(bsv_design::specs::carrying::Carrying::asked))]
+    #[tactic(auto, unfolding(bsv_tree::specs::carrying::Carrying::asked))]
     fn condition_asked(
         self,
         condition: &Condition,
@@ -43,7 +43,7 @@ impl Carrier<'_> {
     }
 
     #[cycle(carry)]
-    #[tactic(auto, unfolding(bsv_design::specs::carrying::Carrying::branch))]
+    #[tactic(auto, unfolding(bsv_tree::specs::carrying::Carrying::branch))]
     fn asked(self, branch: &Branch, locals: &[Local], count: Count) -> Got<(Value, Bound, Work)>
         ensures { Gives result (spec.asked self.entry branch.now locals.now count) }
     {
@@ -52,7 +52,7 @@ impl Carrier<'_> {
 
     /// An arm in which a payload has a name.
     #[cycle(carry)]
-    #[tactic(auto, unfolding(bsv_design::specs::carrying::Carrying::branch_arm))]
+    #[tactic(auto, unfolding(bsv_tree::specs::carrying::Carrying::branch_arm))]
     fn arm(self, stmt: &Stmt, bound: Bound, locals: Locals, work: Work) -> Acted
         ensures { Gives result (spec.arm self.entry stmt.now bound locals work) }
     {
@@ -70,7 +70,7 @@ impl Carrier<'_> {
 
     /// The arm of a branch.
     #[cycle(carry)]
-    #[tactic(auto, unfolding(bsv_design::specs::carrying::Carrying::branch, bsv_design::specs::carrying::Carrying::stmt))]
+    #[tactic(auto, unfolding(bsv_tree::specs::carrying::Carrying::branch, bsv_tree::specs::carrying::Carrying::stmt))]
     fn branch_arm(self, branch: &Branch, bound: Bound, locals: Locals, work: Work) -> Acted
         ensures { Gives result (spec.branch_arm self.entry branch.now bound locals work) }
     {
@@ -79,7 +79,7 @@ impl Carrier<'_> {
 
     /// The arm of a branch whose condition is static and True, which is the last one.
     #[cycle(carry)]
-    #[tactic(auto, unfolding(bsv_design::specs::carrying::Carrying::last_arm))]
+    #[tactic(auto, unfolding(bsv_tree::specs::carrying::Carrying::last_arm))]
     fn last_branch(
         self,
         work: Work,
@@ -109,7 +109,7 @@ impl Carrier<'_> {
 
     /// The arms after a condition that is not static and True.
     #[cycle(carry)]
-    #[tactic(auto, unfolding(bsv_design::specs::carrying::Carrying::kept))]
+    #[tactic(auto, unfolding(bsv_tree::specs::carrying::Carrying::kept))]
     fn kept(
         self,
         arms: Items<Pending>,
@@ -135,7 +135,7 @@ impl Carrier<'_> {
 
     /// The arms of an `if`.
     #[cycle(carry)]
-    #[tactic(auto, unfolding(bsv_design::specs::carrying::Carrying::chain, bsv_design::specs::carrying::Carrying::chain_from))]
+    #[tactic(auto, unfolding(bsv_tree::specs::carrying::Carrying::chain, bsv_tree::specs::carrying::Carrying::chain_from))]
     pub(crate) fn chain(
         self,
         branches: &[Branch],

@@ -3,9 +3,9 @@ ghost use Rattle.bsv_types.specs.Kinds.{kind};
 ghost use Rattle.bsv_carry.specs.AtHand as spec;
 
 use crate::carrier::Carrier;
-use bsv_design::{Arm, Choice, Count, Local, Value, Work};
+use bsv_tree::{Arm, Choice, Count, Local, Value, Work};
 use bsv_fail::Fail;
-use bsv_steps::{
+use bsv_tree::{
     Counted, Got, Valued, after_arm, at_count, counted, is_static, is_true, loosened, no_steps,
     tick, value_choice, with_value_arm,
 };
@@ -50,7 +50,7 @@ impl Carrier<'_> {
 
     /// Expressions, one after the other.
     #[cycle(carry)]
-    #[tactic(auto, unfolding(bsv_design::specs::carrying::Carrying::all, bsv_design::specs::carrying::Carrying::all_from))]
+    #[tactic(auto, unfolding(bsv_tree::specs::carrying::Carrying::all, bsv_tree::specs::carrying::Carrying::all_from))]
     pub(crate) fn all(
         self,
         items: &[Expr],
@@ -73,7 +73,7 @@ impl Carrier<'_> {
 
     /// Operators and their operands.
     #[cycle(carry)]
-    #[tactic(auto, unfolding(bsv_design::specs::carrying::Carrying::apply))]
+    #[tactic(auto, unfolding(bsv_tree::specs::carrying::Carrying::apply))]
     fn apply(self, ty: &Ty, ops: &[Op], operands: &[Expr], locals: &[Local], work: Work) -> Valued
         ensures { Gives result
             (spec.apply self.entry (kind ty.now) ops.now operands.now locals.now work) }
@@ -86,7 +86,7 @@ impl Carrier<'_> {
 
     /// A call of a function.
     #[cycle(carry)]
-    #[tactic(auto, unfolding(bsv_design::specs::carrying::Carrying::function))]
+    #[tactic(auto, unfolding(bsv_tree::specs::carrying::Carrying::function))]
     fn function(self, number: u32, arguments: &[Expr], locals: &[Local], work: Work) -> Valued
         ensures { Gives result
             (spec.function self.entry number arguments.now locals.now work) }
@@ -99,7 +99,7 @@ impl Carrier<'_> {
 
     /// What a condition of `?:` asks.
     #[cycle(carry)]
-    #[tactic(auto, unfolding(bsv_design::specs::carrying::Carrying::value_asked))]
+    #[tactic(auto, unfolding(bsv_tree::specs::carrying::Carrying::value_asked))]
     fn value_asked(self, condition: &Expr, locals: &[Local], count: Count) -> Valued
         ensures { Gives result (spec.value_asked self.entry condition.now locals.now count) }
     {
@@ -109,7 +109,7 @@ impl Carrier<'_> {
 
     /// The arms after a condition that is not static and True.
     #[cycle(carry)]
-    #[tactic(auto, unfolding(bsv_design::specs::carrying::Carrying::value_kept))]
+    #[tactic(auto, unfolding(bsv_tree::specs::carrying::Carrying::value_kept))]
     fn value_kept(
         self,
         arms: Items<Arm>,
@@ -133,7 +133,7 @@ impl Carrier<'_> {
 
     /// The last value of `?:`, which is all there is where no arm is left.
     #[cycle(carry)]
-    #[tactic(auto, unfolding(bsv_design::specs::carrying::Carrying::last_value))]
+    #[tactic(auto, unfolding(bsv_tree::specs::carrying::Carrying::last_value))]
     fn last_value(
         self,
         work: Work,
@@ -154,7 +154,7 @@ impl Carrier<'_> {
 
     /// `a ? b : c ? d : e`
     #[cycle(carry)]
-    #[tactic(auto, unfolding(bsv_design::specs::carrying::Carrying::choice, bsv_design::specs::carrying::Carrying::choice_from))]
+    #[tactic(auto, unfolding(bsv_tree::specs::carrying::Carrying::choice, bsv_tree::specs::carrying::Carrying::choice_from))]
     fn choice(self, conditions: &[Expr], values: &[Expr], locals: &[Local], work: Work) -> Valued
         ensures { Gives result
             (spec.choice self.entry conditions.now values.now locals.now work) }
@@ -185,7 +185,7 @@ impl Carrier<'_> {
 
     /// The instance that a place names.
     #[cycle(carry)]
-    #[tactic(auto, unfolding(bsv_design::specs::carrying::Carrying::expression, bsv_design::specs::carrying::Carrying::place))]
+    #[tactic(auto, unfolding(bsv_tree::specs::carrying::Carrying::expression, bsv_tree::specs::carrying::Carrying::place))]
     pub(crate) fn place(self, place: &Place, locals: &[Local], count: Count) -> Counted<u32>
         ensures { Gives result (spec.place self.entry place.now locals.now count) }
     {

@@ -1,10 +1,11 @@
 ghost use Rattle.std.specs.Prelude.{◌≡◌, ◌^◌, nat_lt, option_map};
-ghost use Rattle.bsv_design.specs.declared.values.Constant.TheVariants as constant;
+ghost use Rattle.bsv_tree.specs.declared.values.Constant.TheVariants as constant;
 ghost use Rattle.bsv_types.specs.Kinds.{kind};
-ghost use Rattle.bsv_design.specs.carrying.Integers as spec;
+ghost use Rattle.bsv_tree.specs.meaning.Integers as spec;
 
 use bsv_bits::Word;
-use bsv_design::{Constant, word};
+use bsv_design::word;
+use bsv_tree::Constant;
 use bsv_types::{Op, Ty};
 
 fn says(truth: bool) -> Option<Constant>
@@ -23,7 +24,7 @@ fn numbered(number: Option<i64>) -> Option<Constant>
 }
 
 /// What an operator gives for two Integers; None where a number leaves its range.
-#[tactic(auto, unfolding(bsv_design::specs::carrying::Integers::ranged))]
+#[tactic(auto, unfolding(bsv_tree::specs::meaning::Integers::ranged))]
 pub(crate) fn number_between(op: Op, one: i64, other: i64) -> Option<Constant>
     ensures { result ≡ spec.number_between op one other }
 {
@@ -63,7 +64,7 @@ fn holds(bits: u32, number: u64) -> bool
 }
 
 /// A number so much below -1 as a word, where it fits.
-#[tactic(auto, unfolding(bsv_design::specs::carrying::Integers::fitted_below))]
+#[tactic(auto, unfolding(bsv_tree::specs::meaning::Integers::fitted_below))]
 fn fitted_below(width: u32, below: u64) -> Option<Constant>
     ensures { result ≡ spec.fitted_below width below }
 {
@@ -76,7 +77,7 @@ fn fitted_below(width: u32, below: u64) -> Option<Constant>
 }
 
 /// The number as a word of the type, where it fits.
-#[tactic(auto, unfolding(bsv_design::specs::carrying::Integers::fitted))]
+#[tactic(auto, unfolding(bsv_tree::specs::meaning::Integers::fitted))]
 pub(crate) fn fitted(ty: &Ty, width: u32, number: i64) -> Option<Constant>
     ensures { result ≡ spec.fitted (kind ty.now) width number }
 {

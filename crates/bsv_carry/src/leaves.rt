@@ -1,23 +1,24 @@
 ghost use Rattle.std.specs.Prelude.{◌≡◌, slice_get};
 ghost use Rattle.bsv_fail.specs.Given.{Gives};
 ghost use Rattle.bsv_types.specs.Kinds.{kind};
-ghost use Rattle.bsv_design.specs.carrying.Calls as calls;
+ghost use Rattle.bsv_tree.specs.carrying.Calls as calls;
+ghost use Rattle.bsv_tree.specs.tree.Contexts as contexts;
 ghost use Rattle.bsv_carry.specs.AtHand as spec;
 
 use crate::carrier::Carrier;
 use crate::integers::number_between;
 use crate::operators::constant_of;
 use bsv_bits::Operator;
-use bsv_design::{Constant, Local, Static, Value, Work};
+use bsv_tree::{Constant, Local, Static, Value, Work};
 use bsv_fail::Fail;
-use bsv_steps::{Got, Valued, between, held, is_static};
+use bsv_tree::{Got, Valued, between, held, is_static};
 use bsv_types::{Expr, Op, Ty};
 
 /// An Integer that is written is less than this.
 const MOST_WRITTEN: u128 = 9_223_372_036_854_775_808;
 
 impl Carrier<'_> {
-    #[tactic(auto, unfolding(bsv_design::specs::carrying::Carrying::literal))]
+    #[tactic(auto, unfolding(bsv_tree::specs::carrying::Carrying::literal))]
     pub(crate) fn literal(self, ty: &Ty, number: u128, work: Work) -> Valued
         ensures { Gives result (spec.literal self.entry (kind ty.now) number work) }
     {
@@ -35,7 +36,7 @@ impl Carrier<'_> {
 
     /// The place of a variable among those of the body.
     pub(crate) fn place_in_body(self, level: u32) -> usize
-        ensures { result ≡ calls.place_in_body (spec.site self.entry) level }
+        ensures { result ≡ contexts.place_in_body (spec.site self.entry) level }
     {
         (level as usize).saturating_sub(self.bindings.len()) + 1
     }
@@ -57,7 +58,7 @@ impl Carrier<'_> {
     }
 
     /// A variable, of the module or of the body.
-    #[tactic(auto, unfolding(bsv_design::specs::carrying::Calls::variable))]
+    #[tactic(auto, unfolding(bsv_tree::specs::carrying::Calls::variable))]
     pub(crate) fn variable(self, level: u32, locals: &[Local]) -> Got<Value>
         ensures { Gives result (spec.variable self.entry level locals.now) }
     {

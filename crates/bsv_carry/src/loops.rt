@@ -3,15 +3,15 @@ ghost use Rattle.bsv_carry.specs.AtHand as spec;
 
 use crate::carrier::Carrier;
 use crate::statements::Acted;
-use bsv_design::{Count, Fault, Local, Work};
+use bsv_tree::{Count, Fault, Local, Work};
 use bsv_fail::Fail;
-use bsv_steps::{Counted, Locals, assign, at_count, decided, front, no_steps, with_variable};
+use bsv_tree::{Counted, Locals, assign, at_count, decided, front, no_steps, with_variable};
 use bsv_types::{Expr, Head, Stmt};
 
 impl Carrier<'_> {
     /// Whether there is a next turn.
     #[cycle(carry)]
-    #[tactic(auto, unfolding(bsv_design::specs::carrying::Carrying::goes_on))]
+    #[tactic(auto, unfolding(bsv_tree::specs::carrying::Carrying::goes_on))]
     fn goes_on(self, test: &Expr, locals: &[Local], count: Count) -> Counted<bool>
         ensures { Gives result (spec.goes_on self.entry test.now locals.now count) }
     {
@@ -24,7 +24,7 @@ impl Carrier<'_> {
 
     /// One turn of a loop, and the step of its head.
     #[cycle(carry)]
-    #[tactic(auto, unfolding(bsv_design::specs::carrying::Carrying::turn))]
+    #[tactic(auto, unfolding(bsv_tree::specs::carrying::Carrying::turn))]
     fn turn(self, head: &Head, stmt: &Stmt, locals: Locals, work: Work) -> Acted
         ensures { Gives result (spec.turn self.entry head.now stmt.now locals work) }
     {
@@ -38,7 +38,7 @@ impl Carrier<'_> {
 
     /// The turns of a loop, at most 4,096.
     #[cycle(carry)]
-    #[tactic(auto, using(crate::proofs::Turns::loops), unfolding(bsv_design::specs::carrying::Carrying::most_turns))]
+    #[tactic(auto, using(crate::proofs::Turns::loops), unfolding(bsv_tree::specs::carrying::Carrying::most_turns))]
     fn turns(self, head: &Head, stmt: &Stmt, locals: Locals, work: Work) -> Acted
         ensures { Gives result (spec.turns_of self.entry head.now stmt.now locals work) }
     {
@@ -62,7 +62,7 @@ impl Carrier<'_> {
 
     /// A loop.
     #[cycle(carry)]
-    #[tactic(auto, unfolding(bsv_design::specs::carrying::Carrying::loop_of))]
+    #[tactic(auto, unfolding(bsv_tree::specs::carrying::Carrying::loop_of))]
     pub(crate) fn loop_of(self, head: &Head, stmt: &Stmt, locals: Locals, work: Work) -> Acted
         ensures { Gives result (spec.loop_of self.entry head.now stmt.now locals work) }
     {

@@ -2,18 +2,17 @@ ghost use Rattle.bsv_fail.specs.Given.{Gives};
 ghost use Rattle.bsv_carry.specs.AtHand as spec;
 
 use crate::carrier::Carrier;
-use bsv_design::{
-    Atom, Built, Count, Kind, Local, Made, MethodPlace, Step, Work, part_method_number,
-};
+use bsv_design::Kind;
+use bsv_tree::{Atom, Built, Count, Local, Made, MethodPlace, Step, Work, part_method_number};
 use bsv_fail::Fail;
-use bsv_steps::{Got, Valued, at_count, atoms, counted, give, no_steps, opened, truth, with_step};
+use bsv_tree::{Got, Valued, at_count, atoms, counted, give, no_steps, opened, truth, with_step};
 use bsv_types::{Expr, PartTy, Place};
 use sqlite_items::Items;
 
 impl<'a> Carrier<'a> {
     /// The method of a primitive that is called, its arguments, and the steps of these.
     #[cycle(carry)]
-    #[tactic(auto, unfolding(bsv_design::specs::carrying::Carrying::primitive_call))]
+    #[tactic(auto, unfolding(bsv_tree::specs::carrying::Carrying::primitive_call))]
     fn primitive_call(
         self,
         instance: u32,
@@ -39,7 +38,7 @@ impl<'a> Carrier<'a> {
 
     /// A call of a method of a module.
     #[cycle(carry)]
-    #[tactic(auto, unfolding(bsv_design::specs::carrying::Carrying::module_call))]
+    #[tactic(auto, unfolding(bsv_tree::specs::carrying::Carrying::module_call))]
     fn module_call(
         self,
         instance: u32,
@@ -59,7 +58,7 @@ impl<'a> Carrier<'a> {
 
     /// A call of a value method of an instance.
     #[cycle(carry)]
-    #[tactic(auto, unfolding(bsv_design::specs::carrying::Carrying::value_of))]
+    #[tactic(auto, unfolding(bsv_tree::specs::carrying::Carrying::value_of))]
     fn value_of(
         self,
         instance: u32,
@@ -90,7 +89,7 @@ impl<'a> Carrier<'a> {
 
     /// A call of a value method.
     #[cycle(carry)]
-    #[tactic(auto, unfolding(bsv_design::specs::carrying::Carrying::method))]
+    #[tactic(auto, unfolding(bsv_tree::specs::carrying::Carrying::method))]
     pub(crate) fn method(
         self,
         place: &Place,
@@ -109,7 +108,7 @@ impl<'a> Carrier<'a> {
 
     /// A call of an action method of an instance, and what it gives.
     #[cycle(carry)]
-    #[tactic(auto, unfolding(bsv_design::specs::carrying::Carrying::act_of))]
+    #[tactic(auto, unfolding(bsv_tree::specs::carrying::Carrying::act_of))]
     fn act_of(
         self,
         instance: u32,
@@ -140,7 +139,7 @@ impl<'a> Carrier<'a> {
 
     /// A call of an action method, and what it gives.
     #[cycle(carry)]
-    #[tactic(auto, unfolding(bsv_design::specs::carrying::Carrying::act))]
+    #[tactic(auto, unfolding(bsv_tree::specs::carrying::Carrying::act))]
     pub(crate) fn act(
         self,
         place: &Place,

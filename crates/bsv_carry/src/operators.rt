@@ -1,15 +1,17 @@
 ghost use Rattle.std.specs.Prelude.{◌≡◌, drop, map};
 ghost use Rattle.bsv_fail.specs.Given.{Gives, GivesBy};
 ghost use Rattle.bsv_types.specs.Kinds.{kind};
-ghost use Rattle.bsv_design.specs.carrying.Applied as applied;
+ghost use Rattle.bsv_tree.specs.carrying.Applied as applied;
+ghost use Rattle.bsv_tree.specs.meaning.Operators as operators;
 ghost use Rattle.bsv_carry.specs.AtHand as spec;
 
 use crate::carrier::Carrier;
 use crate::integers::{fitted, number_between};
 use bsv_bits::Operator;
-use bsv_design::{Constant, Value, Work, word};
+use bsv_design::word;
+use bsv_tree::{Constant, Value, Work};
 use bsv_fail::Fail;
-use bsv_steps::{Got, Valued, between, extend, inverted, join, pick, sign_extend, slice};
+use bsv_tree::{Got, Valued, between, extend, inverted, join, pick, sign_extend, slice};
 use bsv_types::{Field, Op, Ty, counted_widths};
 use std::alloc::Global;
 
@@ -29,7 +31,7 @@ fn not_of(found: (Value, Work)) -> Valued
 }
 
 fn less(ty: &Ty) -> Operator
-    ensures { result ≡ applied.less (kind ty.now) }
+    ensures { result ≡ operators.less (kind ty.now) }
 {
     match ty {
         Ty::Int(_) => Operator::LessSigned,
@@ -38,7 +40,7 @@ fn less(ty: &Ty) -> Operator
 }
 
 fn right(ty: &Ty) -> Operator
-    ensures { result ≡ applied.right (kind ty.now) }
+    ensures { result ≡ operators.right (kind ty.now) }
 {
     match ty {
         Ty::Int(_) => Operator::Sar,
@@ -47,7 +49,7 @@ fn right(ty: &Ty) -> Operator
 }
 
 /// Parts side by side, the first one most significant.
-#[tactic(auto, unfolding(bsv_design::specs::carrying::Applied::together))]
+#[tactic(auto, unfolding(bsv_tree::specs::carrying::Applied::together))]
 pub(crate) fn together(first: Value, others: &[Value], work: Work) -> Valued
     ensures { Gives result (applied.together first others.now work) }
 {
@@ -133,7 +135,7 @@ impl Carrier<'_> {
     }
 
     /// Operators of one level, from the left.
-    #[tactic(auto, unfolding(bsv_design::specs::carrying::Applied::chained))]
+    #[tactic(auto, unfolding(bsv_tree::specs::carrying::Applied::chained))]
     pub(crate) fn chained(
         self,
         ops: &[Op],

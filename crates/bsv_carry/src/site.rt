@@ -1,11 +1,11 @@
 ghost use Rattle.std.specs.Prelude.{◌≡◌};
 ghost use Rattle.bsv_fail.specs.Given.{Gives};
-ghost use Rattle.bsv_design.specs.carrying.Carrying as carrying;
+ghost use Rattle.bsv_tree.specs.carrying.Carrying as carrying;
 ghost use Rattle.bsv_carry.specs.AtHand as spec;
 
 use crate::carrier::Carrier;
-use bsv_design::{Binding, Count, Instance, Local, Work};
-use bsv_steps::{Counted, Got, Valued, no_steps, parameters};
+use bsv_tree::{Binding, Count, Instance, Local, Work};
+use bsv_tree::{Counted, Got, Valued, no_steps, parameters};
 use bsv_types::{Expr, Method, Place, Stmt, Typed};
 use std::alloc::Global;
 
@@ -24,7 +24,7 @@ pub struct Context<'a> {
 
 impl<'a> Context<'a> {
     /// The same, with so many calls in calls.
-    #[tactic(auto, unfolding(bsv_design::specs::carrying::Carrying::most_calls))]
+    #[tactic(auto, unfolding(bsv_tree::specs::carrying::Carrying::most_calls))]
     fn carrier(self) -> Carrier<'a>
         ensures site { spec.site result ≡ spec.text self.entry }
         ensures depth { result.depth ≡ carrying.most_calls }
@@ -56,7 +56,7 @@ impl<'a> Context<'a> {
     }
 
     /// A rule: its condition has to hold, and comes before its body.
-    #[tactic(auto, unfolding(bsv_design::specs::carrying::Carrying::rule))]
+    #[tactic(auto, unfolding(bsv_tree::specs::carrying::Carrying::rule))]
     pub fn rule(self, condition: &Option<Expr>, body: &[Stmt], work: Work) -> Got<Work>
         ensures { Gives result
             (carrying.rule (spec.text self.entry) condition.now body.now work) }
@@ -65,7 +65,7 @@ impl<'a> Context<'a> {
     }
 
     /// A method of the top, whose arguments are its first values, and what it gives.
-    #[tactic(auto, unfolding(bsv_design::specs::carrying::Carrying::top_method))]
+    #[tactic(auto, unfolding(bsv_tree::specs::carrying::Carrying::top_method))]
     pub fn top_method(self, method: &Method, weight: u64) -> Valued
         ensures { Gives result
             (carrying.top_method (spec.text self.entry) method.now weight) }

@@ -2,8 +2,8 @@ ghost use Rattle.bsv_fail.specs.Given.{Gives};
 ghost use Rattle.bsv_carry.specs.AtHand as spec;
 
 use crate::carrier::Carrier;
-use bsv_design::{Count, Pending, Work};
-use bsv_steps::{
+use bsv_tree::{Count, Pending, Work};
+use bsv_tree::{
     Got, Locals, assign, at_count, close, counted, front, is_integer, no_steps, untouched,
     with_variable,
 };
@@ -16,7 +16,7 @@ pub(crate) type Acted = Got<(Locals, Work)>;
 impl Carrier<'_> {
     /// Statements, one after the other.
     #[cycle(carry)]
-    #[tactic(auto, unfolding(bsv_design::specs::carrying::Carrying::run))]
+    #[tactic(auto, unfolding(bsv_tree::specs::carrying::Carrying::run))]
     pub(crate) fn run(self, stmts: &[Stmt], locals: Locals, work: Work) -> Acted
         ensures { Gives result (spec.run self.entry stmts.now locals work) }
     {
@@ -34,7 +34,7 @@ impl Carrier<'_> {
 
     /// Statements whose variables end with them.
     #[cycle(carry)]
-    #[tactic(auto, unfolding(bsv_design::specs::carrying::Carrying::inside))]
+    #[tactic(auto, unfolding(bsv_tree::specs::carrying::Carrying::inside))]
     fn block(self, stmts: &[Stmt], locals: Locals, work: Work) -> Acted
         ensures { Gives result (spec.block self.entry stmts.now locals work) }
     {
@@ -45,7 +45,7 @@ impl Carrier<'_> {
 
     /// A statement whose variables end with it.
     #[cycle(carry)]
-    #[tactic(auto, unfolding(bsv_design::specs::carrying::Carrying::inside))]
+    #[tactic(auto, unfolding(bsv_tree::specs::carrying::Carrying::inside))]
     pub(crate) fn inside(self, stmt: &Stmt, locals: Locals, work: Work) -> Acted
         ensures { Gives result (spec.inside self.entry stmt.now locals work) }
     {
@@ -72,7 +72,7 @@ impl Carrier<'_> {
 
     /// The last arm, which is all there is where no other is left.
     #[cycle(carry)]
-    #[tactic(auto, unfolding(bsv_design::specs::carrying::Carrying::last_arm))]
+    #[tactic(auto, unfolding(bsv_tree::specs::carrying::Carrying::last_arm))]
     pub(crate) fn otherwise(
         self,
         work: Work,
@@ -101,7 +101,7 @@ impl Carrier<'_> {
 
     /// A statement.
     #[cycle(carry)]
-    #[tactic(auto, using(crate::proofs::Nodes::stmts), unfolding(bsv_design::specs::carrying::Carrying::stmt, bsv_design::specs::carrying::Carrying::branch, bsv_design::specs::carrying::Carrying::case_arm))]
+    #[tactic(auto, using(crate::proofs::Nodes::stmts), unfolding(bsv_tree::specs::carrying::Carrying::stmt, bsv_tree::specs::carrying::Carrying::branch, bsv_tree::specs::carrying::Carrying::case_arm))]
     pub(crate) fn stmt(self, stmt: &Stmt, locals: Locals, work: Work) -> Acted
         ensures { Gives result (spec.stmt self.entry stmt.now locals work) }
     {

@@ -1,14 +1,15 @@
 ghost use Rattle.std.specs.Prelude.{◌≡◌, IfOk};
 ghost use Rattle.bsv_fail.specs.Given.{Gives, GivesBy};
 ghost use Rattle.bsv_types.specs.Kinds.{kind};
-ghost use Rattle.bsv_design.specs.carrying.Operated as operated;
+ghost use Rattle.bsv_tree.specs.carrying.Operated as operated;
+ghost use Rattle.bsv_tree.specs.meaning.Operators as the_operators;
 ghost use Rattle.bsv_carry.specs.AtHand as spec;
 
 use crate::carrier::Carrier;
 use crate::operators::{constant_of, together};
-use bsv_design::{Value, Work};
+use bsv_tree::{Value, Work};
 use bsv_fail::Fail;
-use bsv_steps::{Got, Valued, slice, truth};
+use bsv_tree::{Got, Valued, slice, truth};
 use bsv_types::{Field, Op, Ty, counted_widths};
 use sqlite_items::Items;
 use std::alloc::{AllocError, Global};
@@ -22,7 +23,7 @@ pub(crate) struct BitRange<'a> {
 }
 
 fn sets(number: usize, op: Op) -> bool
-    ensures { result ≡ operated.sets number op }
+    ensures { result ≡ the_operators.sets number op }
 {
     match op {
         Op::Set(set) => set as usize == number,
@@ -31,7 +32,7 @@ fn sets(number: usize, op: Op) -> bool
 }
 
 /// The value that a field is set to.
-#[tactic(auto, unfolding(bsv_design::specs::carrying::Operated::set_to))]
+#[tactic(auto, unfolding(bsv_tree::specs::carrying::Operated::set_to))]
 fn set_to(number: usize, ops: &[Op], values: &[Value]) -> Value
     ensures { result ≡ operated.set_to number ops.now values.now }
 {
@@ -48,7 +49,7 @@ fn set_to(number: usize, ops: &[Op], values: &[Value]) -> Value
 }
 
 /// The values that fields are set to.
-#[tactic(auto, unfolding(bsv_design::specs::carrying::Operated::set_from))]
+#[tactic(auto, unfolding(bsv_tree::specs::carrying::Operated::set_from))]
 fn set_values(
     alloc: Global,
     fields: &[Field],
@@ -79,7 +80,7 @@ fn all_together(values: &[Value], work: Work) -> Valued
 
 /// Whether the operators construct a struct.
 fn builds(ops: &[Op]) -> bool
-    ensures { result ≡ operated.builds ops.now }
+    ensures { result ≡ the_operators.builds ops.now }
 {
     match ops.split_first() {
         Some((op, _)) => matches!(op, Op::Set(_)),
@@ -88,7 +89,7 @@ fn builds(ops: &[Op]) -> bool
 }
 
 fn is_suffix(op: Op) -> bool
-    ensures { result ≡ operated.is_suffix op }
+    ensures { result ≡ the_operators.is_suffix op }
 {
     matches!(op, Op::Index | Op::Slice(_, _) | Op::Field(_))
 }
@@ -123,7 +124,7 @@ impl<'a> Carrier<'a> {
 
     /// The bits that a suffix names of a value of so many bits with these fields, and the values that
     /// are left, of which an index takes one.
-    #[tactic(auto, unfolding(bsv_design::specs::carrying::Operated::part_of))]
+    #[tactic(auto, unfolding(bsv_tree::specs::carrying::Operated::part_of))]
     fn part_of<'b>(
         self,
         bits: u32,
@@ -161,7 +162,7 @@ impl<'a> Carrier<'a> {
     }
 
     /// Suffixes, from the left.
-    #[tactic(auto, unfolding(bsv_design::specs::carrying::Operated::suffixed))]
+    #[tactic(auto, unfolding(bsv_tree::specs::carrying::Operated::suffixed))]
     fn suffixed(self, ty: &Ty, ops: &[Op], whole: Value, values: &[Value], work: Work) -> Valued
         ensures { Gives result (spec.suffixed self.entry (spec.width self.entry (kind ty.now))
             (spec.fields self.entry (kind ty.now)) ops.now whole values.now work) }
@@ -207,7 +208,7 @@ impl<'a> Carrier<'a> {
         }
     }
 
-    #[tactic(auto, unfolding(bsv_design::specs::carrying::Operated::applied_to))]
+    #[tactic(auto, unfolding(bsv_tree::specs::carrying::Operated::applied_to))]
     fn applied_to(
         self,
         ty: &Ty,
@@ -236,7 +237,7 @@ impl<'a> Carrier<'a> {
     }
 
     /// What operators give: the type of the result, and that of the first operand.
-    #[tactic(auto, unfolding(bsv_design::specs::carrying::Operated::applied))]
+    #[tactic(auto, unfolding(bsv_tree::specs::carrying::Operated::applied))]
     pub(crate) fn applied(
         self,
         ty: &Ty,

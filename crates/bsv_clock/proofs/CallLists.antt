@@ -8,7 +8,7 @@ use Rattle.bsv_prim.specs.Table.{Call}
 use Rattle.bsv_prim.specs.declared.part.Part.{Part}
 use Rattle.bsv_design.specs.declared.kind.Kind.{Kind}
 use Rattle.bsv_design.specs.design.Bodies.{Target}
-use Rattle.bsv_design.specs.tree.Kinds.{kind_table}
+use Rattle.bsv_design.specs.parts.Kinds.{kind_table}
 use Rattle.bsv_design.specs.scheme.Relations.{is_seen, sees_of}
 use Rattle.bsv_design.specs.scheme.Schemes.{Called}
 use Rattle.bsv_design.specs.scheme.States.{after_call, after_calls}

@@ -5,7 +5,7 @@ use Rattle.bsv_bits.specs.Words.{Bits, bit}
 use Rattle.bsv_prim.specs.declared.part.Part.{Part}
 use Rattle.bsv_design.specs.declared.kind.Kind.{Kind}
 use Rattle.bsv_design.specs.declared.schedule.Schedule.{Schedule}
-use Rattle.bsv_design.specs.tree.Roles.{is_rule}
+use Rattle.bsv_design.specs.design.Roles.{is_rule}
 use Rattle.bsv_design.specs.scheme.Schemes.{Scheme, Outline, Asking, AreAlike, given, value}
 use Rattle.bsv_guard.proofs.Alike.{alike, alike_back}
 use Rattle.bsv_clock.specs.Shows.{Cell, Given, Carries, Shows, TellsElements, TellsClock, cells_of, inputs_from, inputs_of, input_widths, input_widths_of}

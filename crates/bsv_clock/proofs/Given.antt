@@ -14,7 +14,7 @@ use Rattle.bsv_prim.proofs.Seen.{sees_nothing}
 use Rattle.bsv_design.specs.declared.kind.Kind.{Kind}
 use Rattle.bsv_design.specs.declared.schedule.Schedule.{Schedule}
 use Rattle.bsv_design.specs.design.Bodies.{Target}
-use Rattle.bsv_design.specs.tree.Kinds.{kind_table, kind_laws}
+use Rattle.bsv_design.specs.parts.Kinds.{kind_table, kind_laws}
 use Rattle.bsv_design.specs.scheme.Schemes.{Scheme, Asking, Called, is_open, guard_of, ready, calls}
 use Rattle.bsv_design.specs.scheme.Serial.{Serial, run_whole, by_rank, done, turn}
 use Rattle.bsv_design.specs.scheme.States.{FitsKinds, emptied, part_at, plain}

@@ -14,7 +14,7 @@ use Rattle.bsv_prim.proofs.Orderly.{orderly_append}
 use Rattle.bsv_prim.proofs.Orderly as orderly
 use Rattle.bsv_design.specs.declared.kind.Kind.{Kind}
 use Rattle.bsv_design.specs.design.Bodies.{Target}
-use Rattle.bsv_design.specs.tree.Kinds.{kind_table}
+use Rattle.bsv_design.specs.parts.Kinds.{kind_table}
 use Rattle.bsv_design.specs.scheme.Relations.{goes, for_all, may_precede, may_precede_of}
 use Rattle.bsv_design.specs.scheme.Schemes.{Scheme, Asking, Called, ready, calls}
 use Rattle.bsv_design.specs.scheme.Serial.{calls_made, run_whole, Serial, done, turn}

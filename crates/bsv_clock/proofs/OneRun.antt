@@ -5,7 +5,7 @@ use Rattle.bsv_prim.specs.declared.part.Part.{Part}
 use Rattle.bsv_design.specs.declared.fired.Fired.{Fired}
 use Rattle.bsv_design.specs.declared.kind.Kind.{Kind}
 use Rattle.bsv_design.specs.declared.schedule.Schedule.{Schedule}
-use Rattle.bsv_design.specs.tree.Kinds.{kind_laws}
+use Rattle.bsv_design.specs.parts.Kinds.{kind_laws}
 use Rattle.bsv_design.specs.scheme.Schemes.{Scheme, Asking}
 use Rattle.bsv_design.specs.scheme.States.{FitsKinds, opening, emptied}
 use Rattle.bsv_graph.specs.Orders.{IsOnce, IsBefore}

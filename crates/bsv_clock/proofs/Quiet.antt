@@ -9,9 +9,9 @@ use Rattle.bsv_design.specs.declared.element.Role.TheVariants as role
 use Rattle.bsv_design.specs.declared.kind.Kind.{Kind}
 use Rattle.bsv_design.specs.declared.schedule.Schedule.{Schedule}
 use Rattle.bsv_design.specs.design.Bodies.{Target}
-use Rattle.bsv_design.specs.tree.Kinds.{kind_laws}
+use Rattle.bsv_design.specs.parts.Kinds.{kind_laws}
 use Rattle.bsv_design.specs.scheme.Relations.{goes, for_all, may_precede, may_precede_of, no_answers}
-use Rattle.bsv_design.specs.tree.Roles.{is_rule, is_value}
+use Rattle.bsv_design.specs.design.Roles.{is_rule, is_value}
 use Rattle.bsv_design.specs.scheme.Schemes.{Scheme, Outline, filled, ports_of}
 use Rattle.bsv_design.specs.scheme.Traces.{Site, acts, kind_at}
 use Rattle.bsv_schedule.specs.relating.Elements.{relating, has_role}

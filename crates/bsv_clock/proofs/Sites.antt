@@ -10,7 +10,7 @@ use Rattle.bsv_prim.specs.declared.part.Part.{Part}
 use Rattle.bsv_prim.specs.Table.{IsWordOf}
 use Rattle.bsv_design.specs.declared.kind.Kind.{Kind}
 use Rattle.bsv_design.specs.design.Bodies.{Target, Answers}
-use Rattle.bsv_design.specs.tree.Kinds.{kind_table, kind_laws}
+use Rattle.bsv_design.specs.parts.Kinds.{kind_table, kind_laws}
 use Rattle.bsv_design.specs.scheme.Schemes.{Scheme, Asking, Look, is_open, guard_of, result_of, no_result, answers, given, ready}
 use Rattle.bsv_design.specs.scheme.Traces.{Site, Trace, acts, kind_at}
 use Rattle.bsv_guard.specs.ElementLaws.{IsUse, ActsAlike}

@@ -7,7 +7,7 @@ use Rattle.bsv_prim.specs.Table.{Call, CallFits}
 use Rattle.bsv_prim.specs.declared.part.Part.{Part}
 use Rattle.bsv_design.specs.declared.kind.Kind.{Kind}
 use Rattle.bsv_design.specs.design.Bodies.{Target}
-use Rattle.bsv_design.specs.tree.Kinds.{kind_table, kind_laws}
+use Rattle.bsv_design.specs.parts.Kinds.{kind_table, kind_laws}
 use Rattle.bsv_design.specs.scheme.Schemes.{Scheme, Asking, Called, Look, is_open, guard_of, result_of, ready}
 use Rattle.bsv_design.specs.scheme.Serial.{Serial}
 use Rattle.bsv_design.specs.scheme.States.{FitsKinds, emptied, part_at, plain}

@@ -1,7 +1,7 @@
 -- What the attributes come to in a clock (Bluespec reference guide, "preempts", "fire_when_enabled").
 use Rattle.std.specs.Prelude.{◌≡◌, ℕ, Bool, true, List}
 use Rattle.bsv_prim.specs.declared.part.Part.{Part}
-use Rattle.bsv_design.specs.declared.tree.Attribute.TheVariants as attribute
+use Rattle.bsv_design.specs.declared.attributes.Attribute.TheVariants as attribute
 use Rattle.bsv_design.specs.scheme.Schemes.{Scheme, Asking}
 use Rattle.bsv_graph.specs.Orders.{In}
 use Rattle.bsv_schedule.specs.relating.Marks.{IsMarked, IsPaired}

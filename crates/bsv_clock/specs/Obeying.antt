@@ -2,7 +2,7 @@
 -- attributes").
 use Rattle.std.specs.Prelude.{◌≡◌, ℕ, Bool, true, false, not, List, filter}
 use Rattle.bsv_design.specs.declared.schedule.Schedule.{Schedule}
-use Rattle.bsv_design.specs.declared.tree.Attribute.TheVariants as attribute
+use Rattle.bsv_design.specs.declared.attributes.Attribute.TheVariants as attribute
 use Rattle.bsv_design.specs.scheme.Schemes.{Scheme, Asking, Look, ready, seen, all_hold}
 use Rattle.bsv_design.specs.scheme.Traces.{Demand, has_name}
 use Rattle.bsv_graph.specs.Orders.{In, IsBefore}

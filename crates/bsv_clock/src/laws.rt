@@ -1,7 +1,7 @@
 ghost use Rattle.std.specs.Prelude.{◌≡◌, ℕ, Bool, List};
 ghost use Rattle.bsv_bits.specs.Words.{Bits};
 ghost use Rattle.bsv_clock.specs.Obeying.{Obeys};
-ghost use Rattle.bsv_design.specs.tree.Seen.{design_data};
+ghost use Rattle.bsv_design.specs.scheme.Seen.{design_data};
 ghost use Rattle.bsv_design.specs.declared.design.Design.{Design as TheDesign};
 ghost use Rattle.bsv_design.specs.scheme.Schemes.{Scheme, Asking, AreAlike, design_scheme};
 ghost use Rattle.bsv_design.specs.scheme.States.{emptied};

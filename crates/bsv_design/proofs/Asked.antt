@@ -11,8 +11,8 @@ use Rattle.bsv_design.specs.declared.design.Design.{Design}
 use Rattle.bsv_design.specs.declared.element.Element.{Element}
 use Rattle.bsv_design.specs.declared.element.Port.{Port}
 use Rattle.bsv_design.specs.design.Designs.{DesignData, IsDesign}
-use Rattle.bsv_design.specs.tree.Roles.{is_rule}
-use Rattle.bsv_design.specs.tree.Seen.{design_data}
+use Rattle.bsv_design.specs.design.Roles.{is_rule}
+use Rattle.bsv_design.specs.scheme.Seen.{design_data}
 use Rattle.bsv_design.specs.scheme.Schemes.{Asking}
 use Rattle.bsv_design.specs.scheme.States.{methods_in, AskingFits, nothing_asked, AreWordsOf, FitMethods, zeros}
 use Rattle.bsv_design.specs.design.Widths.{port_fits}

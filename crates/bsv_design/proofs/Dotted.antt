@@ -9,8 +9,8 @@ use Rattle.std.proofs.lemmas.List.Folds.{list_all-append}
 use Rattle.bsv_ast.specs.Names.{is_word, is_lower}
 use Rattle.bsv_ast.proofs.Names.{word_no_dot, lower_words, lower_some}
 use Rattle.bsv_design.specs.design.Designs.{IsDotted}
-use Rattle.bsv_design.specs.scheme.Traces.{with_dot}
-use Rattle.bsv_design.specs.tree.Trees.{joined, IsPath}
+use Rattle.bsv_design.specs.design.Paths.{with_dot}
+use Rattle.bsv_design.specs.design.Paths.{joined, IsPath}
 
 -- ---- lists of Lower names
 

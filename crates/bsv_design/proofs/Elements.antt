@@ -7,7 +7,7 @@ use Rattle.bsv_bits.specs.Words.{Bits}
 use Rattle.bsv_prim.specs.declared.part.Part.{Part}
 use Rattle.bsv_design.specs.design.Bodies.{Target, target}
 use Rattle.bsv_design.specs.design.Guards.{is_guarded}
-use Rattle.bsv_design.specs.tree.Kinds.{kind_laws}
+use Rattle.bsv_design.specs.parts.Kinds.{kind_laws}
 use Rattle.bsv_design.specs.scheme.Schemes.{filled, guard_of}
 use Rattle.bsv_design.specs.scheme.States.{AreWordsOf}
 use Rattle.bsv_design.specs.scheme.Traces.{Site, site_at}

@@ -1,5 +1,4 @@
 mod Numbered
-mod Meeting
 pub mod Asked
 pub mod Named
 pub mod Dotted

@@ -11,7 +11,7 @@ use Rattle.bsv_design.specs.declared.element.Element.{Element}
 use Rattle.bsv_design.specs.declared.kind.Kind.{Kind}
 use Rattle.bsv_design.specs.design.Designs.{IsDesign}
 use Rattle.bsv_design.specs.scheme.Schemes.{kinds_of}
-use Rattle.bsv_design.specs.tree.Seen.{design_data}
+use Rattle.bsv_design.specs.scheme.Seen.{design_data}
 use Rattle.bsv_design.specs.design.Widths.{has_method, call_named, call_fits, method_fits, has_width}
 
 fits_names : (k : Option Kind) (ws : List ℕ) (c : Call) → method_fits k ws c ≡ true → has_method k c.method ≡ true

@@ -2,8 +2,8 @@
 use Rattle.std.proofs.Common.{◌≡◌, [], drop, refl}
 use Rattle.bsv_design.specs.declared.kind.Kind.{Kind}
 use Rattle.bsv_design.specs.declared.kind.Kind.TheVariants.{Reg, RegU, Wire, DWire, RWire, Pulse, Plain, Pipeline, Bypass}
-use Rattle.bsv_design.specs.tree.Kinds.{kind_table}
-use Rattle.bsv_design.specs.tree.MethodNames.{method_names}
+use Rattle.bsv_design.specs.parts.Kinds.{kind_table}
+use Rattle.bsv_design.specs.parts.MethodNames.{method_names}
 
 pub named_all : (k : Kind) → drop (kind_table k).methods (method_names k) ≡ []
 named_all (Reg k) = refl

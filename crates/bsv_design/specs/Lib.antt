@@ -1,4 +1,3 @@
-pub mod tree
-pub mod carrying
+pub mod parts
 pub mod design
 pub mod scheme

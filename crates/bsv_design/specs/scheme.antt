@@ -5,3 +5,4 @@ pub mod States
 pub mod Rooms
 pub mod Relations
 pub mod Serial
+pub mod Seen

@@ -1,12 +1,12 @@
 ghost use Rattle.std.specs.Prelude.{◌≡◌};
 ghost use Rattle.bsv_bits.specs.Operators as operators;
 ghost use Rattle.bsv_design.specs.design.Bodies.{at};
-ghost use Rattle.bsv_design.specs.carrying.Computing as spec;
+ghost use Rattle.bsv_design.specs.design.Computing as spec;
 
 use bsv_bits::{Operator, Word};
 
 /// The word of so many bits that is the number.
-#[tactic(auto, unfolding(crate::specs::carrying::Computing::word))]
+#[tactic(auto, unfolding(crate::specs::design::Computing::word))]
 pub fn word(width: u32, number: u128) -> Word
     ensures { result ≡ spec.word width number }
 {
@@ -33,7 +33,7 @@ fn is_shift(operator: Operator) -> bool
 }
 
 /// What the operator gives for two words.
-#[tactic(auto, unfolding(crate::specs::carrying::Computing::between))]
+#[tactic(auto, unfolding(crate::specs::design::Computing::between))]
 pub fn between(operator: Operator, one: Word, other: Word) -> Word
     ensures { result ≡ spec.between operator one other }
 {
@@ -52,7 +52,7 @@ pub fn picked(test: Word, one: Word, other: Word) -> Word
 }
 
 /// The bits from low to high.
-#[tactic(auto, unfolding(crate::specs::carrying::Computing::sliced))]
+#[tactic(auto, unfolding(crate::specs::design::Computing::sliced))]
 pub fn sliced(whole: Word, high: u32, low: u32) -> Word
     ensures { result ≡ spec.sliced whole high low }
 {
@@ -64,7 +64,7 @@ pub fn sliced(whole: Word, high: u32, low: u32) -> Word
 }
 
 /// The bits of the first word above those of the second one.
-#[tactic(auto, unfolding(crate::specs::carrying::Computing::joined))]
+#[tactic(auto, unfolding(crate::specs::design::Computing::joined))]
 pub fn joined(high: Word, low: Word) -> Word
     ensures { result ≡ spec.joined high low }
 {
@@ -76,7 +76,7 @@ pub fn joined(high: Word, low: Word) -> Word
 }
 
 /// The same number in so many bits.
-#[tactic(auto, unfolding(crate::specs::carrying::Computing::extended))]
+#[tactic(auto, unfolding(crate::specs::design::Computing::extended))]
 pub fn extended(short: Word, width: u32) -> Word
     ensures { result ≡ spec.extended short width }
 {
@@ -88,7 +88,7 @@ pub fn extended(short: Word, width: u32) -> Word
 }
 
 /// The same signed number in so many bits.
-#[tactic(auto, unfolding(crate::specs::carrying::Computing::sign_extended))]
+#[tactic(auto, unfolding(crate::specs::design::Computing::sign_extended))]
 pub fn sign_extended(short: Word, width: u32) -> Word
     ensures { result ≡ spec.sign_extended short width }
 {

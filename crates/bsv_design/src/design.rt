@@ -3,7 +3,7 @@ ghost use Rattle.bsv_design.specs.design.Designs.{IsDesign};
 
 use crate::element::Element;
 use crate::kind::Kind;
-use crate::tree::{Assert, Pair};
+use crate::attributes::{Assert, Pair};
 use bsv_bits::Name;
 use sqlite_items::Items;
 

@@ -1,5 +1,5 @@
 ghost use Rattle.std.specs.Prelude.{◌≡◌};
-ghost use Rattle.bsv_design.specs.tree.Roles as roles;
+ghost use Rattle.bsv_design.specs.design.Roles as roles;
 
 use crate::node::{Branch, Node};
 use bsv_bits::Name;

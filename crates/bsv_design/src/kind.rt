@@ -1,6 +1,6 @@
 ghost use Rattle.std.specs.Prelude.{◌≡◌, ◌<◌, ◌↔◌, ℕ, Some, IfSome, slice_get};
-ghost use Rattle.bsv_design.specs.tree.Kinds.{kind_table};
-ghost use Rattle.bsv_design.specs.tree.MethodNames.{method_names};
+ghost use Rattle.bsv_design.specs.parts.Kinds.{kind_table};
+ghost use Rattle.bsv_design.specs.parts.MethodNames.{method_names};
 
 use crate::names::{pulse_name, queue_name, register_name, rwire_name, wire_name};
 use bsv_bits::{Name, OutOfMemory, Word};
@@ -56,7 +56,7 @@ impl Kind {
 }
 
 impl Primitive for Kind {
-    ghost use Rattle.bsv_design.specs.tree.Kinds.{kind_laws};
+    ghost use Rattle.bsv_design.specs.parts.Kinds.{kind_laws};
 
     ghost table = { kind_table };
 

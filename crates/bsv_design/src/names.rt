@@ -1,6 +1,6 @@
-ghost use Rattle.std.specs.Prelude.{◌≡◌, ◌<◌, Some, slice_get, [], ◌∷◌, codes};
-ghost use Rattle.bsv_design.specs.tree.MethodNames.{register_names, wire_names, rwire_names};
-ghost use Rattle.bsv_design.specs.tree.MethodNames.{pulse_names, queue_names};
+ghost use Rattle.std.specs.Prelude.{◌≡◌, ◌<◌, Some, slice_get};
+ghost use Rattle.bsv_design.specs.parts.MethodNames.{register_names, wire_names, rwire_names};
+ghost use Rattle.bsv_design.specs.parts.MethodNames.{pulse_names, queue_names};
 
 /// The name of a register's method.
 pub(crate) fn register_name(method: u32) -> &'static str

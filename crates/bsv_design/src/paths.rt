@@ -1,5 +1,5 @@
 ghost use Rattle.std.specs.Prelude.{◌≡◌, IfOk};
-ghost use Rattle.bsv_design.specs.scheme.Traces.{with_dot};
+ghost use Rattle.bsv_design.specs.design.Paths.{with_dot};
 
 use bsv_bits::{Name, OutOfMemory};
 use std::alloc::Global;

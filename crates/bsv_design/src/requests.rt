@@ -1,6 +1,6 @@
 ghost use Rattle.std.specs.Prelude.{◌≡◌, IfOk, IsTrue};
 ghost use Rattle.std.specs.List.{list_all};
-ghost use Rattle.bsv_design.specs.tree.Seen.{asking};
+ghost use Rattle.bsv_design.specs.scheme.Seen.{asking};
 ghost use Rattle.bsv_design.specs.scheme.States as states;
 ghost use Rattle.bsv_design.specs.design.Widths.{port_fits};
 

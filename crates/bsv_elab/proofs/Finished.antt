@@ -4,8 +4,8 @@ use Rattle.bsv_fail.specs.declared.fail.Fail.{Fail}
 use Rattle.bsv_fail.specs.declared.fail.Fail.TheVariants as fail
 use Rattle.bsv_fail.specs.Given.{◌>>=◌, Fails}
 use Rattle.bsv_types.specs.declared.modules.Module.{Module}
-use Rattle.bsv_design.specs.declared.statics.Binding.{Binding}
-use Rattle.bsv_design.specs.declared.tree.Built.{Built}
+use Rattle.bsv_tree.specs.declared.statics.Binding.{Binding}
+use Rattle.bsv_tree.specs.declared.tree.Built.{Built}
 use Rattle.bsv_elab.specs.declared.builder.Builder.{Builder}
 use Rattle.bsv_elab.specs.declared.refused.Refused.{Refused}
 use Rattle.bsv_elab.specs.declared.state.Done.{Done}

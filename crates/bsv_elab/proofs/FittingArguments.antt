@@ -12,12 +12,12 @@ use Rattle.bsv_types.specs.Methods.{param_kinds}
 use Rattle.bsv_types.specs.Modules.{argument_right, arguments_right, param_slots}
 use Rattle.bsv_types.specs.Operators.{is_kind}
 use Rattle.bsv_types.specs.Shapes.{is_value, is_instance}
-use Rattle.bsv_design.specs.declared.statics.Static.{Static}
-use Rattle.bsv_design.specs.declared.statics.Static.TheVariants as static
-use Rattle.bsv_design.specs.declared.tree.Instance.{Instance}
-use Rattle.bsv_design.specs.carrying.Carrying.{call_at, most_calls, module_place}
-use Rattle.bsv_design.specs.carrying.Frames.{no_variables}
-use Rattle.bsv_design.specs.tree.Trees.{shapes, world, Fits, AllFit}
+use Rattle.bsv_tree.specs.declared.statics.Static.{Static}
+use Rattle.bsv_tree.specs.declared.statics.Static.TheVariants as static
+use Rattle.bsv_tree.specs.declared.tree.Instance.{Instance}
+use Rattle.bsv_tree.specs.carrying.Carrying.{call_at, most_calls, module_place}
+use Rattle.bsv_tree.specs.carrying.Frames.{no_variables}
+use Rattle.bsv_tree.specs.tree.Trees.{shapes, world, Fits, AllFit}
 use Rattle.bsv_elab.specs.declared.state.State.{State}
 use Rattle.bsv_elab.specs.Statics.{Here, site, count, at_weight, constant_in, held_as}
 use Rattle.bsv_elab.specs.Making.{placed_in, argument_in, arguments_from, arguments, parameters}

@@ -20,10 +20,10 @@ use Rattle.bsv_types.specs.Names.{lower_names, countable, of_module}
 use Rattle.bsv_types.specs.Shapes.{is_instance}
 use Rattle.bsv_types.specs.Statements as typing
 use Rattle.bsv_types.specs.Statements.{inner}
-use Rattle.bsv_design.specs.declared.statics.Binding.{Binding}
-use Rattle.bsv_design.specs.declared.tree.BuiltRule.{BuiltRule}
-use Rattle.bsv_design.specs.declared.tree.Instance.{Instance}
-use Rattle.bsv_design.specs.tree.Trees.{shapes, world, AllFit, RuleAgrees}
+use Rattle.bsv_tree.specs.declared.statics.Binding.{Binding}
+use Rattle.bsv_tree.specs.declared.tree.BuiltRule.{BuiltRule}
+use Rattle.bsv_tree.specs.declared.tree.Instance.{Instance}
+use Rattle.bsv_tree.specs.tree.Trees.{shapes, world, AllFit, RuleAgrees}
 use Rattle.bsv_elab.specs.declared.state.Done.{Done}
 use Rattle.bsv_elab.specs.declared.state.Grown.{Grown}
 use Rattle.bsv_elab.specs.declared.state.Marks.{Marks}

@@ -27,10 +27,10 @@ use Rattle.bsv_types.specs.Widths.{field_kinds}
 use Rattle.bsv_types.proofs.Same.{same_part_is}
 use Rattle.bsv_design.specs.declared.kind.Kind.{Kind}
 use Rattle.bsv_design.specs.declared.kind.Kind.TheVariants as kinds
-use Rattle.bsv_design.specs.declared.tree.Made.TheVariants as made
-use Rattle.bsv_design.specs.carrying.Applied.{width}
-use Rattle.bsv_design.specs.carrying.Calls.{is_kind_of}
-use Rattle.bsv_design.specs.tree.Trees.{shapes, world, held_width, Provides}
+use Rattle.bsv_tree.specs.declared.tree.Made.TheVariants as made
+use Rattle.bsv_tree.specs.tree.Widths.{width}
+use Rattle.bsv_tree.specs.tree.Methods.{is_kind_of}
+use Rattle.bsv_tree.specs.tree.Trees.{shapes, world, held_width, Provides}
 use Rattle.bsv_elab.specs.MadeKinds.{passed, from_range, or_zero, or_zero_fits, reg, regu, wire, dwire, rwire, plain, pipeline, bypass, kind_of}
 use Rattle.bsv_elab.proofs.FittingScopes.{wide}
 

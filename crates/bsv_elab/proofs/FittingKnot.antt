@@ -10,7 +10,7 @@ use Rattle.bsv_types.specs.Modules as rules
 use Rattle.bsv_types.specs.Modules.{header, numbers_step, own_method, module_stmt_run, module_stmt_step, module_branch_step}
 use Rattle.bsv_types.specs.Statements.{Run}
 use Rattle.bsv_types.specs.declared.modules.ModuleBranch.{fold-ModuleBranch}
-use Rattle.bsv_design.specs.tree.Trees.{world}
+use Rattle.bsv_tree.specs.tree.Trees.{world}
 use Rattle.bsv_elab.specs.Statics.{Here, Builds, truth_in}
 use Rattle.bsv_elab.specs.Making.{Bodies}
 use Rattle.bsv_elab.specs.Bodies.{Branched, stmt_step, branch_step, stmt, branch}

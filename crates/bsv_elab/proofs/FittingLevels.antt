@@ -16,7 +16,7 @@ use Rattle.bsv_types.specs.Modules.{header, concatenated, method_right, module_s
 use Rattle.bsv_types.specs.Operators as options
 use Rattle.bsv_types.specs.Statements as typing
 use Rattle.bsv_types.specs.Statements.{Run}
-use Rattle.bsv_design.specs.tree.Trees.{world}
+use Rattle.bsv_tree.specs.tree.Trees.{world}
 use Rattle.bsv_elab.specs.declared.state.State.{State}
 use Rattle.bsv_elab.specs.Statics.{Here, Builds, weigh, put_at}
 use Rattle.bsv_elab.specs.Making.{Bodies}

@@ -20,14 +20,14 @@ use Rattle.bsv_types.specs.Modules.{header, arguments_right, given_makes, module
 use Rattle.bsv_types.specs.Shapes.{is_instance}
 use Rattle.bsv_types.proofs.Same.{same_is}
 use Rattle.bsv_design.specs.declared.kind.Kind.{Kind}
-use Rattle.bsv_design.specs.declared.statics.Binding.{Binding}
-use Rattle.bsv_design.specs.declared.statics.Static.{Static}
-use Rattle.bsv_design.specs.declared.tree.Built.{Built}
-use Rattle.bsv_design.specs.declared.tree.Instance.{Instance}
-use Rattle.bsv_design.specs.declared.tree.Made.TheVariants as made
-use Rattle.bsv_design.specs.carrying.Calls.{made_of}
-use Rattle.bsv_design.specs.scheme.Traces.{with_dot}
-use Rattle.bsv_design.specs.tree.Trees.{shapes, world, interface_of, Provides, Stands, AllFit, Agrees}
+use Rattle.bsv_tree.specs.declared.statics.Binding.{Binding}
+use Rattle.bsv_tree.specs.declared.statics.Static.{Static}
+use Rattle.bsv_tree.specs.declared.tree.Built.{Built}
+use Rattle.bsv_tree.specs.declared.tree.Instance.{Instance}
+use Rattle.bsv_tree.specs.declared.tree.Made.TheVariants as made
+use Rattle.bsv_tree.specs.tree.Contexts.{made_of}
+use Rattle.bsv_design.specs.design.Paths.{with_dot}
+use Rattle.bsv_tree.specs.tree.Trees.{shapes, world, interface_of, Provides, Stands, AllFit, Agrees}
 use Rattle.bsv_elab.specs.declared.refused.Refused.{Refused}
 use Rattle.bsv_elab.specs.declared.state.Done.{Done}
 use Rattle.bsv_elab.specs.declared.state.Grown.{Grown}

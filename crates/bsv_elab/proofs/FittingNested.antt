@@ -20,7 +20,7 @@ use Rattle.bsv_types.specs.Modules.{header, concatenated, or_empty, module_stmt_
 use Rattle.bsv_types.specs.Operators as options
 use Rattle.bsv_types.specs.Statements as typing
 use Rattle.bsv_types.specs.Statements.{Run, if_right, inner, all_inner, inner_too, assigns, in_loop}
-use Rattle.bsv_design.specs.tree.Trees.{world}
+use Rattle.bsv_tree.specs.tree.Trees.{world}
 use Rattle.bsv_elab.specs.declared.refused.Refused.{Refused}
 use Rattle.bsv_elab.specs.declared.state.State.{State}
 use Rattle.bsv_elab.specs.Statics.{Here, Builds, constant_in, truth_in, held, bind, cut, inside}

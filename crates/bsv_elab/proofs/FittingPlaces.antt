@@ -9,16 +9,17 @@ use Rattle.bsv_types.specs.declared.typed.Typed.{Typed}
 use Rattle.bsv_types.specs.Expressions as typed
 use Rattle.bsv_types.specs.Expressions.{one, many, Frame, Typing, one_at, many_at, place_at, place_typing}
 use Rattle.bsv_types.specs.Kinds.{Kind as Sort, integer, bit, down, uint, int, bool, enum, struct, maybe, interface, part, bare}
-use Rattle.bsv_design.specs.declared.statics.Binding.{Binding}
-use Rattle.bsv_design.specs.declared.statics.Static.{Static}
-use Rattle.bsv_design.specs.declared.statics.Static.TheVariants as static
-use Rattle.bsv_design.specs.declared.values.Count.{Count}
-use Rattle.bsv_design.specs.declared.values.Fault.{Fault}
-use Rattle.bsv_design.specs.declared.values.Local.{Local}
-use Rattle.bsv_design.specs.carrying.Calls.{Context, Caller, static_fault, placed, placed_at, set_place}
-use Rattle.bsv_design.specs.carrying.Carrying.{Carried, Placing, expression, place, expr_step, place_step, index_of}
-use Rattle.bsv_design.specs.carrying.Working.{no_steps}
-use Rattle.bsv_design.specs.tree.Trees.{world, Stands, Fits, AllFit}
+use Rattle.bsv_tree.specs.declared.statics.Binding.{Binding}
+use Rattle.bsv_tree.specs.declared.statics.Static.{Static}
+use Rattle.bsv_tree.specs.declared.statics.Static.TheVariants as static
+use Rattle.bsv_tree.specs.declared.values.Count.{Count}
+use Rattle.bsv_tree.specs.declared.values.Fault.{Fault}
+use Rattle.bsv_tree.specs.declared.values.Local.{Local}
+use Rattle.bsv_tree.specs.tree.Contexts.{Context}
+use Rattle.bsv_tree.specs.carrying.Calls.{Caller, static_fault, placed, placed_at, set_place}
+use Rattle.bsv_tree.specs.carrying.Carrying.{Carried, Placing, expression, place, expr_step, place_step, index_of}
+use Rattle.bsv_tree.specs.carrying.Working.{no_steps}
+use Rattle.bsv_tree.specs.tree.Trees.{world, Stands, Fits, AllFit}
 use Rattle.bsv_elab.specs.Statics.{binding}
 use Rattle.bsv_elab.proofs.FittingScopes.{fit_at, stands_may}
 use Rattle.bsv_elab.proofs.FittingSteps.{went}

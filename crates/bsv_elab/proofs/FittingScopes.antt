@@ -8,14 +8,14 @@ use Rattle.bsv_types.specs.declared.typed.Typed.{Typed}
 use Rattle.bsv_types.specs.Expressions.{Slot, one, many, Frame}
 use Rattle.bsv_types.specs.Kinds.{Kind as Sort, part, bool}
 use Rattle.bsv_types.specs.Shapes.{is_value, is_instance}
-use Rattle.bsv_design.specs.declared.statics.Binding.{Binding}
-use Rattle.bsv_design.specs.declared.statics.Static.{Static}
-use Rattle.bsv_design.specs.declared.statics.Static.TheVariants as static
-use Rattle.bsv_design.specs.declared.tree.Instance.{Instance}
-use Rattle.bsv_design.specs.declared.values.Constant.{Constant}
-use Rattle.bsv_design.specs.declared.values.Constant.TheVariants as constant
-use Rattle.bsv_design.specs.carrying.Applied.{width}
-use Rattle.bsv_design.specs.tree.Trees.{shapes, Stands, AllMayStand, Fits, AllFit}
+use Rattle.bsv_tree.specs.declared.statics.Binding.{Binding}
+use Rattle.bsv_tree.specs.declared.statics.Static.{Static}
+use Rattle.bsv_tree.specs.declared.statics.Static.TheVariants as static
+use Rattle.bsv_tree.specs.declared.tree.Instance.{Instance}
+use Rattle.bsv_tree.specs.declared.values.Constant.{Constant}
+use Rattle.bsv_tree.specs.declared.values.Constant.TheVariants as constant
+use Rattle.bsv_tree.specs.tree.Widths.{width}
+use Rattle.bsv_tree.specs.tree.Trees.{shapes, Stands, AllMayStand, Fits, AllFit}
 use Rattle.bsv_elab.specs.Statics.{Here, put_at, held, held_as, next_value}
 use Rattle.bsv_elab.specs.Making.{width_in}
 use Rattle.bsv_elab.specs.Bodies.{or_one}

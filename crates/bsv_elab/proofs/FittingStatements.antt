@@ -17,13 +17,13 @@ use Rattle.bsv_types.specs.Modules as rules
 use Rattle.bsv_types.specs.Modules.{header, makes, place_right, rule_right, method_right}
 use Rattle.bsv_types.specs.Shapes.{is_value, is_instance}
 use Rattle.bsv_types.specs.Statements.{Run, if_right, assigns}
-use Rattle.bsv_design.specs.declared.statics.Binding.{Binding}
-use Rattle.bsv_design.specs.declared.statics.Static.{Static}
-use Rattle.bsv_design.specs.declared.statics.Static.TheVariants as static
-use Rattle.bsv_design.specs.declared.tree.BuiltRule.{BuiltRule}
-use Rattle.bsv_design.specs.declared.tree.Instance.{Instance}
-use Rattle.bsv_design.specs.declared.values.Constant.{Constant}
-use Rattle.bsv_design.specs.tree.Trees.{shapes, world, Stands, AllMayStand, Fits, RuleAgrees}
+use Rattle.bsv_tree.specs.declared.statics.Binding.{Binding}
+use Rattle.bsv_tree.specs.declared.statics.Static.{Static}
+use Rattle.bsv_tree.specs.declared.statics.Static.TheVariants as static
+use Rattle.bsv_tree.specs.declared.tree.BuiltRule.{BuiltRule}
+use Rattle.bsv_tree.specs.declared.tree.Instance.{Instance}
+use Rattle.bsv_tree.specs.declared.values.Constant.{Constant}
+use Rattle.bsv_tree.specs.tree.Trees.{shapes, world, Stands, AllMayStand, Fits, RuleAgrees}
 use Rattle.bsv_elab.specs.declared.refused.Refused.{Refused}
 use Rattle.bsv_elab.specs.declared.state.State.{State}
 use Rattle.bsv_elab.specs.Names.{Named, new_name, take_name}

@@ -9,9 +9,9 @@ use Rattle.bsv_types.specs.declared.modules.Module.{Module}
 use Rattle.bsv_types.specs.declared.typed.Typed.{Typed}
 use Rattle.bsv_types.specs.Expressions.{Slot, Frame}
 use Rattle.bsv_types.specs.Statements.{Run, inner}
-use Rattle.bsv_design.specs.declared.statics.Binding.{Binding}
-use Rattle.bsv_design.specs.declared.statics.Static.{Static}
-use Rattle.bsv_design.specs.tree.Trees.{Fits, AllFit}
+use Rattle.bsv_tree.specs.declared.statics.Binding.{Binding}
+use Rattle.bsv_tree.specs.declared.statics.Static.{Static}
+use Rattle.bsv_tree.specs.tree.Trees.{Fits, AllFit}
 use Rattle.bsv_elab.specs.declared.state.State.{State}
 use Rattle.bsv_elab.specs.Statics.{Builds, weigh, at_weight, bind, binding, with_binding, cut, inside}
 use Rattle.bsv_elab.proofs.FittingTrees.{RulesAgree, Grew, grew_none, grew_more}

@@ -7,9 +7,9 @@ use Rattle.bsv_fail.specs.Given.{◌>>=◌}
 use Rattle.bsv_types.specs.declared.expressions.Expr.{Expr}
 use Rattle.bsv_types.specs.Expressions.{Frame}
 use Rattle.bsv_types.specs.Statements.{Run, if_right, inner}
-use Rattle.bsv_design.specs.declared.values.Constant.{Constant}
-use Rattle.bsv_design.specs.declared.values.Fault.{Fault}
-use Rattle.bsv_design.specs.carrying.Working.{tick}
+use Rattle.bsv_tree.specs.declared.values.Constant.{Constant}
+use Rattle.bsv_tree.specs.declared.values.Fault.{Fault}
+use Rattle.bsv_tree.specs.carrying.Working.{tick}
 use Rattle.bsv_elab.specs.declared.state.State.{State}
 use Rattle.bsv_elab.specs.Statics.{Here, static_fault, count, carried, countable, at_weight, weigh, known, carried_in, constant_in, as_number, number_in, as_truth, truth_in}
 

@@ -7,10 +7,10 @@ use Rattle.bsv_types.specs.declared.definitions.Param.{Param}
 use Rattle.bsv_types.specs.declared.modules.Module.{Module}
 use Rattle.bsv_types.specs.declared.typed.Typed.{Typed}
 use Rattle.bsv_types.specs.Modules.{param_slots}
-use Rattle.bsv_design.specs.declared.tree.Built.{Built}
-use Rattle.bsv_design.specs.declared.tree.Instance.{Instance}
-use Rattle.bsv_design.specs.declared.tree.Made.TheVariants as made
-use Rattle.bsv_design.specs.tree.Trees.{TreeData, AllFit, IsModuleAt, Agrees, IsTop}
+use Rattle.bsv_tree.specs.declared.tree.Built.{Built}
+use Rattle.bsv_tree.specs.declared.tree.Instance.{Instance}
+use Rattle.bsv_tree.specs.declared.tree.Made.TheVariants as made
+use Rattle.bsv_tree.specs.tree.Trees.{TreeData, AllFit, IsModuleAt, Agrees, IsTop}
 use Rattle.bsv_elab.specs.declared.state.Done.{Done}
 use Rattle.bsv_elab.specs.Statics.{put_at, countable}
 use Rattle.bsv_elab.specs.Making.{instance, with_instance, unbuilt, inner}

@@ -6,16 +6,16 @@ use Rattle.bsv_types.specs.declared.modules.Module.{Module}
 use Rattle.bsv_types.specs.declared.typed.Typed.{Typed}
 use Rattle.bsv_types.specs.Expressions.{Slot, one, many, Frame}
 use Rattle.bsv_types.specs.Kinds.{Kind as Sort}
-use Rattle.bsv_design.specs.declared.statics.Binding.{Binding}
-use Rattle.bsv_design.specs.declared.statics.Static.{Static}
-use Rattle.bsv_design.specs.declared.statics.Static.TheVariants as static
-use Rattle.bsv_design.specs.declared.tree.Built.{Built}
-use Rattle.bsv_design.specs.declared.tree.BuiltRule.{BuiltRule}
-use Rattle.bsv_design.specs.declared.tree.Instance.{Instance}
-use Rattle.bsv_design.specs.declared.tree.Made.{Made}
-use Rattle.bsv_design.specs.declared.tree.Made.TheVariants as made
-use Rattle.bsv_design.specs.carrying.Calls.{made_of}
-use Rattle.bsv_design.specs.tree.Trees.{Provides, Stands, MayStand, AllMayStand, Fits, AllFit, RuleAgrees, Agrees, interface_of}
+use Rattle.bsv_tree.specs.declared.statics.Binding.{Binding}
+use Rattle.bsv_tree.specs.declared.statics.Static.{Static}
+use Rattle.bsv_tree.specs.declared.statics.Static.TheVariants as static
+use Rattle.bsv_tree.specs.declared.tree.Built.{Built}
+use Rattle.bsv_tree.specs.declared.tree.BuiltRule.{BuiltRule}
+use Rattle.bsv_tree.specs.declared.tree.Instance.{Instance}
+use Rattle.bsv_tree.specs.declared.tree.Made.{Made}
+use Rattle.bsv_tree.specs.declared.tree.Made.TheVariants as made
+use Rattle.bsv_tree.specs.tree.Contexts.{made_of}
+use Rattle.bsv_tree.specs.tree.Trees.{Provides, Stands, MayStand, AllMayStand, Fits, AllFit, RuleAgrees, Agrees, interface_of}
 
 -- the same thing is there with more after
 pub made_front : (is more : List Instance) (n : ℕ) (what : Made) → made_of (slice_get is n) ≡ Some what → made_of (slice_get (is ++ more) n) ≡ Some what

@@ -23,9 +23,9 @@ use Rattle.bsv_types.specs.Statements.{Run, inner}
 use Rattle.bsv_types.specs.Statements as typed
 use Rattle.bsv_types.specs.Names.{distinct, lower_names, countable, of_module}
 use Rattle.bsv_types.specs.Modules.{Header, param_names, param_slots, param_right, module_stmt_run, numbers_right, site_of, module_right}
-use Rattle.bsv_design.specs.declared.statics.Binding.{Binding}
-use Rattle.bsv_design.specs.declared.tree.BuiltRule.{BuiltRule}
-use Rattle.bsv_design.specs.tree.Trees.{joined}
+use Rattle.bsv_tree.specs.declared.statics.Binding.{Binding}
+use Rattle.bsv_tree.specs.declared.tree.BuiltRule.{BuiltRule}
+use Rattle.bsv_design.specs.design.Paths.{joined}
 use Rattle.bsv_design.proofs.Dotted.{AreLower}
 use Rattle.bsv_elab.specs.declared.state.Done.{Done}
 use Rattle.bsv_elab.specs.declared.state.Grown.{Grown}

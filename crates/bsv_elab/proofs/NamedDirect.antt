@@ -4,8 +4,8 @@ use Rattle.std.proofs.lemmas.Option.{slice_get_within}
 use Rattle.bsv_lemmas.proofs.Places.{passes_at}
 use Rattle.bsv_types.specs.declared.typed.Typed.{Typed}
 use Rattle.bsv_types.specs.Modules.{header, module_right}
-use Rattle.bsv_design.specs.declared.tree.Built.{Built}
-use Rattle.bsv_design.specs.tree.Trees.{TreeData, IsModuleAt, AreNamed, world}
+use Rattle.bsv_tree.specs.declared.tree.Built.{Built}
+use Rattle.bsv_tree.specs.tree.Trees.{TreeData, IsModuleAt, AreNamed, world}
 use Rattle.bsv_elab.specs.Building.{building}
 use Rattle.bsv_elab.proofs.Directly.{method_stands}
 use Rattle.bsv_elab.proofs.NamedBodies.{module_tests}

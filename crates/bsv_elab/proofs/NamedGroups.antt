@@ -11,11 +11,11 @@ use Rattle.bsv_types.specs.declared.modules.Method.{Method}
 use Rattle.bsv_types.specs.declared.modules.Module.{Module}
 use Rattle.bsv_types.specs.declared.modules.ModuleStmt.{ModuleStmt, out-ModuleStmt}
 use Rattle.bsv_types.specs.declared.modules.ModuleStmt.TheOpen.{ModuleStmt-F}
-use Rattle.bsv_design.specs.declared.tree.BuiltRule.{BuiltRule}
-use Rattle.bsv_design.specs.declared.tree.Built.{Built}
-use Rattle.bsv_design.specs.declared.tree.Instance.{Instance}
-use Rattle.bsv_design.specs.declared.tree.Made.TheVariants as made
-use Rattle.bsv_design.specs.tree.Trees.{joined}
+use Rattle.bsv_tree.specs.declared.tree.BuiltRule.{BuiltRule}
+use Rattle.bsv_tree.specs.declared.tree.Built.{Built}
+use Rattle.bsv_tree.specs.declared.tree.Instance.{Instance}
+use Rattle.bsv_tree.specs.declared.tree.Made.TheVariants as made
+use Rattle.bsv_design.specs.design.Paths.{joined}
 use Rattle.bsv_design.proofs.Dotted.{AreLower, lower_parted, joined_same}
 use Rattle.bsv_elab.specs.Making.{is_around}
 use Rattle.bsv_elab.proofs.NamedLists.{not_empty, ends, Found, in_first, in_second, found, only_one, none_there, is_in, Longer, fresh_before, taken_after}

@@ -19,7 +19,7 @@ use Rattle.bsv_types.specs.Statements.{Run, if_right, inner, all_inner, inner_to
 use Rattle.bsv_types.specs.Statements as typed
 use Rattle.bsv_types.specs.Names.{of_rule}
 use Rattle.bsv_types.specs.Modules.{ModuleContext, makes, condition_right, rule_right, module_stmt_step, module_branch_step}
-use Rattle.bsv_design.specs.tree.Trees.{joined}
+use Rattle.bsv_design.specs.design.Paths.{joined}
 use Rattle.bsv_design.proofs.Dotted.{AreLower}
 use Rattle.bsv_elab.specs.Statics.{Here, Builds, weigh}
 use Rattle.bsv_elab.specs.Making.{Bodies, width_in}

@@ -7,12 +7,12 @@ use Rattle.std.proofs.lemmas.List.Folds.{list_all-append}
 use Rattle.std.proofs.lemmas.Bool.{and_from}
 use Rattle.bsv_ast.specs.Names.{is_lower}
 use Rattle.bsv_types.specs.declared.modules.Module.{Module}
-use Rattle.bsv_design.specs.declared.statics.Binding.{Binding}
-use Rattle.bsv_design.specs.declared.tree.Assert.{Assert}
-use Rattle.bsv_design.specs.declared.tree.BuiltRule.{BuiltRule}
-use Rattle.bsv_design.specs.declared.tree.Instance.{Instance}
-use Rattle.bsv_design.specs.declared.tree.Pair.{Pair}
-use Rattle.bsv_design.specs.tree.Trees.{rule_count}
+use Rattle.bsv_tree.specs.declared.statics.Binding.{Binding}
+use Rattle.bsv_design.specs.declared.attributes.Assert.{Assert}
+use Rattle.bsv_tree.specs.declared.tree.BuiltRule.{BuiltRule}
+use Rattle.bsv_tree.specs.declared.tree.Instance.{Instance}
+use Rattle.bsv_design.specs.declared.attributes.Pair.{Pair}
+use Rattle.bsv_tree.specs.tree.Trees.{rule_count}
 use Rattle.bsv_elab.specs.declared.state.Marks.{Marks}
 use Rattle.bsv_elab.specs.declared.state.State.{State}
 use Rattle.bsv_elab.specs.Statics.{Here, Builds}

@@ -4,10 +4,10 @@ use Rattle.std.specs.Prelude.{slice_get}
 use Rattle.std.proofs.lemmas.List.{append_assoc}
 use Rattle.std.proofs.lemmas.Option.{same_Some}
 use Rattle.bsv_types.specs.declared.modules.Module.{Module}
-use Rattle.bsv_design.specs.declared.tree.Built.{Built}
-use Rattle.bsv_design.specs.declared.tree.Instance.{Instance}
-use Rattle.bsv_design.specs.declared.tree.Made.TheVariants as made
-use Rattle.bsv_design.specs.tree.Trees.{joined}
+use Rattle.bsv_tree.specs.declared.tree.Built.{Built}
+use Rattle.bsv_tree.specs.declared.tree.Instance.{Instance}
+use Rattle.bsv_tree.specs.declared.tree.Made.TheVariants as made
+use Rattle.bsv_design.specs.design.Paths.{joined}
 use Rattle.bsv_design.proofs.Dotted.{AreLower}
 use Rattle.bsv_elab.specs.Making.{is_around}
 use Rattle.bsv_elab.proofs.NamedLists.{is_in}

@@ -2,7 +2,7 @@
 use Rattle.std.proofs.Common.{◌≡◌, ◌∙◌, ℕ, ◌+◌, true, false, List, [], ◌∷◌, ◌++◌, length, Some, sym, ap, subst}
 use Rattle.std.specs.Prelude.{slice_get}
 use Rattle.bsv_ast.specs.Names.{is_lower}
-use Rattle.bsv_design.specs.declared.tree.BuiltRule.{BuiltRule}
+use Rattle.bsv_tree.specs.declared.tree.BuiltRule.{BuiltRule}
 use Rattle.bsv_elab.proofs.NamedLists.{Found, in_first, in_second, found, only_one, none_there, is_in, Longer, fresh_before, taken_after, names_differ}
 
 pub record NewRules (before after : List (List ℕ)) (rules : List BuiltRule) : Type 0 where

@@ -10,10 +10,10 @@ use Rattle.bsv_types.specs.declared.makers.Make.{Make}
 use Rattle.bsv_types.specs.declared.modules.Module.{Module}
 use Rattle.bsv_types.specs.declared.statements.Head.{Head}
 use Rattle.bsv_types.specs.Kinds.{Kind as Sort}
-use Rattle.bsv_design.specs.declared.statics.Binding.{Binding}
-use Rattle.bsv_design.specs.declared.statics.Static.TheVariants as static
-use Rattle.bsv_design.specs.declared.values.Fault.TheVariants as fault
-use Rattle.bsv_design.specs.tree.Trees.{joined}
+use Rattle.bsv_tree.specs.declared.statics.Binding.{Binding}
+use Rattle.bsv_tree.specs.declared.statics.Static.TheVariants as static
+use Rattle.bsv_tree.specs.declared.values.Fault.TheVariants as fault
+use Rattle.bsv_design.specs.design.Paths.{joined}
 use Rattle.bsv_design.proofs.Dotted.{AreLower}
 use Rattle.bsv_elab.specs.declared.refused.Refused.{Refused}
 use Rattle.bsv_elab.specs.declared.refused.Refused.TheVariants as refused

@@ -12,11 +12,11 @@ use Rattle.bsv_types.specs.declared.makers.Argument.TheVariants as argument
 use Rattle.bsv_types.specs.declared.modules.Module.{Module}
 use Rattle.bsv_types.specs.Expressions.{expr_type}
 use Rattle.bsv_types.specs.Kinds.{kind}
-use Rattle.bsv_design.specs.declared.statics.Binding.{Binding}
-use Rattle.bsv_design.specs.declared.statics.Static.{Static}
-use Rattle.bsv_design.specs.declared.statics.Static.TheVariants as static
-use Rattle.bsv_design.specs.declared.values.Constant.{Constant}
-use Rattle.bsv_design.specs.carrying.Working.{tick}
+use Rattle.bsv_tree.specs.declared.statics.Binding.{Binding}
+use Rattle.bsv_tree.specs.declared.statics.Static.{Static}
+use Rattle.bsv_tree.specs.declared.statics.Static.TheVariants as static
+use Rattle.bsv_tree.specs.declared.values.Constant.{Constant}
+use Rattle.bsv_tree.specs.carrying.Working.{tick}
 use Rattle.bsv_elab.specs.declared.state.State.{State}
 use Rattle.bsv_elab.specs.Statics.{Here, Builds, static_fault, count, carried, at_weight, weigh, put_at, known, carried_in, constant_in, as_number, number_in, as_truth, truth_in, held_as, binding, bind, next_value, assigned, assign, cut, inside}
 use Rattle.bsv_elab.specs.Making.{placed_in, argument_in, arguments_from, arguments}

@@ -5,8 +5,8 @@ use Rattle.std.proofs.lemmas.Bool.{ltb-true}
 use Rattle.bsv_lemmas.proofs.Choices.{same_ok, passed, not_refused}
 use Rattle.bsv_ast.specs.Names.{is_lower}
 use Rattle.bsv_fail.specs.Given.{◌>>=◌}
-use Rattle.bsv_design.specs.declared.values.Fault.TheVariants as fault
-use Rattle.bsv_design.specs.scheme.Traces.{with_dot}
+use Rattle.bsv_tree.specs.declared.values.Fault.TheVariants as fault
+use Rattle.bsv_design.specs.design.Paths.{with_dot}
 use Rattle.bsv_elab.specs.declared.refused.Refused.TheVariants as refused
 use Rattle.bsv_elab.specs.Names.{Named, times, with_number, given_times, is_taken, numbered, take_name, new_name}
 use Rattle.bsv_elab.proofs.NumberedNames.{numbered_lower}

@@ -7,10 +7,10 @@ use Rattle.bsv_lemmas.proofs.Choices.{same_ok, passed}
 use Rattle.bsv_types.specs.declared.typed.Typed.{Typed}
 use Rattle.bsv_types.specs.Modules.{header, module_right}
 use Rattle.bsv_types.specs.Programs.{all_countable, names_right, shapes_right, each_at, function_right}
-use Rattle.bsv_design.specs.declared.tree.Instance.{Instance}
-use Rattle.bsv_design.specs.declared.tree.Made.TheVariants as made
-use Rattle.bsv_design.specs.declared.values.Fault.TheVariants as fault
-use Rattle.bsv_design.specs.tree.Trees.{TreeData, shapes, world, rule_count}
+use Rattle.bsv_tree.specs.declared.tree.Instance.{Instance}
+use Rattle.bsv_tree.specs.declared.tree.Made.TheVariants as made
+use Rattle.bsv_tree.specs.declared.values.Fault.TheVariants as fault
+use Rattle.bsv_tree.specs.tree.Trees.{TreeData, shapes, world, rule_count}
 use Rattle.bsv_elab.specs.declared.refused.Refused.TheVariants as refused
 use Rattle.bsv_elab.specs.declared.state.Done.{Done}
 use Rattle.bsv_elab.specs.Statics.{Here, put_at}

@@ -7,12 +7,13 @@ use Rattle.bsv_ast.specs.Names.{is_lower}
 use Rattle.bsv_types.specs.declared.modules.Method.{Method}
 use Rattle.bsv_types.specs.declared.modules.Module.{Module}
 use Rattle.bsv_types.specs.declared.typed.Typed.{Typed}
-use Rattle.bsv_design.specs.declared.tree.Built.{Built}
-use Rattle.bsv_design.specs.declared.tree.BuiltRule.{BuiltRule}
-use Rattle.bsv_design.specs.declared.tree.Instance.{Instance}
-use Rattle.bsv_design.specs.declared.tree.Made.TheVariants as made
-use Rattle.bsv_design.specs.carrying.Calls.{made_of}
-use Rattle.bsv_design.specs.tree.Trees.{TreeData, IsModuleAt, IsPath, IsInside, AreNamed, joined, methods_of}
+use Rattle.bsv_tree.specs.declared.tree.Built.{Built}
+use Rattle.bsv_tree.specs.declared.tree.BuiltRule.{BuiltRule}
+use Rattle.bsv_tree.specs.declared.tree.Instance.{Instance}
+use Rattle.bsv_tree.specs.declared.tree.Made.TheVariants as made
+use Rattle.bsv_tree.specs.tree.Contexts.{made_of}
+use Rattle.bsv_tree.specs.tree.Trees.{TreeData, IsModuleAt, AreNamed, methods_of}
+use Rattle.bsv_design.specs.design.Paths.{IsPath, IsInside, joined}
 use Rattle.bsv_design.proofs.Dotted.{AreLower}
 use Rattle.bsv_elab.specs.declared.state.Done.{Done}
 use Rattle.bsv_elab.specs.Building.{building}

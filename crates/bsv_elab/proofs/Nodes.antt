@@ -7,7 +7,7 @@ use Rattle.bsv_types.specs.declared.modules.ModuleStmt.TheOpen.{ModuleStmt-F}
 use Rattle.bsv_types.specs.declared.modules.ModuleStmt.TheViews.{rolls-Block, rolls-If, rolls-For}
 use Rattle.bsv_types.specs.declared.modules.ModuleStmt.TheVariants as s
 use Rattle.bsv_types.specs.declared.statements.Head.{Head}
-use Rattle.bsv_design.specs.declared.statics.Binding.{Binding}
+use Rattle.bsv_tree.specs.declared.statics.Binding.{Binding}
 use Rattle.bsv_elab.specs.declared.state.Grown.{Grown}
 use Rattle.bsv_elab.specs.declared.state.State.{State}
 use Rattle.bsv_elab.specs.Statics.{Here, Builds, weigh, truth_in, inside}

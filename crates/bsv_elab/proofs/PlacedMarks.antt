@@ -10,9 +10,9 @@ use Rattle.bsv_types.specs.declared.attributes.Attribute.TheVariants as asked
 use Rattle.bsv_types.specs.declared.modules.Module.{Module}
 use Rattle.bsv_types.specs.declared.modules.Rule.{Rule}
 use Rattle.bsv_types.specs.Names.{of_module}
-use Rattle.bsv_design.specs.declared.tree.Attribute.{Attribute}
-use Rattle.bsv_design.specs.declared.tree.Attribute.TheVariants as attribute
-use Rattle.bsv_design.specs.declared.tree.BuiltRule.{BuiltRule}
+use Rattle.bsv_design.specs.declared.attributes.Attribute.{Attribute}
+use Rattle.bsv_design.specs.declared.attributes.Attribute.TheVariants as attribute
+use Rattle.bsv_tree.specs.declared.tree.BuiltRule.{BuiltRule}
 use Rattle.bsv_elab.specs.declared.state.Marks.{Marks}
 use Rattle.bsv_elab.specs.Attributes.{position_of, positions_from, positions, side_by_side, listed, with_each, each_with_each, with_pairs, with_assert, with_list, marked, marked_all, attributes_of, marked_rules, no_marks, marks_of}
 use Rattle.bsv_elab.proofs.NamedLists.{chosen}

@@ -3,15 +3,15 @@ use Rattle.std.proofs.Common.{◌≡◌, ◌∙◌, ℕ, ◌+◌, ◌≤◌, ◌
 use Rattle.std.specs.Prelude.{slice_get}
 use Rattle.std.proofs.lemmas.Option.{same_Some}
 use Rattle.bsv_types.specs.declared.typed.Typed.{Typed}
-use Rattle.bsv_design.specs.declared.tree.Assert.{Assert}
-use Rattle.bsv_design.specs.declared.tree.Built.{Built}
-use Rattle.bsv_design.specs.declared.tree.BuiltRule.{BuiltRule}
-use Rattle.bsv_design.specs.declared.tree.Instance.{Instance}
-use Rattle.bsv_design.specs.declared.tree.Made.{Made}
-use Rattle.bsv_design.specs.declared.tree.Made.TheVariants as made
-use Rattle.bsv_design.specs.declared.tree.Pair.{Pair}
-use Rattle.bsv_design.specs.carrying.Calls.{made_of}
-use Rattle.bsv_design.specs.tree.Trees.{TreeData, HasRule, methods_of, rule_count, ArePlaced, IsRule, PairsNameRules, AssertsNameRules}
+use Rattle.bsv_design.specs.declared.attributes.Assert.{Assert}
+use Rattle.bsv_tree.specs.declared.tree.Built.{Built}
+use Rattle.bsv_tree.specs.declared.tree.BuiltRule.{BuiltRule}
+use Rattle.bsv_tree.specs.declared.tree.Instance.{Instance}
+use Rattle.bsv_tree.specs.declared.tree.Made.{Made}
+use Rattle.bsv_tree.specs.declared.tree.Made.TheVariants as made
+use Rattle.bsv_design.specs.declared.attributes.Pair.{Pair}
+use Rattle.bsv_tree.specs.tree.Contexts.{made_of}
+use Rattle.bsv_tree.specs.tree.Trees.{TreeData, HasRule, methods_of, rule_count, ArePlaced, IsRule, PairsNameRules, AssertsNameRules}
 use Rattle.bsv_elab.specs.Building.{building}
 use Rattle.bsv_elab.proofs.NamedMakes.{Within, PairsWithin, AssertsWithin}
 use Rattle.bsv_elab.proofs.NamedTop.{whole, parts}

@@ -4,7 +4,7 @@ use Rattle.std.specs.Prelude.{if◌then◌else◌}
 use Rattle.bsv_lemmas.proofs.Turns.{one_more, no_more}
 use Rattle.bsv_fail.specs.Given.{◌>>=◌}
 use Rattle.bsv_types.specs.declared.statements.Head.{Head}
-use Rattle.bsv_design.specs.declared.values.Fault.TheVariants as fault
+use Rattle.bsv_tree.specs.declared.values.Fault.TheVariants as fault
 use Rattle.bsv_elab.specs.declared.refused.Refused.TheVariants as refused
 use Rattle.bsv_elab.specs.declared.state.State.{State}
 use Rattle.bsv_elab.specs.Statics.{Here, Builds, truth_in}

@@ -13,9 +13,9 @@ use Rattle.bsv_types.specs.declared.modules.ModuleBranch.{ModuleBranch}
 use Rattle.bsv_types.specs.declared.modules.ModuleStmt.{ModuleStmt}
 use Rattle.bsv_types.specs.declared.statements.Head.{Head}
 use Rattle.bsv_types.specs.Kinds.{Kind as Sort}
-use Rattle.bsv_design.specs.declared.statics.Binding.{Binding}
-use Rattle.bsv_design.specs.declared.statics.Static.{Static}
-use Rattle.bsv_design.specs.declared.values.Fault.{Fault}
+use Rattle.bsv_tree.specs.declared.statics.Binding.{Binding}
+use Rattle.bsv_tree.specs.declared.statics.Static.{Static}
+use Rattle.bsv_tree.specs.declared.values.Fault.{Fault}
 use Rattle.bsv_elab.specs.declared.builder.Builder.{Builder}
 use Rattle.bsv_elab.specs.declared.refused.Refused.{Refused}
 use Rattle.bsv_elab.specs.declared.refused.Refused.TheVariants as refused

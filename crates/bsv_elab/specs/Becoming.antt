@@ -3,7 +3,7 @@ use Rattle.std.specs.Prelude.{◌≡◌, ℕ, Result, Ok, Err}
 use Rattle.bsv_fail.specs.declared.fail.Fail.{Fail}
 use Rattle.bsv_fail.specs.declared.fail.Fail.TheVariants as fail
 use Rattle.bsv_fail.specs.Given.{Fails}
-use Rattle.bsv_design.specs.declared.tree.Built.{Built}
+use Rattle.bsv_tree.specs.declared.tree.Built.{Built}
 use Rattle.bsv_elab.specs.declared.refused.Refused.{Refused}
 use Rattle.bsv_elab.specs.declared.state.Done.{Done}
 use Rattle.bsv_elab.specs.declared.state.Marks.{Marks}

@@ -4,9 +4,9 @@ use Rattle.bsv_fail.specs.Given.{◌>>=◌}
 use Rattle.bsv_types.specs.declared.modules.Method.{Method}
 use Rattle.bsv_types.specs.declared.modules.Module.{Module}
 use Rattle.bsv_types.specs.declared.modules.Rule.{Rule}
-use Rattle.bsv_design.specs.declared.tree.BuiltRule.{BuiltRule}
-use Rattle.bsv_design.specs.carrying.Working.{no_steps}
-use Rattle.bsv_design.specs.carrying.Carrying as carrying
+use Rattle.bsv_tree.specs.declared.tree.BuiltRule.{BuiltRule}
+use Rattle.bsv_tree.specs.carrying.Working.{no_steps}
+use Rattle.bsv_tree.specs.carrying.Carrying as carrying
 use Rattle.bsv_elab.specs.declared.refused.LimitKind.TheVariants as limit
 use Rattle.bsv_elab.specs.declared.refused.Refused.{Refused}
 use Rattle.bsv_elab.specs.declared.refused.Refused.TheVariants as refused

@@ -17,17 +17,17 @@ use Rattle.bsv_types.specs.declared.modules.Module.{Module}
 use Rattle.bsv_types.specs.Expressions.{expr_type}
 use Rattle.bsv_types.specs.Kinds.{Kind as Sort, part, kind}
 use Rattle.bsv_types.specs.Methods.{made_part}
-use Rattle.bsv_design.specs.declared.statics.Binding.{Binding}
-use Rattle.bsv_design.specs.declared.statics.Static.{Static}
-use Rattle.bsv_design.specs.declared.statics.Static.TheVariants as static
-use Rattle.bsv_design.specs.declared.tree.Instance.{Instance}
-use Rattle.bsv_design.specs.declared.tree.Made.{Made}
-use Rattle.bsv_design.specs.declared.tree.Made.TheVariants as made
-use Rattle.bsv_design.specs.declared.values.Count.{Count}
-use Rattle.bsv_design.specs.carrying.Applied.{width}
-use Rattle.bsv_design.specs.carrying.Frames.{no_variables}
-use Rattle.bsv_design.specs.carrying.Carrying.{module_place}
-use Rattle.bsv_design.specs.scheme.Traces.{with_dot}
+use Rattle.bsv_tree.specs.declared.statics.Binding.{Binding}
+use Rattle.bsv_tree.specs.declared.statics.Static.{Static}
+use Rattle.bsv_tree.specs.declared.statics.Static.TheVariants as static
+use Rattle.bsv_tree.specs.declared.tree.Instance.{Instance}
+use Rattle.bsv_tree.specs.declared.tree.Made.{Made}
+use Rattle.bsv_tree.specs.declared.tree.Made.TheVariants as made
+use Rattle.bsv_tree.specs.declared.values.Count.{Count}
+use Rattle.bsv_tree.specs.tree.Widths.{width}
+use Rattle.bsv_tree.specs.carrying.Frames.{no_variables}
+use Rattle.bsv_tree.specs.carrying.Carrying.{module_place}
+use Rattle.bsv_design.specs.design.Paths.{with_dot}
 use Rattle.bsv_elab.specs.declared.refused.LimitKind.TheVariants as limit
 use Rattle.bsv_elab.specs.declared.refused.Refused.{Refused}
 use Rattle.bsv_elab.specs.declared.refused.Refused.TheVariants as refused

@@ -1,7 +1,7 @@
 -- What is promised of every tree that is built.
 use Rattle.std.specs.Prelude.{◌≡◌, ℕ, List, Ok}
 use Rattle.bsv_types.specs.declared.typed.Typed.{Typed}
-use Rattle.bsv_design.specs.tree.Trees.{TreeData, IsTree}
+use Rattle.bsv_tree.specs.tree.Trees.{TreeData, IsTree}
 use Rattle.bsv_elab.specs.Building.{building}
 
 -- what is built of a typed program is a tree

@@ -7,21 +7,21 @@ use Rattle.bsv_types.specs.declared.expressions.Expr.{Expr}
 use Rattle.bsv_types.specs.declared.modules.Module.{Module}
 use Rattle.bsv_types.specs.Kinds.{Kind as Sort, bool}
 use Rattle.bsv_types.specs.Shapes.{Shapes}
-use Rattle.bsv_design.specs.declared.statics.Binding.{Binding}
-use Rattle.bsv_design.specs.declared.statics.Static.{Static}
-use Rattle.bsv_design.specs.declared.statics.Static.TheVariants as static
-use Rattle.bsv_design.specs.declared.values.Constant.{Constant}
-use Rattle.bsv_design.specs.declared.values.Constant.TheVariants as constant
-use Rattle.bsv_design.specs.declared.values.Count.{Count}
-use Rattle.bsv_design.specs.declared.values.Fault.{Fault}
-use Rattle.bsv_design.specs.declared.values.Fault.TheVariants as fault
-use Rattle.bsv_design.specs.declared.values.Value.{Value}
-use Rattle.bsv_design.specs.declared.values.Value.TheVariants as value
-use Rattle.bsv_design.specs.declared.values.Work.{Work}
-use Rattle.bsv_design.specs.carrying.Working.{tick, no_steps}
-use Rattle.bsv_design.specs.carrying.Frames.{no_variables}
-use Rattle.bsv_design.specs.carrying.Calls.{Context}
-use Rattle.bsv_design.specs.carrying.Carrying.{module_expr}
+use Rattle.bsv_tree.specs.declared.statics.Binding.{Binding}
+use Rattle.bsv_tree.specs.declared.statics.Static.{Static}
+use Rattle.bsv_tree.specs.declared.statics.Static.TheVariants as static
+use Rattle.bsv_tree.specs.declared.values.Constant.{Constant}
+use Rattle.bsv_tree.specs.declared.values.Constant.TheVariants as constant
+use Rattle.bsv_tree.specs.declared.values.Count.{Count}
+use Rattle.bsv_tree.specs.declared.values.Fault.{Fault}
+use Rattle.bsv_tree.specs.declared.values.Fault.TheVariants as fault
+use Rattle.bsv_tree.specs.declared.values.Value.{Value}
+use Rattle.bsv_tree.specs.declared.values.Value.TheVariants as value
+use Rattle.bsv_tree.specs.declared.values.Work.{Work}
+use Rattle.bsv_tree.specs.carrying.Working.{tick, no_steps}
+use Rattle.bsv_tree.specs.carrying.Frames.{no_variables}
+use Rattle.bsv_tree.specs.tree.Contexts.{Context}
+use Rattle.bsv_tree.specs.carrying.Carrying.{module_expr}
 use Rattle.bsv_elab.specs.declared.refused.Refused.{Refused}
 use Rattle.bsv_elab.specs.declared.refused.Refused.TheVariants as refused
 use Rattle.bsv_elab.specs.declared.state.Grown.{Grown}

@@ -5,9 +5,9 @@ use Rattle.bsv_fail.specs.declared.fail.Fail.TheVariants as fail
 use Rattle.bsv_fail.specs.Given.{over}
 use Rattle.bsv_types.specs.declared.modules.Module.{Module}
 use Rattle.bsv_types.specs.declared.typed.Typed.{Typed}
-use Rattle.bsv_design.specs.declared.values.Fault.{Fault}
-use Rattle.bsv_design.specs.declared.values.Fault.TheVariants as fault
-use Rattle.bsv_design.specs.tree.Trees.{TreeData}
+use Rattle.bsv_tree.specs.declared.values.Fault.{Fault}
+use Rattle.bsv_tree.specs.declared.values.Fault.TheVariants as fault
+use Rattle.bsv_tree.specs.tree.Trees.{TreeData}
 use Rattle.bsv_elab.specs.declared.fault.ElabFault.{ElabFault}
 use Rattle.bsv_elab.specs.declared.fault.ElabFault.TheVariants as told
 use Rattle.bsv_elab.specs.declared.refused.LimitKind.TheVariants as limit

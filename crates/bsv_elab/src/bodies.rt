@@ -16,7 +16,7 @@ use crate::state::{Marks, Scope, State};
 use crate::values::{countable, weigh};
 use crate::variables::{assign, bind, binding, cut, held, held_as, variables};
 use bsv_bits::Name;
-use bsv_design::{Binding, Built, Fault, Instance, Made, Static};
+use bsv_tree::{Binding, Built, Fault, Instance, Made, Static};
 use bsv_fail::Fail;
 use bsv_types::{Expr, Head, Make, Maker, Module, ModuleBranch, ModuleStmt, Param, Ty};
 use sqlite_items::{Boxed, Items};

@@ -15,9 +15,10 @@ use crate::state::{Grown, Marks, State};
 use crate::values::{count, countable, set_weight};
 use crate::variables::{binding, held_as, put_at};
 use bsv_bits::{Name, OutOfMemory, Word};
-use bsv_design::{Binding, Built, Count, Instance, Made, Static, path_of};
+use bsv_design::path_of;
+use bsv_tree::{Binding, Built, Count, Instance, Made, Static};
 use bsv_fail::Fail;
-use bsv_steps::no_variables;
+use bsv_tree::no_variables;
 use bsv_types::{Argument, GivenMaker, Param, Place, Ty, counted_width};
 use sqlite_items::Items;
 use std::alloc::{AllocError, Global};
@@ -161,7 +162,7 @@ pub(crate) fn is_around(module: u32, around: &[u32]) -> bool
 
 impl<'a> Builder<'a> {
     /// The width of what an instance of the type holds.
-    #[tactic(auto, unfolding(bsv_design::specs::carrying::Applied::width))]
+    #[tactic(auto, unfolding(bsv_tree::specs::tree::Widths::width))]
     pub(crate) fn width_in(self, ty: &Ty) -> u32
         ensures { result ≡ spec.width_in (at_hand.here self.entry) (kind ty.now) }
     {

@@ -4,7 +4,8 @@ ghost use Rattle.bsv_elab.specs.Names as spec;
 
 use crate::refused::{Building, Refused};
 use bsv_bits::{Name, OutOfMemory};
-use bsv_design::{Fault, path_of};
+use bsv_design::path_of;
+use bsv_tree::Fault;
 use bsv_fail::Fail;
 use indexmap::{IndexMap, IndexSet};
 use itoa::Buffer;

@@ -7,7 +7,7 @@ use crate::refused::{Building, Refused};
 use crate::state::State;
 use crate::variables::{binding, put_at, with_binding};
 use bsv_bits::{Name, OutOfMemory};
-use bsv_design::{Binding, Static};
+use bsv_tree::{Binding, Static};
 use bsv_fail::Fail;
 use sqlite_items::Items;
 use std::alloc::{AllocError, Global};

@@ -2,7 +2,8 @@ ghost use Rattle.std.specs.Prelude.{◌≡◌};
 ghost use Rattle.bsv_elab.specs.AtHand as spec;
 
 use bsv_bits::Name;
-use bsv_design::{Attribute, Fault};
+use bsv_design::Attribute;
+use bsv_tree::Fault;
 use bsv_fail::Fail;
 
 /// What is counted.

@@ -1,5 +1,6 @@
 use crate::names::Names;
-use bsv_design::{Assert, Binding, Built, BuiltRule, Instance, Pair};
+use bsv_design::{Assert, Pair};
+use bsv_tree::{Binding, Built, BuiltRule, Instance};
 use sqlite_items::Items;
 
 /// The tree so far.

@@ -15,8 +15,8 @@ use Rattle.bsv_design.specs.declared.kind.Kind.{Kind}
 use Rattle.bsv_design.specs.declared.node.Node.{Node}
 use Rattle.bsv_design.specs.declared.node.Node.TheVariants as node
 use Rattle.bsv_design.specs.design.Bodies.{Answers, answer, at, node_word, target, values, words, words_after}
-use Rattle.bsv_design.specs.carrying.Computing as computing
-use Rattle.bsv_design.specs.tree.Kinds.{kind_table}
+use Rattle.bsv_design.specs.design.Computing as computing
+use Rattle.bsv_design.specs.parts.Kinds.{kind_table}
 use Rattle.bsv_design.specs.scheme.Schemes.{design_scheme, given, kinds_of, calls_of}
 use Rattle.bsv_design.specs.scheme.Traces.{kind_at}
 use Rattle.bsv_design.specs.design.Widths.{args_fit, gives_word, has_width, method_fits, node_width, result_width, widths_from}

@@ -11,7 +11,7 @@ use Rattle.bsv_lemmas.proofs.Truths.{or_false}
 use Rattle.bsv_bits.specs.Words.{Bits, bit}
 use Rattle.bsv_design.specs.declared.element.Element.{Element}
 use Rattle.bsv_design.specs.design.Bodies.{Answers, Target, at, target, words}
-use Rattle.bsv_design.specs.tree.Roles.{gives_value}
+use Rattle.bsv_design.specs.design.Roles.{gives_value}
 use Rattle.bsv_design.specs.scheme.Schemes.{calls_of, design_scheme, given, kinds_of, outline, ready, seen, value}
 use Rattle.bsv_design.specs.scheme.Traces.{Site, kind_at}
 use Rattle.bsv_design.specs.design.Widths.{has_width, method_fits, result_fits}

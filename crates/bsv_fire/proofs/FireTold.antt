@@ -5,7 +5,7 @@ use Rattle.std.specs.List.{list_any}
 use Rattle.std.proofs.lemmas.Option.{slice_get-map}
 use Rattle.bsv_bits.specs.Words.{bit}
 use Rattle.bsv_design.specs.declared.element.Element.{Element}
-use Rattle.bsv_design.specs.tree.Roles.{is_rule}
+use Rattle.bsv_design.specs.design.Roles.{is_rule}
 use Rattle.bsv_design.specs.scheme.Schemes.{Called, design_scheme, outline, ready, calls}
 use Rattle.bsv_design.specs.scheme.Serial.{by_rank}
 use Rattle.bsv_graph.specs.Orders.{In, IsOnce, place_of}

@@ -15,9 +15,9 @@ use Rattle.bsv_design.specs.declared.schedule.Need.{Need}
 use Rattle.bsv_design.specs.design.Bodies.{at}
 use Rattle.bsv_design.specs.design.Designs.{DesignData, IsDesign}
 use Rattle.bsv_design.specs.design.Guards.{needs_of}
-use Rattle.bsv_design.specs.tree.Kinds.{kind_table}
-use Rattle.bsv_design.specs.tree.Roles.{is_rule}
-use Rattle.bsv_design.specs.carrying.Running.{or_zero}
+use Rattle.bsv_design.specs.parts.Kinds.{kind_table}
+use Rattle.bsv_design.specs.design.Roles.{is_rule}
+use Rattle.bsv_design.specs.design.Words.{or_zero}
 use Rattle.bsv_design.specs.scheme.Schemes.{Scheme, Outline, Asking, given, outline, ports_of, kinds_of, design_scheme}
 use Rattle.bsv_design.specs.scheme.States.{part_at}
 use Rattle.bsv_graph.specs.Edges.{numbers_below}

@@ -6,7 +6,7 @@ use Rattle.bsv_lemmas.proofs.Places.{mapped_at, item_there}
 use Rattle.bsv_design.specs.declared.element.Element.{Element}
 use Rattle.bsv_design.specs.declared.kind.Kind.{Kind}
 use Rattle.bsv_design.specs.design.Bodies.{Answers, Target}
-use Rattle.bsv_design.specs.tree.Kinds.{kind_table}
+use Rattle.bsv_design.specs.parts.Kinds.{kind_table}
 use Rattle.bsv_design.specs.scheme.Schemes.{design_scheme, kinds_of, outline}
 use Rattle.bsv_guard.specs.ElementLaws.{IsUse}
 use Rattle.bsv_net.specs.declared.node.NetNode.{NetNode}

@@ -12,7 +12,7 @@ use Rattle.bsv_prim.specs.Table.{CallFits, word_at}
 use Rattle.bsv_prim.proofs.Seen.{unseen_by_itself}
 use Rattle.bsv_design.specs.declared.kind.Kind.{Kind}
 use Rattle.bsv_design.specs.design.Bodies.{Target}
-use Rattle.bsv_design.specs.tree.Kinds.{kind_table, kind_laws}
+use Rattle.bsv_design.specs.parts.Kinds.{kind_table, kind_laws}
 use Rattle.bsv_design.specs.scheme.Schemes.{Called, design_scheme, guard_of, is_open, result_of}
 use Rattle.bsv_design.specs.scheme.States.{FitsKinds, emptied, part_at}
 use Rattle.bsv_design.specs.scheme.Traces.{kind_at, acts}

@@ -9,7 +9,7 @@ use Rattle.bsv_design.specs.declared.element.Call.{Call}
 use Rattle.bsv_design.specs.declared.element.Element.{Element}
 use Rattle.bsv_design.specs.declared.kind.Kind.{Kind}
 use Rattle.bsv_design.specs.design.Bodies.{Target, target}
-use Rattle.bsv_design.specs.tree.Kinds.{kind_table}
+use Rattle.bsv_design.specs.parts.Kinds.{kind_table}
 use Rattle.bsv_design.specs.scheme.Relations.{feeds, for_some, is_seen, sees_of}
 use Rattle.bsv_design.specs.scheme.Schemes.{calls_of, design_scheme, kinds_of, outline}
 use Rattle.bsv_design.specs.scheme.Traces.{kind_at}

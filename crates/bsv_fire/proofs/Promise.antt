@@ -20,10 +20,10 @@ use Rattle.bsv_design.specs.declared.schedule.Schedule.{Schedule}
 use Rattle.bsv_design.specs.design.Bodies.{Target, target, at}
 use Rattle.bsv_design.specs.design.Designs.{DesignData, IsDesign}
 use Rattle.bsv_design.specs.design.Guards.{needs_of}
-use Rattle.bsv_design.specs.tree.Roles.{gives_value}
+use Rattle.bsv_design.specs.design.Roles.{gives_value}
 use Rattle.bsv_design.specs.scheme.Schemes.{Scheme, Outline, Asking, calls_of, design_scheme, kinds_of, outline}
-use Rattle.bsv_design.specs.tree.Seen.{design_data}
-use Rattle.bsv_design.specs.tree.Kinds.{kind_table}
+use Rattle.bsv_design.specs.scheme.Seen.{design_data}
+use Rattle.bsv_design.specs.parts.Kinds.{kind_table}
 use Rattle.bsv_design.specs.scheme.Traces.{kind_at}
 use Rattle.bsv_design.specs.design.Widths.{args_fit, call_fits, has_width, method_fits, result_fits}
 use Rattle.bsv_graph.specs.Edges.{numbers_below}

@@ -14,8 +14,8 @@ use Rattle.bsv_design.specs.declared.element.Element.{Element}
 use Rattle.bsv_design.specs.declared.kind.Kind.{Kind}
 use Rattle.bsv_design.specs.design.Bodies.{Answers, at, target, words}
 use Rattle.bsv_design.specs.design.Designs.{HasWidths}
-use Rattle.bsv_design.specs.tree.Kinds.{kind_table}
-use Rattle.bsv_design.specs.carrying.Running.{is_one}
+use Rattle.bsv_design.specs.parts.Kinds.{kind_table}
+use Rattle.bsv_design.specs.design.Words.{is_one}
 use Rattle.bsv_design.specs.scheme.Schemes.{answers, design_scheme, given, is_open, kinds_of, outline, ports_of, seen, trace_of, value}
 use Rattle.bsv_design.specs.scheme.States.{AreWordsOf, FitLook}
 use Rattle.bsv_design.specs.scheme.Traces.{Site, Trace, acts, body_trace, demand_at, kind_at, site_at}

@@ -7,7 +7,7 @@ use Rattle.bsv_prim.specs.Signals.{Signals, is_one, word_of}
 use Rattle.bsv_prim.specs.Table.{word_at}
 use Rattle.bsv_design.specs.declared.kind.Kind.{Kind}
 use Rattle.bsv_design.specs.design.Bodies.{Target, Answers}
-use Rattle.bsv_design.specs.tree.Kinds.{kind_table}
+use Rattle.bsv_design.specs.parts.Kinds.{kind_table}
 use Rattle.bsv_design.specs.scheme.Schemes.{design_scheme}
 use Rattle.bsv_design.specs.scheme.Traces.{kind_at}
 use Rattle.bsv_net.specs.declared.wires.MethodPort.{MethodPort}

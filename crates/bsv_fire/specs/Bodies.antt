@@ -7,7 +7,7 @@ use Rattle.bsv_design.specs.declared.kind.Kind.{Kind}
 use Rattle.bsv_design.specs.declared.node.Node.{Node}
 use Rattle.bsv_design.specs.declared.node.Node.TheVariants as node
 use Rattle.bsv_design.specs.declared.schedule.Need.{Need}
-use Rattle.bsv_design.specs.tree.Kinds.{kind_table}
+use Rattle.bsv_design.specs.parts.Kinds.{kind_table}
 use Rattle.bsv_net.specs.declared.node.NetNode.{NetNode}
 use Rattle.bsv_net.specs.declared.node.NetNode.TheVariants as net
 use Rattle.bsv_net.specs.declared.node.Site.{Site}

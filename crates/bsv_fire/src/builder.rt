@@ -1,6 +1,6 @@
 ghost use Rattle.std.specs.Prelude.{◌≡◌, ◌<◌, ◌+◌, IfOk, OnOk, IsTrue, Some};
 ghost use Rattle.std.specs.Prelude.{length, slice_get, slice_set, option_map};
-ghost use Rattle.bsv_design.specs.tree.Kinds.{kind_table};
+ghost use Rattle.bsv_design.specs.parts.Kinds.{kind_table};
 ghost use Rattle.bsv_ports.specs.CallSites.{or_none};
 ghost use Rattle.bsv_fire.specs.FireBuilder as spec;
 ghost use Rattle.bsv_net.specs.Placing as placing;

@@ -6,7 +6,7 @@ ghost use Rattle.bsv_clock.specs.Shows.{cells_of, input_widths_of};
 ghost use Rattle.bsv_clock.specs.Grounds.{IsScheduleOf, KeepsRules};
 ghost use Rattle.bsv_design.specs.design.Guards.{needs_of};
 ghost use Rattle.bsv_design.specs.scheme.Schemes.{design_scheme, kinds_of, outline};
-ghost use Rattle.bsv_design.specs.tree.Seen.{design_data};
+ghost use Rattle.bsv_design.specs.scheme.Seen.{design_data};
 ghost use Rattle.bsv_fire.specs.Firing.{Fires};
 ghost use Rattle.bsv_net.specs.AtHand.{net_data};
 

@@ -3,12 +3,15 @@ use Rattle.std.proofs.Common.{◌≡◌, ℕ, zero, suc, ◌<◌, ◌≤◌, ltb
 use Rattle.std.specs.List.{slice_get}
 use Rattle.std.proofs.lemmas.Bool.{cases_Bool, cases_lt, cases_order, cond-false, false≢true, le-ltb}
 use Rattle.std.proofs.lemmas.Option.{none-some, same_Some}
-use Rattle.bsv_design.specs.declared.source.Source.{Source}
+use Rattle.bsv_tree.specs.declared.source.Source.{Source}
 use Rattle.bsv_design.specs.scheme.Relations.{IsBreach, IsFirstBreach, KeepsTheRule, break_the_rule, no_answers, sites_of}
-use Rattle.bsv_design.specs.scheme.Schemes.{Scheme, tree_scheme, carried_trace, filled, ports_of}
-use Rattle.bsv_design.specs.tree.Sources.{element_at, element_count, source_at}
+use Rattle.bsv_design.specs.scheme.Schemes.{Scheme, filled, ports_of}
+use Rattle.bsv_tree.specs.meaning.Schemes.{tree_scheme}
+use Rattle.bsv_tree.specs.carrying.Sources.{carried_trace}
+use Rattle.bsv_tree.specs.carrying.Sources.{element_at, source_at}
+use Rattle.bsv_tree.specs.tree.Elements.{element_count}
 use Rattle.bsv_design.specs.scheme.Traces.{Site}
-use Rattle.bsv_design.specs.tree.Trees.{TreeData}
+use Rattle.bsv_tree.specs.tree.Trees.{TreeData}
 
 -- ---- the first breach is one
 

@@ -9,13 +9,14 @@ use Rattle.bsv_design.specs.declared.element.Element.{Element}
 use Rattle.bsv_design.specs.declared.kind.Kind.{Kind}
 use Rattle.bsv_design.specs.declared.kind.Kind.TheVariants as kind
 use Rattle.bsv_design.specs.design.Designs.{DesignData}
-use Rattle.bsv_design.specs.tree.Kinds.{kind_table}
-use Rattle.bsv_design.specs.tree.MethodNames.{method_names}
+use Rattle.bsv_design.specs.parts.Kinds.{kind_table}
+use Rattle.bsv_design.specs.parts.MethodNames.{method_names}
 use Rattle.bsv_design.specs.scheme.Relations.{KeepsTheRule}
-use Rattle.bsv_design.specs.scheme.Schemes.{Outline, outline, design_scheme, tree_scheme, AreAlike}
-use Rattle.bsv_design.specs.tree.Seen.{design_data}
-use Rattle.bsv_design.specs.tree.Sources.{parts_among}
-use Rattle.bsv_design.specs.tree.Trees.{TreeData}
+use Rattle.bsv_design.specs.scheme.Schemes.{Outline, outline, design_scheme, AreAlike}
+use Rattle.bsv_tree.specs.meaning.Schemes.{tree_scheme}
+use Rattle.bsv_design.specs.scheme.Seen.{design_data}
+use Rattle.bsv_tree.specs.tree.Elements.{parts_among}
+use Rattle.bsv_tree.specs.tree.Trees.{TreeData}
 use Rattle.bsv_guard.specs.ElementLaws.{ElementLaws}
 use Rattle.bsv_guard.specs.Lifted.{NamesFirst}
 use Rattle.bsv_guard.proofs.Alike as same

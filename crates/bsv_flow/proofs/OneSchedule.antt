@@ -6,13 +6,13 @@ use Rattle.std.proofs.lemmas.Option.{same_Some, none-some}
 use Rattle.bsv_lemmas.proofs.Places.{item_there}
 use Rattle.bsv_lemmas.proofs.Choices.{same_ok, same_err}
 use Rattle.bsv_design.specs.declared.schedule.Schedule.{Schedule}
-use Rattle.bsv_design.specs.declared.tree.Attribute.TheVariants as attribute
-use Rattle.bsv_design.specs.declared.tree.Pair.{Pair}
+use Rattle.bsv_design.specs.declared.attributes.Attribute.TheVariants as attribute
+use Rattle.bsv_design.specs.declared.attributes.Pair.{Pair}
 use Rattle.bsv_design.specs.scheme.Relations.{KeepsTheRule}
-use Rattle.bsv_design.specs.scheme.Schemes.{tree_scheme}
-use Rattle.bsv_design.specs.tree.Sources.{parts_among}
+use Rattle.bsv_tree.specs.meaning.Schemes.{tree_scheme}
+use Rattle.bsv_tree.specs.tree.Elements.{parts_among}
 use Rattle.bsv_design.specs.scheme.Traces.{Site}
-use Rattle.bsv_design.specs.tree.Trees.{TreeData}
+use Rattle.bsv_tree.specs.tree.Trees.{TreeData}
 use Rattle.bsv_schedule.specs.relating.Elements.{relating, edge_of, edges_of, is_urging}
 use Rattle.bsv_schedule.specs.execution_order.Orders.{Executes, ExecutionCycle}
 use Rattle.bsv_schedule.specs.relating.Relating.{feed_edges}

@@ -13,16 +13,17 @@ use Rattle.bsv_design.specs.declared.element.Element.{Element}
 use Rattle.bsv_design.specs.declared.kind.Kind.{Kind}
 use Rattle.bsv_design.specs.declared.schedule.Guards.{Guards}
 use Rattle.bsv_design.specs.declared.schedule.Schedule.{Schedule}
-use Rattle.bsv_design.specs.declared.tree.Pair.{Pair}
+use Rattle.bsv_design.specs.declared.attributes.Pair.{Pair}
 use Rattle.bsv_design.specs.design.Bodies.{words}
 use Rattle.bsv_design.specs.design.Guards.{needs_of}
 use Rattle.bsv_design.specs.scheme.Relations.{KeepsTheRule, sites_of, no_answers, goes, feeds}
-use Rattle.bsv_design.specs.scheme.Schemes.{Scheme, Outline, AreAlike, trace_of, design_scheme, tree_scheme, kinds_of, filled, ports_of}
-use Rattle.bsv_design.specs.tree.Seen.{design_data}
-use Rattle.bsv_design.specs.tree.Sources.{parts_among}
+use Rattle.bsv_design.specs.scheme.Schemes.{Scheme, Outline, AreAlike, trace_of, design_scheme, kinds_of, filled, ports_of}
+use Rattle.bsv_tree.specs.meaning.Schemes.{tree_scheme}
+use Rattle.bsv_design.specs.scheme.Seen.{design_data}
+use Rattle.bsv_tree.specs.tree.Elements.{parts_among}
 use Rattle.bsv_design.specs.scheme.Traces.{Trace, body_trace, site_at, demand_at}
-use Rattle.bsv_design.specs.tree.Trees.{TreeData}
-use Rattle.bsv_design.specs.tree.Roles.{is_rule, is_value}
+use Rattle.bsv_tree.specs.tree.Trees.{TreeData}
+use Rattle.bsv_design.specs.design.Roles.{is_rule, is_value}
 use Rattle.bsv_schedule.specs.relating.Elements.{relating, has_role, edges_of, is_ordering, is_urging, preempts}
 use Rattle.bsv_schedule.specs.execution_order.Orders.{Executes}
 use Rattle.bsv_graph.specs.Orders.{IsOrderOf}

@@ -7,8 +7,8 @@ use Rattle.bsv_check.specs.Checked.{ProgramParts}
 use Rattle.bsv_check.specs.Rightness.{is_in_order}
 use Rattle.bsv_check.specs.Seen.{typed_seen}
 use Rattle.bsv_design.specs.declared.schedule.Schedule.{Schedule}
-use Rattle.bsv_design.specs.tree.Trees.{TreeData}
-use Rattle.bsv_design.specs.declared.values.Fault.TheVariants as carry
+use Rattle.bsv_tree.specs.tree.Trees.{TreeData}
+use Rattle.bsv_tree.specs.declared.values.Fault.TheVariants as carry
 use Rattle.bsv_elab.specs.declared.refused.Refused.{Refused}
 use Rattle.bsv_elab.specs.declared.refused.Refused.TheVariants as met
 use Rattle.bsv_elab.specs.Building as elaboration

@@ -4,10 +4,11 @@ use Rattle.bsv_design.specs.declared.design.Design.{Design}
 use Rattle.bsv_design.specs.declared.design.NamedPart.{NamedPart}
 use Rattle.bsv_design.specs.declared.kind.Kind.{Kind}
 use Rattle.bsv_design.specs.declared.schedule.Schedule.{Schedule}
-use Rattle.bsv_design.specs.scheme.Schemes.{Scheme, Outline, AreAlike, design_scheme, kinds_of, outline, tree_scheme}
-use Rattle.bsv_design.specs.tree.Seen.{design_data}
-use Rattle.bsv_design.specs.tree.Sources.{parts_among}
-use Rattle.bsv_design.specs.tree.Trees.{TreeData}
+use Rattle.bsv_design.specs.scheme.Schemes.{Scheme, Outline, AreAlike, design_scheme, kinds_of, outline}
+use Rattle.bsv_tree.specs.meaning.Schemes.{tree_scheme}
+use Rattle.bsv_design.specs.scheme.Seen.{design_data}
+use Rattle.bsv_tree.specs.tree.Elements.{parts_among}
+use Rattle.bsv_tree.specs.tree.Trees.{TreeData}
 use Rattle.bsv_guard.proofs.Alike.{alike_back}
 use Rattle.bsv_inline.specs.Flattening.{top_name}
 use Rattle.bsv_clock.specs.Shows.{cell, cells_of}

@@ -2,12 +2,13 @@
 use Rattle.std.specs.Prelude.{◌≡◌, ℕ, List, [], slice_get, Option, Some, None}
 use Rattle.bsv_design.specs.declared.design.NamedPart.{NamedPart}
 use Rattle.bsv_design.specs.design.Designs.{DesignData}
-use Rattle.bsv_design.specs.tree.MethodNames.{method_names}
+use Rattle.bsv_design.specs.parts.MethodNames.{method_names}
 use Rattle.bsv_design.specs.scheme.Relations.{IsFirstBreach}
-use Rattle.bsv_design.specs.scheme.Schemes.{Scheme, Outline, design_scheme, tree_scheme}
-use Rattle.bsv_design.specs.tree.Sources.{parts_among}
+use Rattle.bsv_design.specs.scheme.Schemes.{Scheme, Outline, design_scheme}
+use Rattle.bsv_tree.specs.meaning.Schemes.{tree_scheme}
+use Rattle.bsv_tree.specs.tree.Elements.{parts_among}
 use Rattle.bsv_design.specs.scheme.Traces.{Site}
-use Rattle.bsv_design.specs.tree.Trees.{TreeData}
+use Rattle.bsv_tree.specs.tree.Trees.{TreeData}
 use Rattle.bsv_flow.specs.declared.refusal.Refusal.{Refusal}
 use Rattle.bsv_flow.specs.declared.refusal.Refusal.TheVariants as refusal
 

@@ -5,7 +5,7 @@ use Rattle.bsv_fail.specs.Given.{over}
 use Rattle.bsv_types.specs.declared.typed.Typed.{Typed}
 use Rattle.bsv_check.specs.Seen.{typed_seen}
 use Rattle.bsv_design.specs.declared.schedule.Schedule.{Schedule}
-use Rattle.bsv_design.specs.tree.Trees.{TreeData}
+use Rattle.bsv_tree.specs.tree.Trees.{TreeData}
 use Rattle.bsv_elab.specs.declared.fault.ElabFault.{ElabFault}
 use Rattle.bsv_elab.specs.declared.fault.ElabFault.TheVariants as fault
 use Rattle.bsv_elab.specs.declared.refused.LimitKind.{LimitKind}

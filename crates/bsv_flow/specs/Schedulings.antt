@@ -7,14 +7,16 @@ use Rattle.bsv_design.specs.declared.element.Call.{Call}
 use Rattle.bsv_design.specs.declared.element.Condition.{Condition}
 use Rattle.bsv_design.specs.declared.element.Element.{Element}
 use Rattle.bsv_design.specs.declared.schedule.Schedule.{Schedule}
-use Rattle.bsv_design.specs.declared.tree.Pair.{Pair}
+use Rattle.bsv_design.specs.declared.attributes.Pair.{Pair}
 use Rattle.bsv_design.specs.design.Guards.{needs_of}
 use Rattle.bsv_design.specs.scheme.Relations.{KeepsTheRule, sites_of}
-use Rattle.bsv_design.specs.scheme.Schemes.{Scheme, AreAlike, design_scheme, kinds_of, tree_scheme}
-use Rattle.bsv_design.specs.tree.Seen.{design_data}
-use Rattle.bsv_design.specs.tree.Sources.{parts_among}
-use Rattle.bsv_design.specs.scheme.Traces.{Site, Demand, with_dot}
-use Rattle.bsv_design.specs.tree.Trees.{TreeData}
+use Rattle.bsv_design.specs.scheme.Schemes.{Scheme, AreAlike, design_scheme, kinds_of}
+use Rattle.bsv_tree.specs.meaning.Schemes.{tree_scheme}
+use Rattle.bsv_design.specs.scheme.Seen.{design_data}
+use Rattle.bsv_tree.specs.tree.Elements.{parts_among}
+use Rattle.bsv_design.specs.scheme.Traces.{Site, Demand}
+use Rattle.bsv_design.specs.design.Paths.{with_dot}
+use Rattle.bsv_tree.specs.tree.Trees.{TreeData}
 use Rattle.bsv_schedule.specs.relating.Elements.{relating}
 use Rattle.bsv_schedule.specs.execution_order.Orders.{Executes}
 use Rattle.bsv_schedule.specs.relating.Relating.{Relating}

@@ -1,7 +1,7 @@
 ghost use Rattle.std.specs.Prelude.{◌≡◌, ◌⊎◌, ℕ, List, Some, Ok, Err, IfOk, IsTrue};
 ghost use Rattle.bsv_check.specs.Checked.{ProgramParts};
 ghost use Rattle.bsv_check.specs.Rightness.{is_counted};
-ghost use Rattle.bsv_design.specs.tree.Seen.{tree_data};
+ghost use Rattle.bsv_tree.specs.tree.Seen.{tree_data};
 ghost use Rattle.bsv_types.specs.declared.typed.Typed.{Typed as TheTyped};
 ghost use Rattle.bsv_flow.specs.Buildings.{limit_word, refusal_of, tree_of, IsProgram, IsBuilt, Rejects};
 ghost use Rattle.bsv_flow.specs.OneAnswer.{IsSameRefusal};
@@ -13,7 +13,7 @@ ghost use Rattle.bsv_flow.specs.declared.refusal.Refusal.{Refusal as TheRefusal}
 use crate::naming::attribute_word;
 use crate::refusal::{CompileFault, Refusal};
 use bsv_bits::{Name, OutOfMemory};
-use bsv_design::Tree;
+use bsv_tree::Tree;
 use bsv_elab::{ElabFault, LimitKind, build};
 use bsv_types::Typed;
 use std::alloc::Global;

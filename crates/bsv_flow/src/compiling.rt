@@ -1,5 +1,5 @@
 ghost use Rattle.std.specs.Prelude.{◌≡◌, ℕ, ◌<◌, ◌≤◌, List, Some, Err, IfOk};
-ghost use Rattle.bsv_design.specs.tree.Trees.{TreeData};
+ghost use Rattle.bsv_tree.specs.tree.Trees.{TreeData};
 ghost use Rattle.bsv_design.specs.declared.schedule.Schedule.{Schedule};
 ghost use Rattle.bsv_io.specs.Faults.{MayFault};
 ghost use Rattle.bsv_io.specs.Reading.{bytes_given};

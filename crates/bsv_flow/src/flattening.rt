@@ -1,9 +1,11 @@
 ghost use Rattle.std.specs.Prelude.{◌≡◌, ℕ, List, slice_get, Some, Err, IfOk};
 ghost use Rattle.bsv_design.specs.design.Guards.{needs_of, body_ready};
 ghost use Rattle.bsv_design.specs.scheme.Relations.{KeepsTheRule};
-ghost use Rattle.bsv_design.specs.scheme.Schemes.{design_scheme, kinds_of, tree_scheme, AreAlike};
-ghost use Rattle.bsv_design.specs.tree.Seen.{design_data, tree_data};
-ghost use Rattle.bsv_design.specs.tree.Sources.{parts_among};
+ghost use Rattle.bsv_design.specs.scheme.Schemes.{design_scheme, kinds_of, AreAlike};
+ghost use Rattle.bsv_tree.specs.meaning.Schemes.{tree_scheme};
+ghost use Rattle.bsv_design.specs.scheme.Seen.{design_data};
+ghost use Rattle.bsv_tree.specs.tree.Seen.{tree_data};
+ghost use Rattle.bsv_tree.specs.tree.Elements.{parts_among};
 ghost use Rattle.bsv_guard.specs.ElementLaws.{ElementLaws};
 ghost use Rattle.bsv_guard.specs.Lifted.{AreLifted};
 ghost use Rattle.bsv_inline.specs.Flattening.{top_name};
@@ -15,7 +17,8 @@ ghost use Rattle.bsv_flow.specs.declared.refusal.Refusal.{Refusal as TheRefusal}
 use crate::naming::{element_name, method_name, part_path};
 use crate::refusal::{CompileFault, Refusal};
 use bsv_bits::{Name, OutOfMemory};
-use bsv_design::{Design, Guards, Tree};
+use bsv_design::{Design, Guards};
+use bsv_tree::Tree;
 use bsv_guard::{GuardFault, lift};
 use bsv_inline::flatten;
 use std::alloc::Global;

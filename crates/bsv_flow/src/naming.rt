@@ -1,6 +1,6 @@
 ghost use Rattle.std.specs.Prelude.{◌≡◌};
 ghost use Rattle.bsv_design.specs.scheme.Schemes.{design_scheme};
-ghost use Rattle.bsv_design.specs.tree.Seen.{design_data};
+ghost use Rattle.bsv_design.specs.scheme.Seen.{design_data};
 ghost use Rattle.bsv_flow.specs.Attributes.{attribute_word};
 ghost use Rattle.bsv_flow.specs.Breaches as breaches;
 

@@ -11,8 +11,8 @@ use Rattle.bsv_design.specs.declared.kind.Kind.{Kind}
 use Rattle.bsv_design.specs.declared.node.Node.{Node}
 use Rattle.bsv_design.specs.declared.node.Node.TheVariants as node
 use Rattle.bsv_design.specs.design.Bodies.{target, Answers, at, answer, node_word, values, words_after}
-use Rattle.bsv_design.specs.tree.Kinds.{kind_table}
-use Rattle.bsv_design.specs.carrying.Running.{or_zero}
+use Rattle.bsv_design.specs.parts.Kinds.{kind_table}
+use Rattle.bsv_design.specs.design.Words.{or_zero}
 use Rattle.bsv_design.specs.scheme.States.{AreWordsOf}
 use Rattle.bsv_design.specs.design.Widths.{has_width, args_fit, method_fits, gives_word, result_width, node_width, widths_from, two_width, pick_width, slice_width, join_width, extend_width}
 use Rattle.bsv_guard.specs.Fitting.{HaveWidths, IsFitCall, IsFitAnswer, AnswersFit}

@@ -13,8 +13,8 @@ use Rattle.bsv_design.specs.declared.element.Port.{Port}
 use Rattle.bsv_design.specs.declared.kind.Kind.{Kind}
 use Rattle.bsv_design.specs.design.Bodies.{Target, target, Answers, at, words}
 use Rattle.bsv_design.specs.design.Designs.{DesignData, IsElement, IsDesign}
-use Rattle.bsv_design.specs.tree.Kinds.{kind_table}
-use Rattle.bsv_design.specs.tree.Roles.{is_rule, gives_value}
+use Rattle.bsv_design.specs.parts.Kinds.{kind_table}
+use Rattle.bsv_design.specs.design.Roles.{is_rule, gives_value}
 use Rattle.bsv_design.specs.scheme.Schemes.{Asking, outline, ports_of, filled, if_asked, given, answers, Look, calls_of, trace_of, kinds_of, design_scheme}
 use Rattle.bsv_design.specs.scheme.States.{FitLook, AreWordsOf, FitMethods, AskingFits, methods_in}
 use Rattle.bsv_design.specs.scheme.Traces.{Site, kind_at, site_at, body_trace}

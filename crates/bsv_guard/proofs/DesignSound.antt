@@ -13,7 +13,7 @@ use Rattle.bsv_design.specs.declared.kind.Kind.{Kind}
 use Rattle.bsv_design.specs.design.Bodies.{target, Answers, at, words}
 use Rattle.bsv_design.specs.design.Branches.{AreExclusive, AgreeOnTaken, AreSameWhereTaken}
 use Rattle.bsv_design.specs.design.Designs.{DesignData, IsElement, IsDesign}
-use Rattle.bsv_design.specs.tree.Kinds.{kind_table}
+use Rattle.bsv_design.specs.parts.Kinds.{kind_table}
 use Rattle.bsv_design.specs.scheme.Schemes.{Outline, AreArgumentsOf, outline, ports_of, calls_of, trace_of, kinds_of, design_scheme}
 use Rattle.bsv_design.specs.scheme.Traces.{Site, Demand, acts, kind_at, site_at, demand_at, body_trace}
 use Rattle.bsv_design.specs.design.Widths.{acts_not}

@@ -8,7 +8,7 @@ use Rattle.bsv_prim.specs.Laws.{Laws}
 use Rattle.bsv_prim.specs.declared.part.Part.{Part}
 use Rattle.bsv_design.specs.declared.kind.Kind.{Kind}
 use Rattle.bsv_design.specs.design.Bodies.{Target}
-use Rattle.bsv_design.specs.tree.Kinds.{kind_table, kind_laws}
+use Rattle.bsv_design.specs.parts.Kinds.{kind_table, kind_laws}
 use Rattle.bsv_design.specs.scheme.Schemes.{Scheme, Asking, Look, Called, is_open, guard_of, result_of, no_result, answers, given, seen, ready, calls, value, taken_actions}
 use Rattle.bsv_design.specs.scheme.States.{FitLook}
 use Rattle.bsv_design.specs.scheme.Traces.{Site, kind_at}

@@ -10,7 +10,7 @@ use Rattle.bsv_prim.specs.declared.primitive.Rel.TheVariants.{Cf, Sb, Sa, Sbr, C
 use Rattle.bsv_design.specs.declared.element.Role.TheVariants as role
 use Rattle.bsv_design.specs.declared.kind.Kind.{Kind}
 use Rattle.bsv_design.specs.design.Branches.{apart}
-use Rattle.bsv_design.specs.tree.Kinds.{kind_table, kind_laws}
+use Rattle.bsv_design.specs.parts.Kinds.{kind_table, kind_laws}
 use Rattle.bsv_design.specs.scheme.Relations.{may_stand, break_the_rule, no_answers, KeepsTheRule}
 use Rattle.bsv_design.specs.scheme.Schemes.{Scheme, Outline, Asking, Look, Called, ports_of, filled, is_open, answers, given, seen, required, all_open, all_hold, ready, calls, taken_actions}
 use Rattle.bsv_design.specs.scheme.Traces.{Site, Trace, acts, kind_at}

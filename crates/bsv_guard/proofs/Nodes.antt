@@ -12,9 +12,9 @@ use Rattle.bsv_design.specs.declared.kind.Kind.{Kind}
 use Rattle.bsv_design.specs.declared.node.Node.{Node}
 use Rattle.bsv_design.specs.declared.node.Node.TheVariants as node
 use Rattle.bsv_design.specs.design.Bodies.{target, Answers, at, answer, node_word, of_parts, values, words_after}
-use Rattle.bsv_design.specs.tree.Kinds.{kind_table}
+use Rattle.bsv_design.specs.parts.Kinds.{kind_table}
 use Rattle.bsv_design.proofs.Bodies.{words_grown}
-use Rattle.bsv_design.specs.carrying.Running.{or_zero}
+use Rattle.bsv_design.specs.design.Words.{or_zero}
 use Rattle.bsv_design.specs.scheme.Traces.{acts, kind_at}
 use Rattle.bsv_design.specs.design.Widths.{has_width, if_width, args_fit, method_fits, gives_word, result_width, if_some, node_width, widths_from}
 

@@ -7,7 +7,7 @@ use Rattle.bsv_prim.specs.Elements.{IsByRank}
 use Rattle.bsv_prim.specs.Table.{in_one_element}
 use Rattle.bsv_design.specs.declared.kind.Kind.{Kind}
 use Rattle.bsv_design.specs.design.Bodies.{Target}
-use Rattle.bsv_design.specs.tree.Kinds.{kind_table, kind_laws}
+use Rattle.bsv_design.specs.parts.Kinds.{kind_table, kind_laws}
 use Rattle.bsv_design.specs.scheme.Relations.{may_precede, may_precede_of, may_stand}
 use Rattle.bsv_design.specs.scheme.Schemes.{Called}
 use Rattle.bsv_design.specs.scheme.Serial.{rank, rank_of, put_by_rank, by_rank}

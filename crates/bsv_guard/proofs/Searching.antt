@@ -8,7 +8,7 @@ use Rattle.bsv_lemmas.proofs.Truths.{both_right, both_left}
 use Rattle.bsv_design.specs.declared.element.Call.{Call}
 use Rattle.bsv_design.specs.declared.kind.Kind.{Kind}
 use Rattle.bsv_design.specs.design.Branches.{apart}
-use Rattle.bsv_design.specs.tree.Kinds.{kind_table}
+use Rattle.bsv_design.specs.parts.Kinds.{kind_table}
 use Rattle.bsv_design.specs.scheme.Relations.{may_stand}
 use Rattle.bsv_design.specs.design.Widths.{has_method, call_named}
 use Rattle.bsv_guard.specs.Groups.{AreGrouped, StandsIn, group_of}

@@ -14,7 +14,7 @@ use Rattle.bsv_prim.specs.Elements.{IsByRank, AreByRank}
 use Rattle.bsv_prim.specs.Table.{Table, Call, CallFits}
 use Rattle.bsv_prim.specs.declared.part.Part.{Part}
 use Rattle.bsv_design.specs.declared.kind.Kind.{Kind}
-use Rattle.bsv_design.specs.tree.Kinds.{kind_table, kind_laws}
+use Rattle.bsv_design.specs.parts.Kinds.{kind_table, kind_laws}
 use Rattle.bsv_design.specs.scheme.Schemes.{Scheme, Asking, Called, guard_of, calls}
 use Rattle.bsv_design.specs.scheme.Serial.{calls_made, run_whole}
 use Rattle.bsv_design.specs.scheme.States.{FitsKinds, FitLook, part_at, plain, applied, after_call, after_calls}

@@ -20,7 +20,7 @@ use Rattle.bsv_design.specs.design.Designs.{DesignData, IsDesign}
 use Rattle.bsv_design.specs.design.Guards.{needs_of, needs_from, body_ready}
 use Rattle.bsv_design.specs.scheme.Relations.{IsBreach, KeepsTheRule, break_the_rule, sites_of, no_answers}
 use Rattle.bsv_design.specs.scheme.Schemes.{Look, Asking, design_scheme, kinds_of, trace_of, ports_of, filled, answers, given, seen, ready}
-use Rattle.bsv_design.specs.tree.Seen.{design_data}
+use Rattle.bsv_design.specs.scheme.Seen.{design_data}
 use Rattle.bsv_design.specs.scheme.Traces.{Site, site_at, body_trace}
 use Rattle.bsv_design.specs.design.Widths.{call_named}
 use Rattle.bsv_design.proofs.Named.{calls_named}

@@ -11,7 +11,7 @@ use Rattle.bsv_bits.specs.declared.operator.Operator.{Operator}
 use Rattle.bsv_bits.specs.declared.operator.Operator.TheVariants as operator
 use Rattle.bsv_bits.proofs.Modulo.{below_more_bits, joined_below}
 use Rattle.bsv_prim.specs.Table.{IsWordOf}
-use Rattle.bsv_design.specs.carrying.Computing as computing
+use Rattle.bsv_design.specs.design.Computing as computing
 use Rattle.bsv_design.specs.design.Widths.{if_width, word_width, two_width, slice_width, join_width, extend_width}
 use Rattle.bsv_guard.proofs.Nodes.{where_width}
 

@@ -7,7 +7,7 @@ use Rattle.bsv_prim.specs.declared.part.Part.{Part}
 use Rattle.bsv_design.specs.declared.element.Role.TheVariants as role
 use Rattle.bsv_design.specs.declared.kind.Kind.{Kind}
 use Rattle.bsv_design.specs.design.Bodies.{Target}
-use Rattle.bsv_design.specs.tree.Kinds.{kind_table}
+use Rattle.bsv_design.specs.parts.Kinds.{kind_table}
 use Rattle.bsv_design.specs.scheme.Relations.{goes, feeds, may_precede, may_stand, KeepsTheRule, IsFirstBreach}
 use Rattle.bsv_design.specs.scheme.Schemes.{Scheme, Outline, Asking, Look, Called, AreAlike, is_open, result_of, given, seen, ready, calls, value}
 use Rattle.bsv_design.specs.scheme.Serial.{rank, by_rank, run_whole, Serial}

@@ -7,7 +7,7 @@ use Rattle.bsv_design.specs.declared.element.Element.{Element}
 use Rattle.bsv_design.specs.declared.kind.Kind.{Kind}
 use Rattle.bsv_design.specs.design.Bodies.{Target, Answers, words}
 use Rattle.bsv_design.specs.design.Designs.{DesignData}
-use Rattle.bsv_design.specs.tree.Kinds.{kind_table}
+use Rattle.bsv_design.specs.parts.Kinds.{kind_table}
 use Rattle.bsv_design.specs.scheme.Schemes.{Scheme, Asking, Look, Called, ports_of, is_open, result_of, answers, given, ready, calls, value, kinds_of, design_scheme}
 use Rattle.bsv_design.specs.scheme.States.{FitLook, AreWordsOf, AskingFits}
 use Rattle.bsv_design.specs.scheme.Traces.{Site, acts, kind_at}

@@ -5,7 +5,7 @@ use Rattle.bsv_prim.specs.Calls as prim
 use Rattle.bsv_prim.specs.Table.{Call}
 use Rattle.bsv_prim.specs.declared.part.Part.{Part}
 use Rattle.bsv_design.specs.declared.kind.Kind.{Kind}
-use Rattle.bsv_design.specs.tree.Kinds.{kind_table}
+use Rattle.bsv_design.specs.parts.Kinds.{kind_table}
 use Rattle.bsv_design.specs.scheme.Relations.{KeepsTheRule}
 use Rattle.bsv_design.specs.scheme.Schemes.{Scheme, Asking, Called, ready}
 use Rattle.bsv_design.specs.scheme.Serial.{calls_made, run_whole}

@@ -4,7 +4,7 @@ ghost use Rattle.std.specs.List.{list_all};
 ghost use Rattle.bsv_design.specs.design.Guards as guards;
 ghost use Rattle.bsv_design.specs.scheme.Relations.{KeepsTheRule};
 ghost use Rattle.bsv_design.specs.scheme.Schemes.{design_scheme, kinds_of};
-ghost use Rattle.bsv_design.specs.tree.Seen.{design_data};
+ghost use Rattle.bsv_design.specs.scheme.Seen.{design_data};
 ghost use Rattle.bsv_design.specs.design.Widths.{call_named};
 ghost use Rattle.bsv_guard.specs.Lifted.{AreLifted, IsRefused, IsElementLifted};
 

@@ -1,7 +1,7 @@
 ghost use Rattle.std.specs.Prelude.{◌≡◌, ◌<◌, IsTrue, Some, slice_get};
 ghost use Rattle.bsv_prim.specs.Table as table;
 ghost use Rattle.bsv_design.specs.design.Branches as arms;
-ghost use Rattle.bsv_design.specs.tree.Kinds.{kind_table};
+ghost use Rattle.bsv_design.specs.parts.Kinds.{kind_table};
 ghost use Rattle.bsv_design.specs.scheme.Relations as relations;
 ghost use Rattle.bsv_design.specs.design.Widths.{call_named};
 ghost use Rattle.bsv_guard.specs.Pairs.{breaks};

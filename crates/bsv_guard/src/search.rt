@@ -1,7 +1,7 @@
 ghost use Rattle.std.specs.Prelude.{◌≡◌, ◌<◌, ◌^◌, ◌==◌, ◌&&◌, ◌||◌};
 ghost use Rattle.std.specs.Prelude.{false, Some, map, IsTrue, IfOk, MatchOption, length, slice_get};
 ghost use Rattle.std.specs.List.{list_all};
-ghost use Rattle.bsv_design.specs.tree.Kinds.{kind_table};
+ghost use Rattle.bsv_design.specs.parts.Kinds.{kind_table};
 ghost use Rattle.bsv_design.specs.scheme.Relations as relations;
 ghost use Rattle.bsv_design.specs.design.Widths.{call_named};
 ghost use Rattle.bsv_guard.specs.Groups.{AreGrouped};

@@ -10,10 +10,13 @@ use Rattle.bsv_design.specs.declared.design.NamedPart.{NamedPart}
 use Rattle.bsv_design.specs.design.Bodies.{Answers}
 use Rattle.bsv_design.specs.design.Designs.{DesignData}
 use Rattle.bsv_design.specs.scheme.Relations.{no_answers}
-use Rattle.bsv_design.specs.scheme.Schemes.{Outline, outline, outline_of, outline_at, outlines_below, calls_of, uses_of, trace_of, carried_trace, kinds_of, ports_of, filled, design_scheme, tree_scheme, AreAlike}
-use Rattle.bsv_design.specs.tree.Sources.{source_at, element_at, element_count, parts_among}
+use Rattle.bsv_design.specs.scheme.Schemes.{Outline, outline, calls_of, trace_of, kinds_of, ports_of, filled, design_scheme, AreAlike}
+use Rattle.bsv_tree.specs.carrying.Sources.{outline_of, outline_at, outlines_below, uses_of, carried_trace}
+use Rattle.bsv_tree.specs.meaning.Schemes.{tree_scheme}
+use Rattle.bsv_tree.specs.carrying.Sources.{source_at, element_at}
+use Rattle.bsv_tree.specs.tree.Elements.{element_count, parts_among}
 use Rattle.bsv_design.specs.scheme.Traces.{Site, Trace, body_trace}
-use Rattle.bsv_design.specs.tree.Trees.{TreeData}
+use Rattle.bsv_tree.specs.tree.Trees.{TreeData}
 use Rattle.bsv_inline.specs.Flattening.{kinds, IsFlat, AreFlat}
 use Rattle.bsv_inline.proofs.Flattened.{flat_at, targets_of}
 use Rattle.bsv_inline.proofs.StepUses.{targets_are_uses}

@@ -9,17 +9,20 @@ use Rattle.bsv_types.specs.Names.{countable}
 use Rattle.bsv_design.specs.declared.design.Design.{Design}
 use Rattle.bsv_design.specs.declared.design.NamedPart.{NamedPart}
 use Rattle.bsv_design.specs.declared.element.Element.{Element}
-use Rattle.bsv_design.specs.declared.source.Source.{Source}
-use Rattle.bsv_design.specs.declared.tree.Assert.{Assert}
-use Rattle.bsv_design.specs.declared.tree.Instance.{Instance}
-use Rattle.bsv_design.specs.declared.tree.Pair.{Pair}
-use Rattle.bsv_design.specs.declared.whole.Tree.{Tree}
+use Rattle.bsv_tree.specs.declared.source.Source.{Source}
+use Rattle.bsv_design.specs.declared.attributes.Assert.{Assert}
+use Rattle.bsv_tree.specs.declared.tree.Instance.{Instance}
+use Rattle.bsv_design.specs.declared.attributes.Pair.{Pair}
+use Rattle.bsv_tree.specs.declared.whole.Tree.{Tree}
 use Rattle.bsv_design.specs.design.Designs.{DesignData, IsElement, IsDesign}
-use Rattle.bsv_design.specs.scheme.Schemes.{design_scheme, tree_scheme, AreAlike}
-use Rattle.bsv_design.specs.tree.Seen.{design_data, tree_data}
-use Rattle.bsv_design.specs.tree.Sources.{source_at, element_at, element_count, parts_among}
+use Rattle.bsv_design.specs.scheme.Schemes.{design_scheme, AreAlike}
+use Rattle.bsv_tree.specs.meaning.Schemes.{tree_scheme}
+use Rattle.bsv_design.specs.scheme.Seen.{design_data}
+use Rattle.bsv_tree.specs.tree.Seen.{tree_data}
+use Rattle.bsv_tree.specs.carrying.Sources.{source_at, element_at}
+use Rattle.bsv_tree.specs.tree.Elements.{element_count, parts_among}
 use Rattle.bsv_design.specs.scheme.Traces.{body_trace}
-use Rattle.bsv_design.specs.tree.Trees.{TreeData, IsTree}
+use Rattle.bsv_tree.specs.tree.Trees.{TreeData, IsTree}
 use Rattle.bsv_body.specs.declared.body.Body.{Body}
 use Rattle.bsv_body.specs.Bodies.{IsBody}
 use Rattle.bsv_inline.specs.Flattening.{kinds, IsFlat, AreFlat, IsFlatElement, AreFlatElements, KeepsWidths, top_name}

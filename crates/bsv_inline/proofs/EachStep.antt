@@ -1,15 +1,15 @@
 -- What holds of all steps, if each construct keeps it.
 use Rattle.std.proofs.Common.{◌≡◌, ◌+◌, Bool, true, false, List, [], ◌∷◌, ◌++◌, map, Option, sym, subst}
 use Rattle.std.specs.Prelude.{if◌then◌else◌}
-use Rattle.bsv_design.specs.declared.steps.Arm.{Arm, roll-Arm, map-Arm, fold-Arm, fold-roll-Arm}
-use Rattle.bsv_design.specs.declared.steps.Atom.{Atom}
-use Rattle.bsv_design.specs.declared.steps.Choice.{Choice, roll-Choice, map-Choice, fold-Choice, fold-roll-Choice}
-use Rattle.bsv_design.specs.declared.steps.Compute.{Compute}
-use Rattle.bsv_design.specs.declared.steps.MethodPlace.{MethodPlace}
-use Rattle.bsv_design.specs.declared.steps.Step.{Step, fold-roll-Step, ind-Step, roll-Step, map-Step}
-use Rattle.bsv_design.specs.declared.steps.Step.TheOpen.{Step-F, Choice-F, Arm-F}
-use Rattle.bsv_design.specs.carrying.Running.{Run, Alternative, run, step_run, choice_run, arm_run, nested_run, arms_run}
-use Rattle.bsv_design.specs.carrying.Uses.{Methods, all_methods, step_methods, step_uses, choice_uses, arm_uses}
+use Rattle.bsv_tree.specs.declared.steps.Arm.{Arm, roll-Arm, map-Arm, fold-Arm, fold-roll-Arm}
+use Rattle.bsv_tree.specs.declared.steps.Atom.{Atom}
+use Rattle.bsv_tree.specs.declared.steps.Choice.{Choice, roll-Choice, map-Choice, fold-Choice, fold-roll-Choice}
+use Rattle.bsv_tree.specs.declared.steps.Compute.{Compute}
+use Rattle.bsv_tree.specs.declared.steps.MethodPlace.{MethodPlace}
+use Rattle.bsv_tree.specs.declared.steps.Step.{Step, fold-roll-Step, ind-Step, roll-Step, map-Step}
+use Rattle.bsv_tree.specs.declared.steps.Step.TheOpen.{Step-F, Choice-F, Arm-F}
+use Rattle.bsv_tree.specs.carrying.Running.{Run, Alternative, run, step_run, choice_run, arm_run, nested_run, arms_run}
+use Rattle.bsv_tree.specs.carrying.Uses.{Methods, all_methods, step_methods, step_uses, choice_uses, arm_uses}
 
 abbrev run_arm : Arm → Alternative
 run_arm = fold-Arm Run Alternative Run step_run arm_run choice_run

@@ -6,8 +6,9 @@ use Rattle.bsv_design.specs.declared.element.Element.{Element}
 use Rattle.bsv_design.specs.declared.kind.Kind.{Kind}
 use Rattle.bsv_design.specs.design.Bodies.{Answers, target, words}
 use Rattle.bsv_design.specs.design.Branches.{AreExclusive, AgreeOnTaken, AreSameWhereTaken}
-use Rattle.bsv_design.specs.scheme.Traces.{Site, Trace, body_trace, step_trace}
-use Rattle.bsv_design.specs.tree.Trees.{TreeData}
+use Rattle.bsv_design.specs.scheme.Traces.{Site, Trace, body_trace}
+use Rattle.bsv_tree.specs.carrying.Sources.{step_trace}
+use Rattle.bsv_tree.specs.tree.Trees.{TreeData}
 use Rattle.bsv_inline.specs.Flattening.{kinds, IsFlat, AreFlat}
 use Rattle.bsv_inline.proofs.StepsExclusive.{are_exclusive}
 use Rattle.bsv_inline.proofs.StepsDecided.{taken_decide}

@@ -6,12 +6,13 @@ use Rattle.bsv_types.specs.Names.{lower_names}
 use Rattle.bsv_design.specs.declared.design.NamedPart.{NamedPart}
 use Rattle.bsv_design.specs.declared.element.Element.{Element}
 use Rattle.bsv_design.specs.declared.element.Role.TheVariants as role
-use Rattle.bsv_design.specs.declared.source.Source.{Source}
-use Rattle.bsv_design.specs.declared.tree.Assert.{Assert}
-use Rattle.bsv_design.specs.declared.tree.Pair.{Pair}
+use Rattle.bsv_tree.specs.declared.source.Source.{Source}
+use Rattle.bsv_design.specs.declared.attributes.Assert.{Assert}
+use Rattle.bsv_design.specs.declared.attributes.Pair.{Pair}
 use Rattle.bsv_design.specs.design.Designs.{IsDotted, IsNamed, IsRuleIn}
-use Rattle.bsv_design.specs.tree.Sources.{element_count, source_at, parts_among}
-use Rattle.bsv_design.specs.tree.Trees.{TreeData}
+use Rattle.bsv_tree.specs.tree.Elements.{element_count, parts_among}
+use Rattle.bsv_tree.specs.carrying.Sources.{source_at}
+use Rattle.bsv_tree.specs.tree.Trees.{TreeData}
 
 -- the elements have the names, roles and arguments of what was carried out, each in its position
 pub record AreOutlined (h : TreeData) (es : List Element) : Type 0 where

@@ -4,8 +4,8 @@ use Rattle.bsv_types.specs.declared.modules.Module.{Module}
 use Rattle.bsv_types.specs.Names.{countable}
 use Rattle.bsv_design.specs.declared.element.Element.{Element}
 use Rattle.bsv_design.specs.design.Designs.{DesignData, IsElement, IsDesign}
-use Rattle.bsv_design.specs.tree.Sources.{parts_among}
-use Rattle.bsv_design.specs.tree.Trees.{TreeData}
+use Rattle.bsv_tree.specs.tree.Elements.{parts_among}
+use Rattle.bsv_tree.specs.tree.Trees.{TreeData}
 use Rattle.bsv_inline.proofs.Outlined.{KeepsNames}
 
 -- the design of these elements

@@ -7,19 +7,20 @@ use Rattle.bsv_types.specs.declared.modules.Method.{Method}
 use Rattle.bsv_types.specs.declared.modules.Rule.{Rule}
 use Rattle.bsv_design.specs.declared.element.Element.{Element}
 use Rattle.bsv_design.specs.declared.element.Role.TheVariants as role
-use Rattle.bsv_design.specs.declared.source.Source.{Source}
-use Rattle.bsv_design.specs.declared.tree.Built.{Built}
-use Rattle.bsv_design.specs.declared.tree.BuiltRule.{BuiltRule}
-use Rattle.bsv_design.specs.declared.tree.Instance.{Instance}
-use Rattle.bsv_design.specs.declared.tree.Made.{Made}
-use Rattle.bsv_design.specs.declared.tree.Made.TheVariants as made
-use Rattle.bsv_design.specs.declared.values.Fault.{Fault}
-use Rattle.bsv_design.specs.declared.values.Work.{Work}
-use Rattle.bsv_design.specs.carrying.Calls.{made_of}
-use Rattle.bsv_design.specs.tree.Sources.{role_of, port_of, method_done, method_source, Standing, rule_among, rule_here, or_else, rule_at, rule_done, rule_text, rule_carried, rule_source, top_methods, top_source, source_at}
-use Rattle.bsv_design.specs.scheme.Traces.{with_dot}
-use Rattle.bsv_design.specs.tree.Trees.{TreeData, IsTree, shapes}
-use Rattle.bsv_design.specs.carrying.Working.{Valued}
+use Rattle.bsv_tree.specs.declared.source.Source.{Source}
+use Rattle.bsv_tree.specs.declared.tree.Built.{Built}
+use Rattle.bsv_tree.specs.declared.tree.BuiltRule.{BuiltRule}
+use Rattle.bsv_tree.specs.declared.tree.Instance.{Instance}
+use Rattle.bsv_tree.specs.declared.tree.Made.{Made}
+use Rattle.bsv_tree.specs.declared.tree.Made.TheVariants as made
+use Rattle.bsv_tree.specs.declared.values.Fault.{Fault}
+use Rattle.bsv_tree.specs.declared.values.Work.{Work}
+use Rattle.bsv_tree.specs.tree.Contexts.{made_of}
+use Rattle.bsv_tree.specs.tree.Elements.{role_of, port_of, PlacedRule, rule_among, rule_here, or_else, rule_at, rule_in, top_methods}
+use Rattle.bsv_tree.specs.carrying.Sources.{method_done, method_source, rule_done, rule_carried, rule_source, top_source, source_at}
+use Rattle.bsv_design.specs.design.Paths.{with_dot}
+use Rattle.bsv_tree.specs.tree.Trees.{TreeData, IsTree, shapes}
+use Rattle.bsv_tree.specs.carrying.Working.{Valued}
 use Rattle.bsv_inline.proofs.Outlined.{AreOutlined}
 
 -- an element as it was carried out
@@ -39,7 +40,7 @@ pub record IsMethod (h : TreeData) (b : Built) (n : ℕ) (e : Element) : Type 0 
   pub ports : e.arguments ≡ map (port_of (shapes h.typed)) text.params
 
 -- a rule of an instance
-pub record StandsAt (is : List Instance) (n : ℕ) (r : Standing) : Type 0 where
+pub record StandsAt (is : List Instance) (n : ℕ) (r : PlacedRule) : Type 0 where
   pub number : ℕ
   pub instance : Instance
   pub at : slice_get is number ≡ Some instance
@@ -50,7 +51,7 @@ pub record StandsAt (is : List Instance) (n : ℕ) (r : Standing) : Type 0 where
   pub position : r.rule.position ≡ n
 
 pub record IsRuleOf (is : List Instance) (n : ℕ) (e : Element) : Type 0 where
-  pub standing : Standing
+  pub standing : PlacedRule
   pub at : StandsAt is n standing
   pub name : e.name ≡ with_dot standing.path standing.rule.name
   pub part : e.role ≡ role.Rule
@@ -85,29 +86,29 @@ method_there h b n (Some levels) (Some m) e s shows has at done = method_is h b 
 
 -- ---- rules
 
-record Among (path : List ℕ) (b : Built) (rs : List BuiltRule) (n : ℕ) (r : Standing) : Type 0 where
+record Among (path : List ℕ) (b : Built) (rs : List BuiltRule) (n : ℕ) (r : PlacedRule) : Type 0 where
   path_is : r.path ≡ path
   built_is : r.built ≡ b
   place : ℕ
   has : slice_get rs place ≡ Some r.rule
   position : r.rule.position ≡ n
 
-among_more : (path : List ℕ) (b : Built) (x : BuiltRule) (xs : List BuiltRule) (n : ℕ) (r : Standing) → Among path b xs n r → Among path b (x ∷ xs) n r
+among_more : (path : List ℕ) (b : Built) (x : BuiltRule) (xs : List BuiltRule) (n : ℕ) (r : PlacedRule) → Among path b xs n r → Among path b (x ∷ xs) n r
 among_more path b x xs n r a = record { path_is = a.path_is; built_is = a.built_is; place = suc a.place; has = a.has; position = a.position }
 
-among_first : (path : List ℕ) (b : Built) (x : BuiltRule) (xs : List BuiltRule) (n : ℕ) (r : Standing) → (x.position == n) ≡ true
+among_first : (path : List ℕ) (b : Built) (x : BuiltRule) (xs : List BuiltRule) (n : ℕ) (r : PlacedRule) → (x.position == n) ≡ true
     → Some (record { path = path; built = b; rule = x }) ≡ Some r → Among path b (x ∷ xs) n r
 among_first path b x xs n r same e =
     let is = same_Some _ r e in
     record {
-      path_is = sym (ap (λ (z : Standing). z.path) is);
-      built_is = sym (ap (λ (z : Standing). z.built) is);
+      path_is = sym (ap (λ (z : PlacedRule). z.path) is);
+      built_is = sym (ap (λ (z : PlacedRule). z.built) is);
       place = 0;
-      has = ap (λ (z : Standing). Some z.rule) is;
-      position = sym (ap (λ (z : Standing). z.rule.position) is) ∙ eqb-true x.position n same;
+      has = ap (λ (z : PlacedRule). Some z.rule) is;
+      position = sym (ap (λ (z : PlacedRule). z.rule.position) is) ∙ eqb-true x.position n same;
     }
 
-among : (path : List ℕ) (b : Built) (n : ℕ) (rs : List BuiltRule) (r : Standing) → rule_among path b n rs ≡ Some r → Among path b rs n r
+among : (path : List ℕ) (b : Built) (n : ℕ) (rs : List BuiltRule) (r : PlacedRule) → rule_among path b n rs ≡ Some r → Among path b rs n r
 among path b n [] r e = absurd cc
 among path b n (x ∷ xs) r e = by (x.position == n) refl (among path b n xs r) e where
   by : (c : Bool) → (x.position == n) ≡ c → (rule_among path b n xs ≡ Some r → Among path b xs n r)
@@ -115,7 +116,7 @@ among path b n (x ∷ xs) r e = by (x.position == n) refl (among path b n xs r) 
   by true same more f = among_first path b x xs n r same f
   by false other more f = among_more path b x xs n r (more f)
 
-stands_first : (i : Instance) (is : List Instance) (n : ℕ) (r : Standing) (x : Made) → i.made ≡ x → rule_here n i.path x ≡ Some r → StandsAt (i ∷ is) n r
+stands_first : (i : Instance) (is : List Instance) (n : ℕ) (r : PlacedRule) (x : Made) → i.made ≡ x → rule_here n i.path x ≡ Some r → StandsAt (i ∷ is) n r
 stands_first i is n r (made.Primitive p k) same e = absurd cc
 stands_first i is n r (made.Module b) same e =
     let a = among i.path b n b.rules r e in
@@ -131,7 +132,7 @@ stands_first i is n r (made.Module b) same e =
       position = a.position;
     }
 
-stands_later : (i : Instance) (is : List Instance) (n : ℕ) (r : Standing) → StandsAt is n r → StandsAt (i ∷ is) n r
+stands_later : (i : Instance) (is : List Instance) (n : ℕ) (r : PlacedRule) → StandsAt is n r → StandsAt (i ∷ is) n r
 stands_later i is n r a = record {
   number = suc a.number;
   instance = a.instance;
@@ -143,15 +144,15 @@ stands_later i is n r a = record {
   position = a.position;
 }
 
-stands : (is : List Instance) (n : ℕ) (r : Standing) → rule_at is n ≡ Some r → StandsAt is n r
+stands : (is : List Instance) (n : ℕ) (r : PlacedRule) → rule_at is n ≡ Some r → StandsAt is n r
 stands [] n r e = absurd cc
 stands (i ∷ is) n r e = by (rule_here n i.path i.made) refl (stands is n r) e where
-  by : (o : Option Standing) → rule_here n i.path i.made ≡ o → (rule_at is n ≡ Some r → StandsAt is n r)
+  by : (o : Option PlacedRule) → rule_here n i.path i.made ≡ o → (rule_at is n ≡ Some r → StandsAt is n r)
       → or_else o (rule_at is n) ≡ Some r → StandsAt (i ∷ is) n r
   by None here more f = stands_later i is n r (more f)
   by (Some q) here more f = stands_first i is n r i.made refl (here ∙ f)
 
-rule_is : (is : List Instance) (n : ℕ) (r : Standing) (x : Result Work Fault) (e : Element) (s : Source) → Shows e s → StandsAt is n r
+rule_is : (is : List Instance) (n : ℕ) (r : PlacedRule) (x : Result Work Fault) (e : Element) (s : Source) → Shows e s → StandsAt is n r
     → rule_done r x ≡ Some s → IsRuleOf is n e
 rule_is is n r (Err f) e s shows at done = absurd cc
 rule_is is n r (Ok w) e s shows at done =
@@ -164,16 +165,16 @@ rule_is is n r (Ok w) e s shows at done =
       ports = shows.ports ∙ ap (λ (z : Source). z.ports) is;
     }
 
-rule_with : (h : TreeData) (n : ℕ) (r : Standing) (text : Option Rule) (e : Element) (s : Source) → Shows e s → StandsAt h.instances n r
+rule_with : (h : TreeData) (n : ℕ) (r : PlacedRule) (text : Option Rule) (e : Element) (s : Source) → Shows e s → StandsAt h.instances n r
     → rule_carried h r text ≡ Some s → IsRuleOf h.instances n e
 rule_with h n r None e s shows at done = absurd cc
 rule_with h n r (Some text) e s shows at done = rule_is h.instances n r _ e s shows at done
 
-rule_there : (h : TreeData) (n : ℕ) (o : Option Standing) (e : Element) (s : Source) → Shows e s → rule_at h.instances n ≡ o
+rule_there : (h : TreeData) (n : ℕ) (o : Option PlacedRule) (e : Element) (s : Source) → Shows e s → rule_at h.instances n ≡ o
     → rule_source h o ≡ Some s → IsRuleOf h.instances n e
 rule_there h n None e s shows at done = absurd cc
 rule_there h n (Some r) e s shows at done =
-    rule_with h n r (rule_text (slice_get h.typed.modules r.built.«module») r.rule.rule) e s shows (stands h.instances n r at) done
+    rule_with h n r (rule_in (slice_get h.typed.modules r.built.«module») r.rule.rule) e s shows (stands h.instances n r at) done
 
 -- ---- both
 

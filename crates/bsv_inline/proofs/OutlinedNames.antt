@@ -17,17 +17,18 @@ use Rattle.bsv_design.specs.declared.element.Element.{Element}
 use Rattle.bsv_design.specs.declared.element.Port.{Port}
 use Rattle.bsv_design.specs.declared.element.Role.{Role}
 use Rattle.bsv_design.specs.declared.element.Role.TheVariants as role
-use Rattle.bsv_design.specs.declared.tree.Assert.{Assert}
-use Rattle.bsv_design.specs.declared.tree.Built.{Built}
-use Rattle.bsv_design.specs.declared.tree.BuiltRule.{BuiltRule}
-use Rattle.bsv_design.specs.declared.tree.Instance.{Instance}
-use Rattle.bsv_design.specs.declared.tree.Made.{Made}
-use Rattle.bsv_design.specs.declared.tree.Made.TheVariants as made
-use Rattle.bsv_design.specs.declared.tree.Pair.{Pair}
-use Rattle.bsv_design.specs.carrying.Calls.{made_of}
+use Rattle.bsv_design.specs.declared.attributes.Assert.{Assert}
+use Rattle.bsv_tree.specs.declared.tree.Built.{Built}
+use Rattle.bsv_tree.specs.declared.tree.BuiltRule.{BuiltRule}
+use Rattle.bsv_tree.specs.declared.tree.Instance.{Instance}
+use Rattle.bsv_tree.specs.declared.tree.Made.{Made}
+use Rattle.bsv_tree.specs.declared.tree.Made.TheVariants as made
+use Rattle.bsv_design.specs.declared.attributes.Pair.{Pair}
+use Rattle.bsv_tree.specs.tree.Contexts.{made_of}
 use Rattle.bsv_design.specs.design.Designs.{IsDotted, IsNamed, IsRuleIn}
-use Rattle.bsv_design.specs.tree.Sources.{role_of, port_of, Standing, top_methods, element_count}
-use Rattle.bsv_design.specs.tree.Trees.{TreeData, IsTree, IsPath, IsRule, IsModuleAt, Agrees, AreNamed, PairsNameRules, AssertsNameRules, methods_of, shapes, world}
+use Rattle.bsv_tree.specs.tree.Elements.{role_of, port_of, PlacedRule, top_methods, element_count}
+use Rattle.bsv_tree.specs.tree.Trees.{TreeData, IsTree, IsRule, IsModuleAt, Agrees, AreNamed, PairsNameRules, AssertsNameRules, methods_of, shapes, world}
+use Rattle.bsv_design.specs.design.Paths.{IsPath}
 use Rattle.bsv_inline.proofs.Outlined.{AreOutlined, KeepsNames}
 use Rattle.bsv_inline.proofs.OutlinedElements.{IsMethod, StandsAt, IsRuleOf, IsOf, a_method, a_rule, top_made, element_is}
 use Rattle.bsv_inline.proofs.OutlinedParts.{part_paths, parts_alone}
@@ -74,16 +75,16 @@ module _ (h : TreeData) (t : IsTree h) where
 
   -- ---- rules
 
-  module_at : (n : ℕ) (r : Standing) (a : StandsAt h.instances n r) → IsModuleAt h.instances a.number r.built
+  module_at : (n : ℕ) (r : PlacedRule) (a : StandsAt h.instances n r) → IsModuleAt h.instances a.number r.built
   module_at n r a = ap made_of a.at ∙ ap (λ (x : Made). Some x) a.made_is
 
-  rules_named : (n : ℕ) (r : Standing) (a : StandsAt h.instances n r) → AreNamed h.typed r.built
+  rules_named : (n : ℕ) (r : PlacedRule) (a : StandsAt h.instances n r) → AreNamed h.typed r.built
   rules_named n r a = t.named a.number r.built (module_at n r a)
 
-  rule_lower : (n : ℕ) (r : Standing) (a : StandsAt h.instances n r) → IsTrue (is_lower r.rule.name)
+  rule_lower : (n : ℕ) (r : PlacedRule) (a : StandsAt h.instances n r) → IsTrue (is_lower r.rule.name)
   rule_lower n r a = let names = rules_named n r a in names.lower a.place r.rule a.has
 
-  rule_path : (n : ℕ) (r : Standing) (a : StandsAt h.instances n r) → IsPath r.path
+  rule_path : (n : ℕ) (r : PlacedRule) (a : StandsAt h.instances n r) → IsPath r.path
   rule_path n r a = subst IsPath (sym a.path_is) (t.paths a.number a.instance a.at)
 
   -- ---- each element
@@ -120,7 +121,7 @@ module _ (h : TreeData) (t : IsTree h) where
       (method_wanted n e b) (sym a.name ∙ same ∙ b.name)
 
   -- the instance of a path
-  one_built : (m n : ℕ) (r : Standing) (built : Built) (i : Instance) (a : StandsAt h.instances n r) → slice_get h.instances m ≡ Some i
+  one_built : (m n : ℕ) (r : PlacedRule) (built : Built) (i : Instance) (a : StandsAt h.instances n r) → slice_get h.instances m ≡ Some i
       → i.made ≡ made.Module built → i.path ≡ r.path → (m ≡ a.number) × (built ≡ r.built)
   one_built m n r built i a at made_is path_is =
       let number = t.apart m a.number i a.instance at a.at (path_is ∙ a.path_is) in

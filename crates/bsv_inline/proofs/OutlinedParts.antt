@@ -5,13 +5,13 @@ use Rattle.std.proofs.lemmas.Option.{same_Some}
 use Rattle.bsv_types.specs.declared.types.PartTy.{PartTy}
 use Rattle.bsv_design.specs.declared.design.NamedPart.{NamedPart}
 use Rattle.bsv_design.specs.declared.kind.Kind.{Kind}
-use Rattle.bsv_design.specs.declared.tree.Instance.{Instance}
-use Rattle.bsv_design.specs.declared.tree.Made.{Made}
-use Rattle.bsv_design.specs.declared.tree.Made.TheVariants as made
+use Rattle.bsv_tree.specs.declared.tree.Instance.{Instance}
+use Rattle.bsv_tree.specs.declared.tree.Made.{Made}
+use Rattle.bsv_tree.specs.declared.tree.Made.TheVariants as made
 use Rattle.bsv_design.specs.design.Designs.{IsDotted}
-use Rattle.bsv_design.specs.tree.Sources.{part_made, parts_among}
-use Rattle.bsv_design.specs.scheme.Traces.{one_if, is_part, parts_before}
-use Rattle.bsv_design.specs.tree.Trees.{TreeData, IsTree}
+use Rattle.bsv_tree.specs.tree.Elements.{part_made, parts_among}
+use Rattle.bsv_tree.specs.tree.Elements.{one_if, is_part, parts_before}
+use Rattle.bsv_tree.specs.tree.Trees.{TreeData, IsTree}
 use Rattle.bsv_design.proofs.Dotted.{dotted_path}
 
 -- the instance of a part

@@ -22,7 +22,7 @@ use Rattle.bsv_types.specs.Methods.{Signature, header_signature, methods, method
 use Rattle.bsv_types.specs.Modules.{header, param_names, method_right, module_right}
 use Rattle.bsv_types.specs.Names.{distinct, lower_names}
 use Rattle.bsv_types.specs.Programs.{each_at, all_countable, names_right, enum_right, struct_right, begins_empty, function_right, interface_right, shapes_right}
-use Rattle.bsv_design.specs.tree.Trees.{shapes, world}
+use Rattle.bsv_tree.specs.tree.Trees.{shapes, world}
 use Rattle.bsv_types.proofs.Distinct.{distinct_places}
 
 -- ---- tests that all hold

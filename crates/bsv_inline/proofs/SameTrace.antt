@@ -17,14 +17,19 @@ use Rattle.bsv_design.specs.declared.kind.Kind.{Kind}
 use Rattle.bsv_design.specs.declared.node.Branch.{Branch}
 use Rattle.bsv_design.specs.declared.node.Node.{Node}
 use Rattle.bsv_design.specs.declared.node.Node.TheVariants as node
-use Rattle.bsv_design.specs.declared.steps.Atom.{Atom}
-use Rattle.bsv_design.specs.declared.steps.Step.{Step}
-use Rattle.bsv_design.specs.declared.tree.Instance.{Instance}
+use Rattle.bsv_tree.specs.declared.steps.Atom.{Atom}
+use Rattle.bsv_tree.specs.declared.steps.Step.{Step}
+use Rattle.bsv_tree.specs.declared.tree.Instance.{Instance}
 use Rattle.bsv_design.specs.design.Bodies as bodies
 use Rattle.bsv_design.specs.design.Bodies.{Answers, Target, at}
-use Rattle.bsv_design.specs.tree.Kinds.{kind_table}
-use Rattle.bsv_design.specs.carrying.Running.{Results, SiteCall, Need, or_zero, is_one, word_of, happening}
-use Rattle.bsv_design.specs.scheme.Traces.{Site, Demand, Trace, acts, kind_at, site_at, demand_at, body_trace, target_of, place_name, site_of, demand_of, step_trace}
+use Rattle.bsv_design.specs.parts.Kinds.{kind_table}
+use Rattle.bsv_tree.specs.meaning.Evaluation.{Results, SiteCall, Need}
+use Rattle.bsv_design.specs.design.Words.{or_zero, is_one}
+use Rattle.bsv_tree.specs.carrying.Running.{word_of, happening}
+use Rattle.bsv_design.specs.scheme.Traces.{Site, Demand, Trace, acts, kind_at, site_at, demand_at, body_trace}
+use Rattle.bsv_tree.specs.tree.Elements.{target_of, place_name}
+use Rattle.bsv_tree.specs.meaning.Elements.{site_of, demand_of}
+use Rattle.bsv_tree.specs.carrying.Sources.{step_trace}
 use Rattle.bsv_body.specs.declared.body.Body.{Body}
 use Rattle.bsv_body.specs.declared.calls.Call.{Call}
 use Rattle.bsv_body.specs.declared.calls.Condition.{Condition}

@@ -3,13 +3,17 @@ use Rattle.std.proofs.Common.{◌≡◌, ◌∙◌, ℕ, ◌+◌, Bool, not, ◌
 use Rattle.std.proofs.lemmas.List.{map-append}
 use Rattle.bsv_bits.specs.Words.{Bits}
 use Rattle.bsv_types.specs.declared.modules.Module.{Module}
-use Rattle.bsv_design.specs.declared.steps.Atom.{Atom}
-use Rattle.bsv_design.specs.declared.steps.Step.{Step}
-use Rattle.bsv_design.specs.declared.tree.Instance.{Instance}
+use Rattle.bsv_tree.specs.declared.steps.Atom.{Atom}
+use Rattle.bsv_tree.specs.declared.steps.Step.{Step}
+use Rattle.bsv_tree.specs.declared.tree.Instance.{Instance}
 use Rattle.bsv_design.specs.design.Bodies.{Target, Answers}
-use Rattle.bsv_design.specs.carrying.Running.{Results, Standing, SiteCall, Run, Alternative, happening, in_turn, nested_run, arms_run, inside, is_one, word_of}
-use Rattle.bsv_design.specs.scheme.Traces.{step_trace, site_of, target_of}
-use Rattle.bsv_design.specs.carrying.Uses.{Methods, all_methods, uses}
+use Rattle.bsv_tree.specs.meaning.Evaluation.{Results, Standing, SiteCall}
+use Rattle.bsv_tree.specs.carrying.Running.{Run, Alternative, happening, in_turn, nested_run, arms_run, inside, word_of}
+use Rattle.bsv_design.specs.design.Words.{is_one}
+use Rattle.bsv_tree.specs.carrying.Sources.{step_trace}
+use Rattle.bsv_tree.specs.meaning.Elements.{site_of}
+use Rattle.bsv_tree.specs.tree.Elements.{target_of}
+use Rattle.bsv_tree.specs.carrying.Uses.{Methods, all_methods, uses}
 use Rattle.bsv_inline.proofs.EachStep.{AllKeep, AllArms, IsKept, all_keep}
 
 abbrev called : List SiteCall → Methods

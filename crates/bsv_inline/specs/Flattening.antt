@@ -6,12 +6,14 @@ use Rattle.bsv_types.specs.Names.{countable}
 use Rattle.bsv_design.specs.declared.element.Element.{Element}
 use Rattle.bsv_design.specs.declared.element.Role.TheVariants as role
 use Rattle.bsv_design.specs.declared.kind.Kind.{Kind}
-use Rattle.bsv_design.specs.declared.source.Source.{Source}
+use Rattle.bsv_tree.specs.declared.source.Source.{Source}
 use Rattle.bsv_design.specs.design.Bodies.{Answers}
 use Rattle.bsv_design.specs.design.Designs.{HasWidths}
-use Rattle.bsv_design.specs.tree.Sources.{element_at, parts_among}
-use Rattle.bsv_design.specs.scheme.Traces.{body_trace, step_trace}
-use Rattle.bsv_design.specs.tree.Trees.{TreeData}
+use Rattle.bsv_tree.specs.carrying.Sources.{element_at}
+use Rattle.bsv_tree.specs.tree.Elements.{parts_among}
+use Rattle.bsv_design.specs.scheme.Traces.{body_trace}
+use Rattle.bsv_tree.specs.carrying.Sources.{step_trace}
+use Rattle.bsv_tree.specs.tree.Trees.{TreeData}
 use Rattle.bsv_design.specs.design.Widths.{acts_not}
 
 abbrev pub kinds : TreeData → List Kind

@@ -11,9 +11,10 @@ use Rattle.bsv_design.specs.declared.element.Element.{Element}
 use Rattle.bsv_design.specs.declared.element.Port.{Port}
 use Rattle.bsv_design.specs.declared.element.Role.{Role}
 use Rattle.bsv_design.specs.declared.kind.Kind.{Kind}
-use Rattle.bsv_design.specs.declared.tree.Instance.{Instance}
-use Rattle.bsv_design.specs.tree.Kinds.{kind_table}
-use Rattle.bsv_design.specs.scheme.Traces.{acts, kind_at, parts_before, target_of, place_name}
+use Rattle.bsv_tree.specs.declared.tree.Instance.{Instance}
+use Rattle.bsv_design.specs.parts.Kinds.{kind_table}
+use Rattle.bsv_design.specs.scheme.Traces.{acts, kind_at}
+use Rattle.bsv_tree.specs.tree.Elements.{parts_before, target_of, place_name}
 use Rattle.bsv_body.specs.declared.body.Body.{Body}
 use Rattle.bsv_body.specs.declared.calls.Call.{Call}
 use Rattle.bsv_body.specs.declared.calls.Condition.{Condition}

@@ -1,9 +1,12 @@
 ghost use Rattle.std.specs.Prelude.{◌≡◌, ◌+◌, ◌<◌, true, Some, length, map, IfOk, OnOk};
 ghost use Rattle.bsv_types.specs.Names.{countable};
-ghost use Rattle.bsv_design.specs.scheme.Schemes.{design_scheme, tree_scheme, AreAlike};
-ghost use Rattle.bsv_design.specs.tree.Seen.{design_data, tree_data};
-ghost use Rattle.bsv_design.specs.tree.Sources as sources;
-ghost use Rattle.bsv_design.specs.tree.Trees as trees;
+ghost use Rattle.bsv_design.specs.scheme.Schemes.{design_scheme, AreAlike};
+ghost use Rattle.bsv_tree.specs.meaning.Schemes.{tree_scheme};
+ghost use Rattle.bsv_design.specs.scheme.Seen.{design_data};
+ghost use Rattle.bsv_tree.specs.tree.Seen.{tree_data};
+ghost use Rattle.bsv_tree.specs.tree.Elements as sources;
+ghost use Rattle.bsv_tree.specs.carrying.Sources as carried;
+ghost use Rattle.bsv_tree.specs.tree.Trees as trees;
 ghost use Rattle.bsv_body.specs.Bodies.{IsBody};
 ghost use Rattle.bsv_inline.specs.Flattening as flattening;
 ghost use Rattle.bsv_inline.specs.Placed as placed;
@@ -16,7 +19,8 @@ use crate::primitives::parts;
 use crate::sources::Sources;
 use bsv_bits::{Name, OutOfMemory};
 use bsv_body::{Body, Laid, flat_body, numbered};
-use bsv_design::{Design, Element, Instance, Made, NamedPart, Source, Tree};
+use bsv_design::{Design, Element, NamedPart};
+use bsv_tree::{Instance, Made, Source, Tree};
 use bsv_widths::{has_widths, is_countable, value_acts_not};
 use sqlite_items::Items;
 use std::alloc::Global;
@@ -92,7 +96,7 @@ impl<'a> Layout<'a> {
         requires parts { self.parts.now
             ≡ sources.parts_among (at_hand.tree self.sources).instances }
         requires within { position < sources.element_count (at_hand.tree self.sources) }
-        requires at { sources.source_at (at_hand.tree self.sources) position ≡ Some source }
+        requires at { carried.source_at (at_hand.tree self.sources) position ≡ Some source }
         requires body { IsBody (length source.ports) source.steps source.gives body }
         requires fit { placed.all_fit (map (λ p. p.kind) self.parts.now)
             (at_hand.tree self.sources).instances body.calls ≡ true }
@@ -183,7 +187,7 @@ fn top_name(alloc: Global, tree: &Tree) -> Laid<Name>
 }
 
 /// The elements of a tree as flat bodies, in the order of their positions, over these primitives.
-#[tactic(auto, unfolding(bsv_design::specs::tree::Sources::element_count))]
+#[tactic(auto, unfolding(bsv_tree::specs::tree::Elements::element_count))]
 fn all_elements(alloc: Global, tree: &Tree, parts: &[NamedPart]) -> Laid<Items<Element>>
     requires { parts.now ≡ sources.parts_among tree.now.instances }
     ensures laid { IfOk result (λ es. flattening.AreFlatElements (tree_data tree.now) 0 es) }

@@ -1,16 +1,17 @@
 ghost use Rattle.std.specs.Prelude.{◌≡◌, IfOk, slice_get};
-ghost use Rattle.bsv_design.specs.scheme.Traces.{method_text, place_name};
+ghost use Rattle.bsv_tree.specs.tree.Elements.{method_name, place_name};
 ghost use Rattle.bsv_inline.specs.Placed.{method_of};
 
 use bsv_bits::Name;
 use bsv_body::Laid;
-use bsv_design::{Instance, Made, MethodPlace, path_of};
+use bsv_design::path_of;
+use bsv_tree::{Instance, Made, MethodPlace};
 use bsv_types::Module;
 use std::alloc::Global;
 
 /// The name of a method of a module.
 fn method_name(modules: &[Module], place: u32, method: u32) -> &[u8]
-    ensures { result.now ≡ method_text (method_of (slice_get modules.now place) method) }
+    ensures { result.now ≡ method_name (method_of (slice_get modules.now place) method) }
 {
     match modules.get(place as usize) {
         Some(module) => match module.methods.get(method as usize) {

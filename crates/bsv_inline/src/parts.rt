@@ -1,10 +1,10 @@
 ghost use Rattle.std.specs.Prelude.{◌≡◌, ◌+◌, IfOk};
-ghost use Rattle.bsv_design.specs.scheme.Traces.{parts_before, is_part, one_if};
+ghost use Rattle.bsv_tree.specs.tree.Elements.{parts_before, is_part, one_if};
 ghost use Rattle.bsv_inline.specs.Placed.{ArePartNumbers};
 
 use bsv_bits::OutOfMemory;
 use bsv_body::{Laid, next};
-use bsv_design::{Instance, Made};
+use bsv_tree::{Instance, Made};
 use sqlite_items::Items;
 use std::alloc::Global;
 

@@ -1,8 +1,9 @@
 ghost use Rattle.std.specs.Prelude.{◌≡◌, IfOk};
-ghost use Rattle.bsv_design.specs.tree.Sources as spec;
+ghost use Rattle.bsv_tree.specs.tree.Elements as spec;
 
 use bsv_bits::{Name, OutOfMemory};
-use bsv_design::{Instance, Made, NamedPart};
+use bsv_design::NamedPart;
+use bsv_tree::{Instance, Made};
 use sqlite_items::Items;
 use std::alloc::Global;
 

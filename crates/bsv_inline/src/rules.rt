@@ -1,9 +1,9 @@
 ghost use Rattle.std.specs.Prelude.{◌≡◌, option_map};
-ghost use Rattle.bsv_design.specs.tree.Sources as spec;
+ghost use Rattle.bsv_tree.specs.tree.Elements as spec;
 ghost use Rattle.bsv_inline.specs.SourcesAtHand.{standing};
 
 use bsv_bits::Name;
-use bsv_design::{Built, BuiltRule, Instance, Made};
+use bsv_tree::{Built, BuiltRule, Instance, Made};
 
 /// A rule, with its instance.
 #[derive(Clone, Copy)]

@@ -1,17 +1,19 @@
 ghost use Rattle.std.specs.Prelude.{◌≡◌, Some, None, slice_get, map, IfOk};
 ghost use Rattle.std.specs.Option.{option_copied};
 ghost use Rattle.bsv_types.specs.Kinds.{kind};
-ghost use Rattle.bsv_design.specs.carrying.Applied as applied;
-ghost use Rattle.bsv_design.specs.tree.Sources as spec;
-ghost use Rattle.bsv_design.specs.tree.Trees as trees;
+ghost use Rattle.bsv_tree.specs.tree.Widths as type_widths;
+ghost use Rattle.bsv_tree.specs.tree.Elements as spec;
+ghost use Rattle.bsv_tree.specs.carrying.Sources as the_carried;
+ghost use Rattle.bsv_tree.specs.tree.Trees as trees;
 ghost use Rattle.bsv_carry.specs.AtHand as carrier;
 ghost use Rattle.bsv_inline.specs.SourcesAtHand as at_hand;
 
 use crate::rules::{Placed, rule_at};
 use bsv_bits::{Name, OutOfMemory};
 use bsv_carry::Context;
-use bsv_design::{Atom, Binding, Built, Count, Made, Port, Role, Source, Tree, Value, path_of};
-use bsv_steps::{Valued, atom_of, no_steps, seen};
+use bsv_design::{Port, Role, path_of};
+use bsv_tree::{Atom, Binding, Built, Count, Made, Source, Tree, Value};
+use bsv_tree::{Valued, atom_of, no_steps, seen};
 use bsv_types::{Method, MethodResult, Module, Param, Rule, Ty, counted_width};
 use sqlite_items::Items;
 use std::alloc::Global;
@@ -47,9 +49,9 @@ fn given_by(role: Role, value: Value) -> Option<Atom>
 
 impl<'a> Sources<'a> {
     /// The bits of a type.
-    #[tactic(auto, unfolding(bsv_design::specs::carrying::Applied::width))]
+    #[tactic(auto, unfolding(bsv_tree::specs::tree::Widths::width))]
     fn width(self, ty: &Ty) -> u32
-        ensures { result ≡ applied.width (at_hand.shapes self.entry) (kind ty.now) }
+        ensures { result ≡ type_widths.width (at_hand.shapes self.entry) (kind ty.now) }
     {
         match counted_width(&self.tree.typed.enums, &self.tree.typed.structs, ty) {
             Some(width) => width,
@@ -161,7 +163,7 @@ impl<'a> Sources<'a> {
     /// A rule.
     fn rule_source(self, placed: Placed<'a>) -> Result<Source, OutOfMemory>
         ensures { IfOk result (λ source.
-            spec.rule_source (at_hand.tree self.entry) (Some (at_hand.standing placed.entry))
+            the_carried.rule_source (at_hand.tree self.entry) (Some (at_hand.standing placed.entry))
             ≡ Some source) }
     {
         let Some(rule) = self.rule_text(placed) else {
@@ -211,10 +213,10 @@ impl<'a> Sources<'a> {
     }
 
     /// The element of a position.
-    #[tactic(auto, unfolding(bsv_design::specs::tree::Sources::source_at))]
+    #[tactic(auto, unfolding(bsv_tree::specs::carrying::Sources::source_at))]
     pub(crate) fn source(self, position: u32) -> Result<Source, OutOfMemory>
         ensures { IfOk result (λ source.
-            spec.source_at (at_hand.tree self.entry) position ≡ Some source) }
+            the_carried.source_at (at_hand.tree self.entry) position ≡ Some source) }
     {
         if (position as usize) < self.top_methods().len() {
             return self.top_source(position);

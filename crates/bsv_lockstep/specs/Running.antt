@@ -2,7 +2,7 @@
 use Rattle.std.specs.Prelude.{length}
 use Rattle.bsv_design.specs.declared.design.Design.{Design}
 use Rattle.bsv_design.specs.scheme.Schemes.{kinds_of}
-use Rattle.bsv_design.specs.tree.Seen.{asking, design_data}
+use Rattle.bsv_design.specs.scheme.Seen.{asking, design_data}
 use Rattle.bsv_design.specs.scheme.States.{AskingFits, FitsKinds}
 use Rattle.bsv_design.specs.scheme.Rooms.{HasRoom}
 use Rattle.bsv_lockstep.specs.declared.clocks.Run.{Run}

@@ -17,9 +17,9 @@ use Rattle.bsv_design.specs.declared.kind.Kind.TheVariants.{Reg, RegU, Wire, DWi
 use Rattle.bsv_design.specs.declared.schedule.Schedule.{Schedule}
 use Rattle.bsv_design.specs.design.Bodies.{Target, at}
 use Rattle.bsv_design.specs.design.Designs.{DesignData, IsDesign}
-use Rattle.bsv_design.specs.tree.Kinds.{kind_table}
-use Rattle.bsv_design.specs.carrying.Running.{or_zero}
-use Rattle.bsv_design.specs.tree.Seen.{design_data}
+use Rattle.bsv_design.specs.parts.Kinds.{kind_table}
+use Rattle.bsv_design.specs.design.Words.{or_zero}
+use Rattle.bsv_design.specs.scheme.Seen.{design_data}
 use Rattle.bsv_design.specs.scheme.Schemes.{Scheme, Outline, Asking, Look, calls_of, design_scheme, kinds_of, given, outline, ports_of, seen}
 use Rattle.bsv_design.specs.scheme.States.{AreWordsOf, FitsKinds, part_at}
 use Rattle.bsv_design.specs.scheme.Traces.{Site, kind_at}

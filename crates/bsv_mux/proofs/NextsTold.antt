@@ -9,7 +9,7 @@ use Rattle.bsv_prim.specs.Signals.{Signals, word_of}
 use Rattle.bsv_prim.specs.Table.{Table, word_at}
 use Rattle.bsv_prim.specs.declared.part.Part.{Part}
 use Rattle.bsv_design.specs.declared.kind.Kind.{Kind}
-use Rattle.bsv_design.specs.tree.Kinds.{kind_table, kind_laws}
+use Rattle.bsv_design.specs.parts.Kinds.{kind_table, kind_laws}
 use Rattle.bsv_design.specs.scheme.Schemes.{design_scheme, kinds_of}
 use Rattle.bsv_design.specs.scheme.States.{FitsKinds, part_at}
 use Rattle.bsv_graph.specs.Edges.{numbers_below}

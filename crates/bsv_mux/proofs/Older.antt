@@ -9,7 +9,7 @@ use Rattle.bsv_bits.specs.Words.{Bits}
 use Rattle.bsv_design.specs.declared.node.Node.{Node}
 use Rattle.bsv_design.specs.design.Bodies.{at, of_parts, values}
 use Rattle.bsv_design.specs.scheme.Relations.{no_answers}
-use Rattle.bsv_design.specs.carrying.Running.{or_zero}
+use Rattle.bsv_design.specs.design.Words.{or_zero}
 use Rattle.bsv_design.proofs.Bodies as bodies
 use Rattle.bsv_guard.proofs.Lists.{holds_at_all}
 use Rattle.bsv_guard.proofs.Nodes.{grown, has_one}

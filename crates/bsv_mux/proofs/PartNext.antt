@@ -12,7 +12,7 @@ use Rattle.bsv_prim.specs.declared.part.Part.{Part}
 use Rattle.bsv_prim.proofs.Parallel.{step_in_turn}
 use Rattle.bsv_design.specs.declared.kind.Kind.{Kind}
 use Rattle.bsv_design.specs.design.Bodies.{Target}
-use Rattle.bsv_design.specs.tree.Kinds.{kind_table, kind_laws}
+use Rattle.bsv_design.specs.parts.Kinds.{kind_table, kind_laws}
 use Rattle.bsv_design.specs.scheme.Schemes.{Called, is_open, guard_of}
 use Rattle.bsv_design.specs.scheme.States.{FitsKinds, emptied, part_at}
 use Rattle.bsv_design.specs.scheme.Traces.{kind_at}

@@ -6,7 +6,7 @@ use Rattle.bsv_prim.specs.Table.{Table}
 use Rattle.bsv_design.specs.declared.kind.Kind.{Kind}
 use Rattle.bsv_design.specs.declared.schedule.Schedule.{Schedule}
 use Rattle.bsv_design.specs.design.Designs.{DesignData}
-use Rattle.bsv_design.specs.tree.Kinds.{kind_table}
+use Rattle.bsv_design.specs.parts.Kinds.{kind_table}
 use Rattle.bsv_design.specs.scheme.Schemes.{kinds_of}
 use Rattle.bsv_graph.specs.Edges.{numbers_below}
 use Rattle.bsv_net.specs.declared.net_data.NetData.{NetData}

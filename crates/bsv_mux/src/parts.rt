@@ -1,5 +1,5 @@
 ghost use Rattle.std.specs.Prelude.{◌≡◌, ◌<◌, IfOk, OnOk};
-ghost use Rattle.bsv_design.specs.tree.Kinds.{kind_table};
+ghost use Rattle.bsv_design.specs.parts.Kinds.{kind_table};
 ghost use Rattle.bsv_net.specs.AtHand.{wires};
 ghost use Rattle.bsv_net.specs.Placing as placing;
 ghost use Rattle.bsv_mux.specs.Nexts as spec;

@@ -9,9 +9,9 @@ use Rattle.bsv_design.specs.declared.element.Port.{Port}
 use Rattle.bsv_design.specs.declared.node.Node.{Node}
 use Rattle.bsv_design.specs.declared.node.Node.TheVariants as node
 use Rattle.bsv_design.specs.design.Bodies.{at, node_word}
-use Rattle.bsv_design.specs.carrying.Computing as computing
+use Rattle.bsv_design.specs.design.Computing as computing
 use Rattle.bsv_design.specs.scheme.Relations.{no_answers}
-use Rattle.bsv_design.specs.carrying.Running.{or_zero}
+use Rattle.bsv_design.specs.design.Words.{or_zero}
 use Rattle.bsv_design.specs.design.Widths.{node_width, two_width, pick_width, slice_width, join_width, extend_width}
 
 -- the nodes that a node uses come before this place, and it is not what a call gives

@@ -11,9 +11,9 @@ use Rattle.bsv_bits.specs.declared.operator.Operator.{Operator}
 use Rattle.bsv_design.specs.declared.element.Port.{Port}
 use Rattle.bsv_design.specs.declared.node.Node.{Node}
 use Rattle.bsv_design.specs.design.Bodies.{at, node_word, values, words_after}
-use Rattle.bsv_design.specs.carrying.Computing.{between, sliced, joined, extended, sign_extended}
+use Rattle.bsv_design.specs.design.Computing.{between, sliced, joined, extended, sign_extended}
 use Rattle.bsv_design.specs.scheme.Relations.{no_answers}
-use Rattle.bsv_design.specs.carrying.Running.{or_zero}
+use Rattle.bsv_design.specs.design.Words.{or_zero}
 use Rattle.bsv_design.specs.scheme.States.{AreWordsOf}
 use Rattle.bsv_design.specs.design.Widths.{if_width, gives_bit, two_width, slice_width, join_width, extend_width, node_width, widths_from}
 use Rattle.bsv_guard.specs.Fitting.{HaveWidths}

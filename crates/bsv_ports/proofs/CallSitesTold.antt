@@ -13,7 +13,7 @@ use Rattle.bsv_prim.specs.Table.{word_at}
 use Rattle.bsv_design.specs.declared.element.Call.{Call as SiteCall}
 use Rattle.bsv_design.specs.declared.kind.Kind.{Kind}
 use Rattle.bsv_design.specs.design.Bodies.{at}
-use Rattle.bsv_design.specs.carrying.Running as running
+use Rattle.bsv_design.specs.design.Words as the_words
 use Rattle.bsv_net.specs.declared.node.NetNode.{NetNode}
 use Rattle.bsv_net.specs.declared.node.NetNode.TheVariants as net
 use Rattle.bsv_net.specs.declared.node.Site.{Site as NetSite}
@@ -172,7 +172,7 @@ module _ (inputs registers : List Bits) (V : Values) (full : List NetNode) (widt
       unfoldable pub CallIsTold : SiteCall → ℕ → Type 0
       CallIsTold c n =
           c.part ≡ i → c.method ≡ m
-          → (x : NetSite) × (site_in (slice_get sites f) n ≡ Some x) × TellsCall firing f fires (running.is_one (at ws c.taken)) (map (at ws) c.args) x
+          → (x : NetSite) × (site_in (slice_get sites f) n ≡ Some x) × TellsCall firing f fires (the_words.is_one (at ws c.taken)) (map (at ws) c.args) x
 
       never : (b : Bool) → (b && false) ≡ false
       never true = refl
@@ -190,7 +190,7 @@ module _ (inputs registers : List Bits) (V : Values) (full : List NetNode) (widt
           → CallIsTold c n
           → (ns : List NetNode) (o : Option MethodPort) (last : Option (List Bits)) → Told last o
           → Grows (at_call_sites firing sites m ns o (cond a (record { element = f; call = n; method = c.method } ∷ ss) ss)).nodes full
-          → Told (made (if fires && (a && (q && running.is_one (at ws c.taken))) then Some (map (at ws) c.args) else last) cs)
+          → Told (made (if fires && (a && (q && the_words.is_one (at ws c.taken))) then Some (map (at ws) c.args) else last) cs)
           (at_call_sites firing sites m ns o (cond a (record { element = f; call = n; method = c.method } ∷ ss) ss)).port
       unfolding at_call_sites CallIsTold
       call_site_told c n cs ss rest false q e h call ns o last told g =
@@ -208,9 +208,9 @@ module _ (inputs registers : List Bits) (V : Values) (full : List NetNode) (widt
           let there : at_call_site firing sites m ns o here ≡ with_site firing ns o f (Some site.0) = call_site_of firing sites m ns o here h ∙ ap (with_site firing ns o f) site.1 in
           let g' = subst (λ (p : PlacedSoFar). Grows (at_call_sites firing sites m p.nodes p.port ss).nodes full) there g in
           let before = grows_trans (at_call_sites_grows firing sites m (with_site firing ns o f (Some site.0)).nodes (with_site firing ns o f (Some site.0)).port ss) g' in
-          let now = with_site_told firing ns o f site.0 fires (running.is_one (at ws c.taken)) (map (at ws) c.args) last site.2 told before in
-          subst (λ (p : PlacedSoFar). Told (made (if fires && running.is_one (at ws c.taken) then Some (map (at ws) c.args) else last) cs) (at_call_sites firing sites m p.nodes p.port ss).port) (sym there)
-          (rest (with_site firing ns o f (Some site.0)).nodes (with_site firing ns o f (Some site.0)).port (if fires && running.is_one (at ws c.taken) then Some (map (at ws) c.args) else last) now g')
+          let now = with_site_told firing ns o f site.0 fires (the_words.is_one (at ws c.taken)) (map (at ws) c.args) last site.2 told before in
+          subst (λ (p : PlacedSoFar). Told (made (if fires && the_words.is_one (at ws c.taken) then Some (map (at ws) c.args) else last) cs) (at_call_sites firing sites m p.nodes p.port ss).port) (sym there)
+          (rest (with_site firing ns o f (Some site.0)).nodes (with_site firing ns o f (Some site.0)).port (if fires && the_words.is_one (at ws c.taken) then Some (map (at ws) c.args) else last) now g')
 
       pub calls_told : (cs : List SiteCall) (n : ℕ) → ((j : ℕ) (c : SiteCall) → slice_get cs j ≡ Some c → CallIsTold c (n + j))
           → (ns : List NetNode) (o : Option MethodPort) (last : Option (List Bits)) → Told last o → Grows (at_call_sites firing sites m ns o (call_sites_from ks i f n cs)).nodes full

@@ -8,8 +8,8 @@ use Rattle.bsv_prim.specs.Table.{Table, Call}
 use Rattle.bsv_design.specs.declared.element.Call.{Call as SiteCall}
 use Rattle.bsv_design.specs.declared.kind.Kind.{Kind}
 use Rattle.bsv_design.specs.design.Bodies.{Target, target, at}
-use Rattle.bsv_design.specs.tree.Kinds.{kind_table}
-use Rattle.bsv_design.specs.carrying.Running.{is_one}
+use Rattle.bsv_design.specs.parts.Kinds.{kind_table}
+use Rattle.bsv_design.specs.design.Words.{is_one}
 use Rattle.bsv_design.specs.scheme.Schemes.{Called, taken_actions}
 use Rattle.bsv_design.specs.scheme.Serial.{by_rank}
 use Rattle.bsv_design.specs.scheme.Traces.{acts, kind_at, site_at}

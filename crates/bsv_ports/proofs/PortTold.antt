@@ -11,7 +11,7 @@ use Rattle.bsv_design.specs.declared.element.Call.{Call as SiteCall}
 use Rattle.bsv_design.specs.declared.element.Element.{Element}
 use Rattle.bsv_design.specs.declared.kind.Kind.{Kind}
 use Rattle.bsv_design.specs.design.Bodies.{Target, at, target, words}
-use Rattle.bsv_design.specs.tree.Kinds.{kind_table}
+use Rattle.bsv_design.specs.parts.Kinds.{kind_table}
 use Rattle.bsv_design.specs.scheme.Schemes.{Called, answers, calls, calls_of, design_scheme, given, kinds_of, seen, taken_actions, trace_of}
 use Rattle.bsv_design.specs.scheme.Traces.{Site, body_trace, kind_at, site_at}
 use Rattle.bsv_graph.specs.Edges.{numbers_below}

@@ -9,11 +9,11 @@ use Rattle.std.proofs.lemmas.Option.{slice_get_within}
 use Rattle.bsv_design.specs.declared.design.Design.{Design}
 use Rattle.bsv_design.specs.declared.design.NamedPart.{NamedPart}
 use Rattle.bsv_design.specs.declared.element.Element.{Element}
-use Rattle.bsv_design.specs.declared.tree.Pair.{Pair}
+use Rattle.bsv_design.specs.declared.attributes.Pair.{Pair}
 use Rattle.bsv_design.specs.design.Bodies.{target}
 use Rattle.bsv_design.specs.design.Designs.{IsDesign}
 use Rattle.bsv_design.specs.scheme.Schemes.{design_scheme, calls_of}
-use Rattle.bsv_design.specs.tree.Seen.{design_data}
+use Rattle.bsv_design.specs.scheme.Seen.{design_data}
 use Rattle.bsv_schedule.specs.relating.Uses.{pair_below}
 
 pub few_elements : (d : Design) → length d.elements < 2 ^ 32

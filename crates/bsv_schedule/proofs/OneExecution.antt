@@ -3,7 +3,7 @@ use Rattle.std.proofs.Common.{◌≡◌, ℕ, inl, inr, List, refl, sym, ◌∙�
 use Rattle.std.specs.Prelude.{Result, Ok, Err, IfOk, IfErr, slice_get}
 use Rattle.std.proofs.lemmas.Bool.{cases_order}
 use Rattle.std.proofs.lemmas.Option.{same_Some}
-use Rattle.bsv_design.specs.declared.tree.Pair.{Pair}
+use Rattle.bsv_design.specs.declared.attributes.Pair.{Pair}
 use Rattle.bsv_graph.specs.declared.edge.Edge.{Edge}
 use Rattle.bsv_schedule.specs.relating.Elements.{edge_of}
 use Rattle.bsv_schedule.specs.execution_order.Orders.{Executes, IsFirstValueClash}

@@ -3,7 +3,7 @@ use Rattle.std.proofs.Common.{◌≡◌, ℕ, inl, inr, List, [], ◌∷◌, ◌
 use Rattle.std.specs.Prelude.{IsTrue, IsFalse, Result, Ok, Err, IfOk, IfErr, slice_get}
 use Rattle.std.proofs.lemmas.Bool.{cases_order}
 use Rattle.std.proofs.lemmas.Option.{same_Some}
-use Rattle.bsv_design.specs.declared.tree.Pair.{Pair}
+use Rattle.bsv_design.specs.declared.attributes.Pair.{Pair}
 use Rattle.bsv_graph.specs.Orders.{In}
 use Rattle.bsv_schedule.specs.relating.Relating.{Relating, feed_edges}
 use Rattle.bsv_schedule.specs.urgency_order.Orders.{IsLeastBehindRule, IsFirstRule, UrgencyOrder, MethodBehindRule, Urges}

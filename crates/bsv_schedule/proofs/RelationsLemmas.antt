@@ -10,14 +10,14 @@ use Rattle.bsv_lemmas.proofs.Places.{item_there}
 use Rattle.bsv_design.specs.declared.design.Design.{Design}
 use Rattle.bsv_design.specs.declared.element.Element.{Element}
 use Rattle.bsv_design.specs.declared.kind.Kind.{Kind}
-use Rattle.bsv_design.specs.declared.tree.Attribute.{Attribute}
-use Rattle.bsv_design.specs.declared.tree.Attribute.TheVariants as attribute
-use Rattle.bsv_design.specs.declared.tree.Pair.{Pair}
+use Rattle.bsv_design.specs.declared.attributes.Attribute.{Attribute}
+use Rattle.bsv_design.specs.declared.attributes.Attribute.TheVariants as attribute
+use Rattle.bsv_design.specs.declared.attributes.Pair.{Pair}
 use Rattle.bsv_design.specs.design.Bodies.{Target, target}
 use Rattle.bsv_design.specs.scheme.Relations.{goes, feeds}
-use Rattle.bsv_design.specs.tree.Roles.{is_value, is_rule}
+use Rattle.bsv_design.specs.design.Roles.{is_value, is_rule}
 use Rattle.bsv_design.specs.scheme.Schemes.{Scheme, design_scheme, outline, kinds_of}
-use Rattle.bsv_design.specs.tree.Seen.{design_data}
+use Rattle.bsv_design.specs.scheme.Seen.{design_data}
 use Rattle.bsv_graph.specs.declared.edge.Edge.{Edge}
 use Rattle.bsv_schedule.specs.declared.relating.related.Relation.{Relation}
 use Rattle.bsv_schedule.specs.declared.relating.related.Relation.TheVariants as relation

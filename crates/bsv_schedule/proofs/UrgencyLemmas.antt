@@ -1,7 +1,7 @@
 -- The pairs from which the edges of urgency come.
 use Rattle.std.proofs.Common.{◌≡◌, List, length, ap, refl, ◌∙◌}
 use Rattle.std.proofs.lemmas.List.{length-map}
-use Rattle.bsv_design.specs.declared.tree.Pair.{Pair}
+use Rattle.bsv_design.specs.declared.attributes.Pair.{Pair}
 use Rattle.bsv_graph.specs.declared.edge.Edge.{Edge}
 use Rattle.bsv_design.specs.declared.design.Design.{Design}
 use Rattle.bsv_design.specs.scheme.Schemes.{design_scheme}

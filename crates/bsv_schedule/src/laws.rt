@@ -1,5 +1,5 @@
 ghost use Rattle.std.specs.Prelude.{◌≡◌, ℕ, ◌<◌, ◌⊎◌, List, length, Result};
-ghost use Rattle.bsv_design.specs.declared.tree.Pair.{Pair};
+ghost use Rattle.bsv_design.specs.declared.attributes.Pair.{Pair};
 ghost use Rattle.bsv_graph.specs.declared.edge.Edge.{Edge};
 ghost use Rattle.bsv_schedule.specs.execution_order.Orders.{
   ExecutionOrder,

@@ -9,7 +9,7 @@ use Rattle.bsv_prim.specs.Table.{Call}
 use Rattle.bsv_prim.specs.declared.part.Part.{Part}
 use Rattle.bsv_design.specs.declared.kind.Kind.{Kind}
 use Rattle.bsv_design.specs.declared.schedule.Schedule.{Schedule}
-use Rattle.bsv_design.specs.tree.Kinds.{kind_table}
+use Rattle.bsv_design.specs.parts.Kinds.{kind_table}
 use Rattle.bsv_design.specs.scheme.Schemes.{Scheme}
 use Rattle.bsv_design.specs.scheme.States.{FitsKinds, emptied, part_at}
 use Rattle.bsv_design.specs.scheme.Traces.{acts}

@@ -14,9 +14,9 @@ use Rattle.bsv_design.specs.declared.schedule.Schedule.{Schedule}
 use Rattle.bsv_design.specs.design.Bodies.{target}
 use Rattle.bsv_design.specs.design.Designs.{HasWidths, IsDesign}
 use Rattle.bsv_design.specs.design.Guards.{needs_from, needs_of}
-use Rattle.bsv_design.specs.tree.Roles.{gives_value}
+use Rattle.bsv_design.specs.design.Roles.{gives_value}
 use Rattle.bsv_design.specs.scheme.Schemes.{Scheme, Outline, Asking, design_scheme, filled, given, if_asked, kinds_of, ports_of}
-use Rattle.bsv_design.specs.tree.Seen.{design_data}
+use Rattle.bsv_design.specs.scheme.Seen.{design_data}
 use Rattle.bsv_design.specs.scheme.States.{AreWordsOf, emptied}
 use Rattle.bsv_design.specs.design.Widths.{widths_from, call_fits, condition_fits, port_fits, result_fits}
 use Rattle.bsv_guard.proofs.Whole.{named_in}

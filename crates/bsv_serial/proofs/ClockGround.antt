@@ -12,7 +12,7 @@ use Rattle.bsv_design.specs.declared.element.Port.{Port}
 use Rattle.bsv_design.specs.declared.schedule.Schedule.{Schedule}
 use Rattle.bsv_design.specs.design.Designs.{IsDesign}
 use Rattle.bsv_design.specs.scheme.Schemes.{Asking, design_scheme, kinds_of, outline}
-use Rattle.bsv_design.specs.tree.Seen.{design_data}
+use Rattle.bsv_design.specs.scheme.Seen.{design_data}
 use Rattle.bsv_design.specs.scheme.States.{AreWordsOf, AskingFits, FitsKinds}
 use Rattle.bsv_graph.specs.Orders.{IsOrderOf}
 use Rattle.bsv_guard.specs.Fitting.{RequestFits}

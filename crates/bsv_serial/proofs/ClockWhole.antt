@@ -9,7 +9,7 @@ use Rattle.bsv_design.specs.declared.schedule.Need.{Need}
 use Rattle.bsv_design.specs.declared.schedule.Schedule.{Schedule}
 use Rattle.bsv_design.specs.design.Guards.{needs_of}
 use Rattle.bsv_design.specs.scheme.Schemes.{Asking, design_scheme, kinds_of}
-use Rattle.bsv_design.specs.tree.Seen.{design_data}
+use Rattle.bsv_design.specs.scheme.Seen.{design_data}
 use Rattle.bsv_design.specs.scheme.States.{AskingFits, FitsKinds, emptied}
 use Rattle.bsv_graph.specs.Orders.{place_of}
 use Rattle.bsv_clock.specs.Events.{Happens}

@@ -6,7 +6,7 @@ use Rattle.bsv_prim.specs.Calls.{IsReady}
 use Rattle.bsv_prim.specs.Table.{Call}
 use Rattle.bsv_prim.specs.declared.part.Part.{Part}
 use Rattle.bsv_design.specs.declared.kind.Kind.{Kind}
-use Rattle.bsv_design.specs.tree.Kinds.{kind_table, kind_laws}
+use Rattle.bsv_design.specs.parts.Kinds.{kind_table, kind_laws}
 use Rattle.bsv_serial.specs.declared.calls_made.MadeCall.{MadeCall}
 use Rattle.bsv_serial.specs.CallsMade.{as_call}
 use Rattle.bsv_serial.specs.Sights.{CanBeApplied, CanLook, seen_of, sees_none, after_seen}

@@ -12,7 +12,7 @@ use Rattle.bsv_prim.specs.declared.part.Part.{Part}
 use Rattle.bsv_design.specs.declared.kind.Kind.{Kind}
 use Rattle.bsv_design.specs.declared.schedule.Schedule.{Schedule}
 use Rattle.bsv_design.specs.design.Bodies.{Target}
-use Rattle.bsv_design.specs.tree.Kinds.{kind_table}
+use Rattle.bsv_design.specs.parts.Kinds.{kind_table}
 use Rattle.bsv_design.specs.scheme.Relations.{is_seen}
 use Rattle.bsv_design.specs.scheme.Schemes.{Scheme, Called}
 use Rattle.bsv_design.specs.scheme.States.{FitsKinds, emptied, part_at}

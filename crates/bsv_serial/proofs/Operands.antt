@@ -13,8 +13,8 @@ use Rattle.bsv_design.specs.declared.kind.Kind.{Kind}
 use Rattle.bsv_design.specs.declared.node.Node.{Node}
 use Rattle.bsv_design.specs.declared.node.Node.TheVariants as node
 use Rattle.bsv_design.specs.design.Bodies.{at}
-use Rattle.bsv_design.specs.carrying.Computing.{between, sliced, joined, extended, sign_extended}
-use Rattle.bsv_design.specs.tree.Kinds.{kind_table}
+use Rattle.bsv_design.specs.design.Computing.{between, sliced, joined, extended, sign_extended}
+use Rattle.bsv_design.specs.parts.Kinds.{kind_table}
 use Rattle.bsv_design.specs.scheme.Schemes.{filled}
 use Rattle.bsv_design.specs.scheme.Traces.{acts}
 use Rattle.bsv_design.specs.design.Widths.{port_fits, method_fits, gives_word, result_width, node_width, gives_bit, if_width, two_width, slice_width, join_width, extend_width}

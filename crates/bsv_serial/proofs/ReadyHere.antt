@@ -14,7 +14,7 @@ use Rattle.bsv_design.specs.design.Bodies.{target}
 use Rattle.bsv_design.specs.design.Guards.{body_ready, holds_at, is_asked as is_needed, is_guarded, needs_from, needs_hold, needs_of}
 use Rattle.bsv_design.specs.scheme.Schemes.{Scheme, Outline, Asking, Called, Look, all_hold, answers, calls, design_scheme, filled, given, if_asked, kinds_of, outline, ports_of, ready, taken_actions, value}
 use Rattle.bsv_design.specs.scheme.Schemes as schemes
-use Rattle.bsv_design.specs.tree.Seen.{design_data}
+use Rattle.bsv_design.specs.scheme.Seen.{design_data}
 use Rattle.bsv_design.specs.scheme.Traces.{demand_at, kind_at, body_trace}
 use Rattle.bsv_guard.specs.ElementLaws.{IsUse}
 use Rattle.bsv_guard.proofs.Whole.{lifted}

@@ -18,9 +18,9 @@ use Rattle.bsv_design.specs.declared.schedule.Need.{Need}
 use Rattle.bsv_design.specs.design.Bodies.{Target, target}
 use Rattle.bsv_design.specs.design.Designs.{IsDesign}
 use Rattle.bsv_design.specs.design.Guards.{needs_from}
-use Rattle.bsv_design.specs.tree.Kinds.{kind_table}
+use Rattle.bsv_design.specs.parts.Kinds.{kind_table}
 use Rattle.bsv_design.specs.scheme.Schemes.{Scheme, Outline, Asking, Called, Look, calls, design_scheme, filled, given, if_asked, kinds_of, ports_of, ready, taken_actions, value}
-use Rattle.bsv_design.specs.tree.Seen.{design_data}
+use Rattle.bsv_design.specs.scheme.Seen.{design_data}
 use Rattle.bsv_design.specs.scheme.Serial.{by_rank, calls_made, run_whole}
 use Rattle.bsv_design.specs.scheme.States.{AreWordsOf, FitsKinds, part_at, plain}
 use Rattle.bsv_design.specs.scheme.Traces.{acts, kind_at}

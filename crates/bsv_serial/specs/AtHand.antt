@@ -13,7 +13,7 @@ use Rattle.bsv_design.specs.declared.schedule.Schedule.{Schedule}
 use Rattle.bsv_design.specs.design.Bodies.{Answers}
 use Rattle.bsv_design.specs.design.Guards.{needs_from}
 use Rattle.bsv_design.specs.scheme.Schemes.{Asking, Look, filled, answers}
-use Rattle.bsv_design.specs.tree.Seen.{asking}
+use Rattle.bsv_design.specs.scheme.Seen.{asking}
 use Rattle.bsv_design.specs.design.Widths.{call_named}
 use Rattle.bsv_serial.specs.declared.body.Body.{Body}
 use Rattle.bsv_serial.specs.declared.decider.Decider.{Decider}

@@ -3,7 +3,7 @@ use Rattle.std.specs.Prelude.{◌≡◌, ◌<◌, ℕ, Bool, true, false, ◌||�
 use Rattle.std.specs.List.{AllByRecursion}
 use Rattle.bsv_bits.specs.Words.{Bits}
 use Rattle.bsv_design.specs.declared.element.Element.{Element}
-use Rattle.bsv_design.specs.tree.Roles.{is_rule}
+use Rattle.bsv_design.specs.design.Roles.{is_rule}
 use Rattle.bsv_clock.specs.Clocks.{is_asked}
 use Rattle.bsv_serial.specs.declared.fates.Fate.{Fate}
 use Rattle.bsv_serial.specs.declared.fates.Fate.TheVariants as fate

@@ -7,7 +7,7 @@ use Rattle.bsv_prim.specs.Table.{Table, Call, CallFits}
 use Rattle.bsv_prim.specs.declared.part.Part.{Part}
 use Rattle.bsv_design.specs.declared.kind.Kind.{Kind}
 use Rattle.bsv_design.specs.design.Bodies.{Target}
-use Rattle.bsv_design.specs.tree.Kinds.{kind_table}
+use Rattle.bsv_design.specs.parts.Kinds.{kind_table}
 use Rattle.bsv_design.specs.scheme.Schemes.{Look}
 use Rattle.bsv_design.specs.scheme.States.{part_at}
 use Rattle.bsv_design.specs.scheme.Traces.{kind_at}

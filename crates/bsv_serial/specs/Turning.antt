@@ -6,7 +6,7 @@ use Rattle.bsv_design.specs.declared.design.Design.{Design}
 use Rattle.bsv_design.specs.declared.schedule.Need.{Need}
 use Rattle.bsv_design.specs.design.Guards.{needs_of}
 use Rattle.bsv_design.specs.scheme.Schemes.{Scheme, Asking, design_scheme, kinds_of, ready, value}
-use Rattle.bsv_design.specs.tree.Seen.{design_data}
+use Rattle.bsv_design.specs.scheme.Seen.{design_data}
 use Rattle.bsv_design.specs.scheme.Serial.{run_whole}
 use Rattle.bsv_design.specs.scheme.States.{AskingFits, FitsKinds, plain}
 use Rattle.bsv_clock.specs.Grounds.{KeepsRules}

@@ -2,7 +2,7 @@ ghost use Rattle.std.specs.Prelude.{◌≡◌, false, IfOk, OnOk, length, ◌<�
 ghost use Rattle.std.specs.Bool.{OnTrue};
 ghost use Rattle.bsv_design.specs.design.Bodies.{at, answer, node_word};
 ghost use Rattle.bsv_design.specs.design.Guards.{holds_at};
-ghost use Rattle.bsv_design.specs.carrying.Running.{or_zero};
+ghost use Rattle.bsv_design.specs.design.Words.{or_zero};
 ghost use Rattle.bsv_design.specs.scheme.Schemes.{all_hold};
 ghost use Rattle.bsv_design.specs.scheme.Traces.{demand_at};
 ghost use Rattle.bsv_design.specs.declared.node.Node.TheVariants as node;

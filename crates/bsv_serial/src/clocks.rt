@@ -3,7 +3,7 @@ ghost use Rattle.bsv_clock.specs.Events.{Happens};
 ghost use Rattle.bsv_clock.specs.Grounds.{IsScheduleOf, KeepsRules};
 ghost use Rattle.bsv_design.specs.design.Guards.{needs_of};
 ghost use Rattle.bsv_design.specs.scheme.Schemes.{design_scheme, kinds_of};
-ghost use Rattle.bsv_design.specs.tree.Seen.{asking, design_data};
+ghost use Rattle.bsv_design.specs.scheme.Seen.{asking, design_data};
 ghost use Rattle.bsv_design.specs.scheme.States.{AskingFits, FitsKinds};
 ghost use Rattle.bsv_serial.specs.AtHand.{clock_course, so_far};
 ghost use Rattle.bsv_serial.specs.Decider as spec;

@@ -1,6 +1,6 @@
 ghost use Rattle.std.specs.Prelude.{◌≡◌, ◌<◌, IfOk, Some, map, false, slice_get, length};
 ghost use Rattle.bsv_prim.specs.Table.{ArgsFit};
-ghost use Rattle.bsv_design.specs.tree.Kinds.{kind_table};
+ghost use Rattle.bsv_design.specs.parts.Kinds.{kind_table};
 ghost use Rattle.bsv_design.specs.scheme.States.{part_at};
 ghost use Rattle.bsv_design.specs.scheme.Schemes.{is_open, result_of};
 ghost use Rattle.bsv_design.specs.scheme.Traces.{acts};

@@ -1,5 +1,5 @@
 ghost use Rattle.std.specs.Prelude.{◌≡◌, IfOk};
-ghost use Rattle.bsv_design.specs.tree.Kinds.{kind_table};
+ghost use Rattle.bsv_design.specs.parts.Kinds.{kind_table};
 ghost use Rattle.bsv_design.specs.scheme.States as states;
 ghost use Rattle.bsv_serial.specs.Applying as spec;
 ghost use Rattle.bsv_serial.specs.AtHand.{kinds};

@@ -3,7 +3,7 @@ ghost use Rattle.std.specs.Bool.{OnTrue};
 ghost use Rattle.std.specs.List.{list_all};
 ghost use Rattle.bsv_clock.specs.Clocks as clocks;
 ghost use Rattle.bsv_design.specs.scheme.Schemes.{if_asked};
-ghost use Rattle.bsv_design.specs.tree.Seen.{asking};
+ghost use Rattle.bsv_design.specs.scheme.Seen.{asking};
 ghost use Rattle.bsv_design.specs.design.Widths.{call_named};
 ghost use Rattle.bsv_serial.specs.Making.{with_sites};
 ghost use Rattle.bsv_serial.specs.Settings as spec;

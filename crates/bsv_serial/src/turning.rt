@@ -1,6 +1,6 @@
 ghost use Rattle.std.specs.Prelude.{◌≡◌, IfOk, OnOk, OnErr};
 ghost use Rattle.bsv_design.specs.scheme.Schemes.{design_scheme, kinds_of};
-ghost use Rattle.bsv_design.specs.tree.Seen.{asking, design_data};
+ghost use Rattle.bsv_design.specs.scheme.Seen.{asking, design_data};
 ghost use Rattle.bsv_design.specs.scheme.States.{FitsKinds};
 ghost use Rattle.bsv_serial.specs.Turning as spec;
 

@@ -1,6 +1,6 @@
 ghost use Rattle.std.specs.Prelude.{◌≡◌, map, IfOk};
 ghost use Rattle.bsv_design.specs.design.Bodies.{at};
-ghost use Rattle.bsv_design.specs.carrying.Running as running;
+ghost use Rattle.bsv_design.specs.design.Words as the_words;
 
 use bsv_bits::{OutOfMemory, Word};
 use bsv_design::word_at;
@@ -8,7 +8,7 @@ use sqlite_items::Items;
 use std::alloc::Global;
 
 pub fn is_one(word: Word) -> bool
-    ensures { result ≡ running.is_one word }
+    ensures { result ≡ the_words.is_one word }
 {
     word.value() == 1
 }

@@ -9,12 +9,12 @@ use Rattle.bsv_design.specs.declared.element.Element.{Element}
 use Rattle.bsv_design.specs.declared.element.Role.TheVariants.{Rule}
 use Rattle.bsv_design.specs.declared.kind.Kind.{Kind}
 use Rattle.bsv_design.specs.declared.node.Node.TheVariants.{Constant}
-use Rattle.bsv_design.specs.declared.tree.Assert.{Assert}
-use Rattle.bsv_design.specs.declared.tree.Pair.{Pair}
+use Rattle.bsv_design.specs.declared.attributes.Assert.{Assert}
+use Rattle.bsv_design.specs.declared.attributes.Pair.{Pair}
 use Rattle.bsv_design.specs.design.Bodies.{Answers, words, words_after}
 use Rattle.bsv_design.specs.design.Branches.{AreExclusive, AreSameWhereTaken, apart}
 use Rattle.bsv_design.specs.design.Designs.{HasWidths, IsDesign, IsDotted, IsElement, IsNamed}
-use Rattle.bsv_design.specs.tree.Kinds.{kind_table}
+use Rattle.bsv_design.specs.parts.Kinds.{kind_table}
 use Rattle.bsv_design.specs.scheme.Traces.{body_trace, site_at}
 use Rattle.bsv_design.specs.design.Widths.{widths_from}
 

@@ -1,6 +1,6 @@
 ghost use Rattle.std.specs.Prelude.{◌≡◌, IfOk, true, [], ◌∷◌, codes};
 ghost use Rattle.bsv_bits.specs.Words.{bit};
-ghost use Rattle.bsv_design.specs.tree.Kinds.{kind_table};
+ghost use Rattle.bsv_design.specs.parts.Kinds.{kind_table};
 
 use bsv_bits::{Name, Word};
 use bsv_design::{Call, Design, Element, Fired, Kind, NamedPart, Node, Requests, Role, State};

@@ -2,9 +2,10 @@
 use Rattle.std.proofs.Common.{◌≡◌, ℕ, ◌+◌, false, List, [], ◌++◌, length, refl, sym, subst, arith}
 use Rattle.bsv_prim.specs.declared.part.Part.{Part}
 use Rattle.bsv_design.specs.declared.schedule.Schedule.{Schedule}
-use Rattle.bsv_design.specs.scheme.Schemes.{Scheme, Asking, tree_scheme}
+use Rattle.bsv_design.specs.scheme.Schemes.{Scheme, Asking}
+use Rattle.bsv_tree.specs.meaning.Schemes.{tree_scheme}
 use Rattle.bsv_design.specs.scheme.States.{FitsKinds, opening}
-use Rattle.bsv_design.specs.tree.Trees.{TreeData}
+use Rattle.bsv_tree.specs.tree.Trees.{TreeData}
 use Rattle.bsv_io.specs.Writing.{Writing}
 use Rattle.bsv_clock.specs.Grounds.{IsLawful, IsScheduleOf}
 use Rattle.bsv_clock.specs.Runs.{AllFit, Row, Continues, Runs}

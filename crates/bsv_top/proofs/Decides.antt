@@ -1,7 +1,7 @@
 -- What the files decide.
 use Rattle.std.proofs.Common.{◌≡◌, inl, inr, ℕ, List, subst}
 use Rattle.bsv_design.specs.declared.schedule.Schedule.{Schedule}
-use Rattle.bsv_design.specs.tree.Trees.{TreeData}
+use Rattle.bsv_tree.specs.tree.Trees.{TreeData}
 use Rattle.bsv_flow.specs.declared.loading.Loaded.{Loaded}
 use Rattle.bsv_flow.specs.declared.refusal.Refusal.{Refusal}
 use Rattle.bsv_flow.specs.Buildings.{IsProgram, IsBuilt, Rejects}

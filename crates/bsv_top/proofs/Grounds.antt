@@ -7,10 +7,11 @@ use Rattle.std.proofs.lemmas.Bool.{ltb-true}
 use Rattle.bsv_design.specs.declared.design.Design.{Design}
 use Rattle.bsv_design.specs.declared.schedule.Schedule.{Schedule}
 use Rattle.bsv_design.specs.design.Designs.{IsDesign}
-use Rattle.bsv_design.specs.scheme.Schemes.{Scheme, Asking, Outline, AreAlike, design_scheme, outline, tree_scheme}
-use Rattle.bsv_design.specs.tree.Seen.{design_data}
+use Rattle.bsv_design.specs.scheme.Schemes.{Scheme, Asking, Outline, AreAlike, design_scheme, outline}
+use Rattle.bsv_tree.specs.meaning.Schemes.{tree_scheme}
+use Rattle.bsv_design.specs.scheme.Seen.{design_data}
 use Rattle.bsv_design.specs.scheme.States.{nothing_asked, opening}
-use Rattle.bsv_design.specs.tree.Trees.{TreeData}
+use Rattle.bsv_tree.specs.tree.Trees.{TreeData}
 use Rattle.bsv_design.proofs.Asked.{nothing_fits}
 use Rattle.bsv_schedule.specs.execution_order.Orders.{Executes}
 use Rattle.bsv_schedule.specs.relating.Relating.{Relating}

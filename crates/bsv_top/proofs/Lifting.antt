@@ -6,11 +6,12 @@ use Rattle.bsv_design.specs.declared.design.Design.{Design}
 use Rattle.bsv_design.specs.declared.design.NamedPart.{NamedPart}
 use Rattle.bsv_design.specs.declared.kind.Kind.{Kind}
 use Rattle.bsv_design.specs.declared.schedule.Schedule.{Schedule}
-use Rattle.bsv_design.specs.scheme.Schemes.{Scheme, Asking, Outline, AreAlike, design_scheme, tree_scheme}
-use Rattle.bsv_design.specs.tree.Seen.{design_data}
-use Rattle.bsv_design.specs.tree.Sources.{parts_among}
+use Rattle.bsv_design.specs.scheme.Schemes.{Scheme, Asking, Outline, AreAlike, design_scheme}
+use Rattle.bsv_tree.specs.meaning.Schemes.{tree_scheme}
+use Rattle.bsv_design.specs.scheme.Seen.{design_data}
+use Rattle.bsv_tree.specs.tree.Elements.{parts_among}
 use Rattle.bsv_design.specs.scheme.States.{opening}
-use Rattle.bsv_design.specs.tree.Trees.{TreeData}
+use Rattle.bsv_tree.specs.tree.Trees.{TreeData}
 use Rattle.bsv_io.specs.Writing.{Writing, appended, AppendsPrefix}
 use Rattle.bsv_trace.specs.Texts.{clock_text, opening_text}
 use Rattle.bsv_clock.specs.Runs.{Row, Continues, Runs}

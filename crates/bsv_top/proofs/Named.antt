@@ -7,7 +7,7 @@ use Rattle.bsv_design.specs.declared.design.Design.{Design}
 use Rattle.bsv_design.specs.declared.element.Element.{Element}
 use Rattle.bsv_design.specs.declared.fired.Fired.{Fired}
 use Rattle.bsv_design.specs.scheme.Schemes.{Asking, Outline, design_scheme, kinds_of, outline}
-use Rattle.bsv_design.specs.tree.Seen.{design_data}
+use Rattle.bsv_design.specs.scheme.Seen.{design_data}
 use Rattle.bsv_trace.specs.Lines.{AsksFor}
 use Rattle.bsv_trace.specs.Texts.{clock_text, name_at}
 use Rattle.bsv_flow.specs.Breaches.{element_name, outline_name}

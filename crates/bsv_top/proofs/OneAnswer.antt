@@ -7,9 +7,10 @@ use Rattle.bsv_bits.specs.Words.{Bits}
 use Rattle.bsv_prim.specs.declared.part.Part.{Part}
 use Rattle.bsv_design.specs.declared.fired.Fired.{Fired}
 use Rattle.bsv_design.specs.declared.schedule.Schedule.{Schedule}
-use Rattle.bsv_design.specs.scheme.Schemes.{Asking, tree_scheme}
+use Rattle.bsv_design.specs.scheme.Schemes.{Asking}
+use Rattle.bsv_tree.specs.meaning.Schemes.{tree_scheme}
 use Rattle.bsv_design.specs.scheme.States.{opening}
-use Rattle.bsv_design.specs.tree.Trees.{TreeData}
+use Rattle.bsv_tree.specs.tree.Trees.{TreeData}
 use Rattle.bsv_trace.specs.Lines.{AreMethods}
 use Rattle.bsv_trace.specs.Texts.{blocked_line, clock_text, event_lines, list_line, number_line, opening_text, result_line, state_lines, stopped_line}
 use Rattle.bsv_clock.specs.Events.{TellAlike}

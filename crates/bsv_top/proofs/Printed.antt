@@ -2,7 +2,8 @@
 use Rattle.std.proofs.Common.{◌≡◌, ◌∙◌, ℕ, List, [], refl, sym, ap, subst}
 use Rattle.std.proofs.Math.Path.{fun_ext}
 use Rattle.bsv_io.specs.Writing.{Writing, appended, AppendsPrefix}
-use Rattle.bsv_design.specs.scheme.Schemes.{Outline, tree_scheme}
+use Rattle.bsv_design.specs.scheme.Schemes.{Outline}
+use Rattle.bsv_tree.specs.meaning.Schemes.{tree_scheme}
 use Rattle.std.specs.Prelude.{slice_get}
 use Rattle.bsv_trace.specs.Texts.{name_at, schedule_text}
 use Rattle.bsv_vtext.specs.AtHand as hand

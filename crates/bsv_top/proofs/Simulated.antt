@@ -3,8 +3,9 @@ use Rattle.std.proofs.Common.{◌≡◌, ◌∙◌, inl, inr, ℕ, ◌<◌, ◌�
 use Rattle.std.proofs.lemmas.Bool.{cases_lt}
 use Rattle.bsv_io.specs.Reading.{Current, Reading, bytes_given, given_of}
 use Rattle.bsv_io.specs.Writing.{Writing}
-use Rattle.bsv_design.specs.scheme.Schemes.{Outline, tree_scheme}
-use Rattle.bsv_design.specs.tree.Trees.{TreeData}
+use Rattle.bsv_design.specs.scheme.Schemes.{Outline}
+use Rattle.bsv_tree.specs.meaning.Schemes.{tree_scheme}
+use Rattle.bsv_tree.specs.tree.Trees.{TreeData}
 use Rattle.bsv_flow.specs.declared.refusal.Refusal.{Refusal}
 use Rattle.bsv_flow.specs.declared.scheduling.Compiled.{Compiled}
 use Rattle.bsv_flow.specs.Compilings.{IsCompiled, IsPlanned}

@@ -3,8 +3,9 @@
 use Rattle.std.specs.Prelude.{◌≡◌, ℕ, ◌+◌, List, [], ◌∷◌, ◌++◌, length, false, codes, decimal}
 use Rattle.bsv_types.specs.declared.typed.Typed.{Typed}
 use Rattle.bsv_design.specs.declared.schedule.Schedule.{Schedule}
-use Rattle.bsv_design.specs.scheme.Schemes.{Asking, tree_scheme}
-use Rattle.bsv_design.specs.tree.Trees.{TreeData}
+use Rattle.bsv_design.specs.scheme.Schemes.{Asking}
+use Rattle.bsv_tree.specs.meaning.Schemes.{tree_scheme}
+use Rattle.bsv_tree.specs.tree.Trees.{TreeData}
 use Rattle.bsv_trace.specs.Texts.{line_feed, schedule_text}
 use Rattle.bsv_clock.specs.Runs.{Row, Runs}
 use Rattle.bsv_vtext.specs.Signals.{VModuleData}

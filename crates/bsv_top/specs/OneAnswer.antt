@@ -2,7 +2,7 @@
 -- at most in the place of a `Syntax`.
 use Rattle.std.specs.Prelude.{◌≡◌, ℕ, List}
 use Rattle.bsv_design.specs.declared.schedule.Schedule.{Schedule}
-use Rattle.bsv_design.specs.tree.Trees.{TreeData}
+use Rattle.bsv_tree.specs.tree.Trees.{TreeData}
 use Rattle.bsv_flow.specs.Compilings.{IsPlanned}
 use Rattle.bsv_flow.specs.declared.refusal.Refusal.{Refusal}
 use Rattle.bsv_flow.specs.OneAnswer.{IsSameRefusal}

@@ -1,8 +1,9 @@
 -- How far a run has read, by the bytes that were given of the file that is current after it.
 use Rattle.std.specs.Prelude.{◌≡◌, ◌≤◌, ℕ, ◌+◌, List, length, Some}
 use Rattle.bsv_design.specs.declared.schedule.Schedule.{Schedule}
-use Rattle.bsv_design.specs.scheme.Schemes.{Asking, tree_scheme}
-use Rattle.bsv_design.specs.tree.Trees.{TreeData}
+use Rattle.bsv_design.specs.scheme.Schemes.{Asking}
+use Rattle.bsv_tree.specs.meaning.Schemes.{tree_scheme}
+use Rattle.bsv_tree.specs.tree.Trees.{TreeData}
 use Rattle.bsv_io.specs.Reading.{Reading, bytes_given, current_name}
 use Rattle.bsv_flow.specs.Compilings.{IsPlanned}
 use Rattle.bsv_flow.specs.Sources.{read_limit}

@@ -4,7 +4,7 @@ use Rattle.bsv_prim.specs.declared.part.Part.{Part}
 use Rattle.bsv_design.specs.declared.design.Design.{Design}
 use Rattle.bsv_design.specs.declared.schedule.Schedule.{Schedule}
 use Rattle.bsv_design.specs.scheme.Schemes.{Asking, Outline, kinds_of}
-use Rattle.bsv_design.specs.tree.Seen.{asking, design_data}
+use Rattle.bsv_design.specs.scheme.Seen.{asking, design_data}
 use Rattle.bsv_design.specs.scheme.States.{AskingFits, FitsKinds, opening}
 use Rattle.bsv_io.specs.Reading.{Reading, bytes_given, current_name}
 use Rattle.bsv_io.specs.Writing.{Writing, appended, AppendsPrefix}

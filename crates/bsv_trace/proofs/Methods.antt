@@ -4,7 +4,7 @@ use Rattle.std.proofs.lemmas.List.{length-map}
 use Rattle.std.proofs.lemmas.Simd.{map-map}
 use Rattle.bsv_bits.specs.Words.{Bits}
 use Rattle.bsv_design.specs.declared.element.Element.{Element}
-use Rattle.bsv_design.specs.tree.Roles.{is_rule}
+use Rattle.bsv_design.specs.design.Roles.{is_rule}
 use Rattle.bsv_design.specs.scheme.Schemes.{Asking, Outline, outline}
 use Rattle.bsv_design.specs.scheme.States.{methods_in, nothing_asked, zeros, FitMethods, AskingFits}
 use Rattle.bsv_trace.specs.Lines.{methods_among, nothing_of}

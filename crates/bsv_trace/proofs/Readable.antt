@@ -15,9 +15,9 @@ use Rattle.bsv_design.specs.declared.element.Port.{Port}
 use Rattle.bsv_design.specs.declared.element.Role.{Role}
 use Rattle.bsv_design.specs.declared.element.Role.TheVariants as role
 use Rattle.bsv_design.specs.design.Designs.{DesignData, IsDesign, IsNamed}
-use Rattle.bsv_design.specs.tree.Roles.{is_rule}
+use Rattle.bsv_design.specs.design.Roles.{is_rule}
 use Rattle.bsv_design.specs.scheme.Schemes.{Asking, Outline, outline}
-use Rattle.bsv_design.specs.tree.Seen.{design_data}
+use Rattle.bsv_design.specs.scheme.Seen.{design_data}
 use Rattle.bsv_design.specs.scheme.States.{methods_in, nothing_asked, AreWordsOf, FitMethods, AskingFits}
 use Rattle.bsv_design.specs.design.Widths.{port_fits}
 use Rattle.bsv_trace.specs.Lines.{AreArguments, MethodCall, AreCalls, IsMethod, AreMethods, AsksFor, methods_among, in_name, nothing_of, asked_with, asked_with_all}

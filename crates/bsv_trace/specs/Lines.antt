@@ -4,7 +4,7 @@ use Rattle.std.specs.Prelude.{◌≡◌, ◌≢◌, ℕ, ◌^◌, ◌<◌, ◌�
 use Rattle.std.specs.List.{list_all, join_with_byte}
 use Rattle.bsv_bits.specs.Words.{Bits}
 use Rattle.bsv_design.specs.declared.element.Port.{Port}
-use Rattle.bsv_design.specs.tree.Roles.{is_rule}
+use Rattle.bsv_design.specs.design.Roles.{is_rule}
 use Rattle.bsv_design.specs.scheme.Schemes.{Asking, Outline}
 use Rattle.bsv_design.specs.scheme.States.{zeros}
 use Rattle.bsv_design.specs.design.Widths.{port_fits}

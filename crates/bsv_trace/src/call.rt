@@ -2,7 +2,7 @@ ghost use Rattle.std.specs.Prelude.{◌≡◌, ◌+◌, ◌<◌, ◌≤◌};
 ghost use Rattle.std.specs.Prelude.{length, map, option_map, IfSome};
 ghost use Rattle.std.specs.List.{prefix_len};
 ghost use Rattle.bsv_design.specs.scheme.Schemes.{outline};
-ghost use Rattle.bsv_design.specs.tree.Seen.{asking};
+ghost use Rattle.bsv_design.specs.scheme.Seen.{asking};
 ghost use Rattle.bsv_trace.specs.Lines.{in_name};
 ghost use Rattle.bsv_trace.specs.Reading as spec;
 

@@ -1,7 +1,7 @@
 ghost use Rattle.std.specs.Prelude.{◌≡◌, ◌<◌, length, map, IsTrue, OnOk, OnErr};
 ghost use Rattle.std.specs.List.{list_all};
 ghost use Rattle.bsv_design.specs.scheme.Schemes.{Asking, outline};
-ghost use Rattle.bsv_design.specs.tree.Seen.{asking};
+ghost use Rattle.bsv_design.specs.scheme.Seen.{asking};
 ghost use Rattle.bsv_design.specs.scheme.States.{methods_in, nothing_asked, zeros, AskingFits};
 ghost use Rattle.bsv_design.specs.design.Widths.{port_fits};
 ghost use Rattle.bsv_trace.specs.Lines.{AsksFor, nothing_of};

@@ -11,7 +11,7 @@ use Rattle.bsv_design.specs.declared.element.Port.{Port}
 use Rattle.bsv_design.specs.declared.element.Role.{Role}
 use Rattle.bsv_design.specs.declared.element.Role.TheVariants as role
 use Rattle.bsv_design.specs.declared.schedule.Schedule.{Schedule}
-use Rattle.bsv_design.specs.tree.Roles.{is_rule, is_value}
+use Rattle.bsv_design.specs.design.Roles.{is_rule, is_value}
 use Rattle.bsv_design.specs.scheme.Schemes.{Scheme, Outline, Asking, Called, Look, all_hold, all_open, answers, filled, given, if_asked, ports_of, ready, seen, value}
 use Rattle.bsv_design.specs.scheme.States.{AreWordsOf, after_calls, emptied}
 use Rattle.bsv_design.specs.scheme.Traces.{Trace}

@@ -13,7 +13,7 @@ use Rattle.bsv_design.specs.declared.element.Port.{Port}
 use Rattle.bsv_design.specs.declared.schedule.Schedule.{Schedule}
 use Rattle.bsv_design.specs.design.Bodies.{at, words}
 use Rattle.bsv_design.specs.design.Designs.{DesignData, IsDesign}
-use Rattle.bsv_design.specs.tree.Roles.{is_rule, is_value, gives_value}
+use Rattle.bsv_design.specs.design.Roles.{is_rule, is_value, gives_value}
 use Rattle.bsv_design.specs.scheme.Schemes.{Scheme, Outline, AreAlike, Asking, Look, answers, design_scheme, given, kinds_of, outline, ports_of, ready, seen, trace_of, value}
 use Rattle.bsv_design.specs.scheme.States.{AreWordsOf, methods_in}
 use Rattle.bsv_design.specs.scheme.Traces.{body_trace}
@@ -47,7 +47,7 @@ use Rattle.bsv_vgen.specs.Modules.{argument_inputs, asked_input}
 use Rattle.bsv_vgen.specs.Names.{fire_wire}
 use Rattle.bsv_vgen.proofs.AskedToo.{ClockToo, asking_values, clock_too, fit_too, given_too, is_asked_too, is_value_at, ready_too, value_too}
 use Rattle.bsv_vgen.proofs.Computes.{Computes, TellsNet, input_words}
-use Rattle.bsv_design.specs.carrying.Running.{or_zero}
+use Rattle.bsv_design.specs.design.Words.{or_zero}
 
 -- ---- the words of the inputs
 

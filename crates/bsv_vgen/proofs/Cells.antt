@@ -9,7 +9,7 @@ use Rattle.bsv_prim.specs.declared.primitive.RegisterInfo.{RegisterInfo}
 use Rattle.bsv_design.specs.declared.design.NamedPart.{NamedPart}
 use Rattle.bsv_design.specs.declared.kind.Kind.{Kind}
 use Rattle.bsv_design.specs.declared.kind.Kind.TheVariants.{Reg, RegU, Wire, DWire, RWire, Pulse, Plain, Pipeline, Bypass}
-use Rattle.bsv_design.specs.tree.Kinds.{kind_table}
+use Rattle.bsv_design.specs.parts.Kinds.{kind_table}
 use Rattle.bsv_graph.specs.Edges.{numbers_below}
 use Rattle.bsv_clock.specs.Shows as carrying
 use Rattle.bsv_clock.specs.Shows.{Cell, cell_of, cells_in, cells_of}

@@ -3,7 +3,7 @@
 use Rattle.std.proofs.Common.{◌≡◌, ℕ, Bool, true, false, List, map, slice_get, Some}
 use Rattle.bsv_bits.specs.Words.{Bits}
 use Rattle.bsv_design.specs.design.Designs.{DesignData}
-use Rattle.bsv_design.specs.tree.Roles.{is_rule, is_value, gives_value}
+use Rattle.bsv_design.specs.design.Roles.{is_rule, is_value, gives_value}
 use Rattle.bsv_design.specs.declared.element.Element.{Element}
 use Rattle.bsv_guard.specs.Fitting.{HaveWidths}
 use Rattle.bsv_net.specs.declared.net_data.NetData.{NetData}
@@ -16,7 +16,7 @@ use Rattle.bsv_vtext.specs.VClock.{Inputs, Nets, VClock, atom_word}
 use Rattle.bsv_vgen.specs.declared.known.Known.{Known}
 use Rattle.bsv_vgen.specs.ShowsByModule.{TellsFire}
 use Rattle.bsv_vgen.specs.Modules.{inputs}
-use Rattle.bsv_design.specs.carrying.Running.{or_zero}
+use Rattle.bsv_design.specs.design.Words.{or_zero}
 
 -- the words of the inputs of a net, where atoms have these words
 abbrev pub input_words : (Atom → Bits) → List Known → List Bits

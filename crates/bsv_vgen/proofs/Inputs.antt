@@ -7,7 +7,7 @@ use Rattle.bsv_bits.specs.Words.{bit}
 use Rattle.bsv_design.specs.declared.element.Element.{Element}
 use Rattle.bsv_design.specs.declared.element.Port.{Port}
 use Rattle.bsv_design.specs.declared.element.Role.{Role}
-use Rattle.bsv_design.specs.tree.Roles.{is_rule, is_value}
+use Rattle.bsv_design.specs.design.Roles.{is_rule, is_value}
 use Rattle.bsv_design.specs.scheme.Schemes.{outline}
 use Rattle.bsv_design.specs.scheme.States.{methods_in}
 use Rattle.bsv_clock.specs.Shows.{input_widths_of}

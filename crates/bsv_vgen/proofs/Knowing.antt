@@ -8,7 +8,7 @@ use Rattle.bsv_bits.specs.Words.{Bits, bit, word_not}
 use Rattle.bsv_bits.specs.declared.operator.Operator.{Operator}
 use Rattle.bsv_bits.specs.declared.operator.Operator.TheVariants as operator
 use Rattle.bsv_prim.specs.Table.{IsWordOf}
-use Rattle.bsv_design.specs.carrying.Computing.{word, sliced}
+use Rattle.bsv_design.specs.design.Computing.{word, sliced}
 use Rattle.bsv_design.specs.design.Widths as widths
 use Rattle.bsv_design.specs.design.Widths.{if_width, gives_bit, word_width, pick_width, slice_width, join_width, extend_width}
 use Rattle.bsv_guard.proofs.Nodes.{where_width}

@@ -8,7 +8,7 @@ use Rattle.bsv_design.specs.declared.element.Element.{Element}
 use Rattle.bsv_design.specs.declared.element.Role.{Role}
 use Rattle.bsv_design.specs.declared.element.Role.TheVariants as role
 use Rattle.bsv_design.specs.design.Designs.{DesignData, IsDesign}
-use Rattle.bsv_design.specs.tree.Roles.{is_rule, gives_value}
+use Rattle.bsv_design.specs.design.Roles.{is_rule, gives_value}
 use Rattle.bsv_design.specs.scheme.Schemes.{outline}
 use Rattle.bsv_design.specs.scheme.States.{methods_in}
 use Rattle.bsv_net.specs.declared.net_data.NetData.{NetData}

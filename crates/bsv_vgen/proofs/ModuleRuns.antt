@@ -12,7 +12,7 @@ use Rattle.bsv_prim.specs.Table.{IsWordOf}
 use Rattle.bsv_prim.specs.declared.part.Part.{Part}
 use Rattle.bsv_design.specs.declared.element.Port.{Port}
 use Rattle.bsv_design.specs.declared.schedule.Schedule.{Schedule}
-use Rattle.bsv_design.specs.tree.Roles.{is_rule}
+use Rattle.bsv_design.specs.design.Roles.{is_rule}
 use Rattle.bsv_design.specs.scheme.Schemes.{Scheme, Asking, Outline, given, ports_of}
 use Rattle.bsv_design.specs.scheme.States.{AreWordsOf, FitsKinds, opening}
 use Rattle.bsv_graph.specs.Edges.{numbers_below}

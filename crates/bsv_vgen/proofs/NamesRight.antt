@@ -13,7 +13,7 @@ use Rattle.bsv_design.specs.declared.element.Element.{Element}
 use Rattle.bsv_design.specs.declared.element.Role.{Role}
 use Rattle.bsv_design.specs.declared.element.Role.TheVariants as role
 use Rattle.bsv_design.specs.design.Designs.{DesignData, IsDesign, IsNamed}
-use Rattle.bsv_design.specs.tree.Roles.{is_rule, is_value}
+use Rattle.bsv_design.specs.design.Roles.{is_rule, is_value}
 use Rattle.bsv_design.specs.scheme.Schemes.{Outline, outline}
 use Rattle.bsv_design.specs.design.Widths.{port_fits}
 use Rattle.bsv_vtext.specs.declared.tree.VMethod.{VMethod}

@@ -11,7 +11,7 @@ use Rattle.bsv_prim.specs.Signals.{is_one}
 use Rattle.bsv_prim.specs.Table.{IsWordOf}
 use Rattle.bsv_prim.specs.declared.primitive.RegisterInfo.{RegisterInfo}
 use Rattle.bsv_design.specs.design.Bodies.{at}
-use Rattle.bsv_design.specs.carrying.Running.{or_zero}
+use Rattle.bsv_design.specs.design.Words.{or_zero}
 use Rattle.bsv_design.specs.design.Widths.{node_width, widths_from}
 use Rattle.bsv_design.specs.declared.element.Port.{Port}
 use Rattle.bsv_guard.proofs.Nodes.{chained}

@@ -8,7 +8,7 @@ use Rattle.std.proofs.lemmas.List.{length-append}
 use Rattle.std.proofs.lemmas.Option.{same_Some}
 use Rattle.std.proofs.lemmas.Slice.Eq.{bytes_eq-Decides}
 use Rattle.bsv_graph.specs.Edges.{numbers_below}
-use Rattle.bsv_design.specs.tree.Roles.{is_value}
+use Rattle.bsv_design.specs.design.Roles.{is_value}
 use Rattle.bsv_design.specs.scheme.Schemes.{Outline}
 use Rattle.bsv_vtext.specs.declared.tree.VWire.{VWire}
 use Rattle.bsv_vgen.specs.Names.{numbered_wire, numbered_from, fire_wire, fire_wires}

@@ -8,7 +8,7 @@ use Rattle.bsv_design.specs.declared.kind.Kind.{Kind}
 use Rattle.bsv_design.specs.declared.schedule.Schedule.{Schedule}
 use Rattle.bsv_design.specs.design.Designs.{DesignData, IsDesign}
 use Rattle.bsv_design.specs.scheme.Schemes.{Scheme, AreAlike, Outline, design_scheme, kinds_of, outline}
-use Rattle.bsv_design.specs.tree.Seen.{design_data}
+use Rattle.bsv_design.specs.scheme.Seen.{design_data}
 use Rattle.bsv_clock.specs.Shows as carrying
 use Rattle.bsv_clock.specs.Shows.{cells_of, input_widths, input_widths_of}
 use Rattle.bsv_clock.specs.Grounds.{IsLawful, IsScheduleOf}

@@ -8,7 +8,7 @@ use Rattle.bsv_prim.specs.Table.{word_at}
 use Rattle.bsv_prim.specs.declared.part.Part.{Part}
 use Rattle.bsv_design.specs.declared.kind.Kind.{Kind}
 use Rattle.bsv_design.specs.declared.kind.Kind.TheVariants.{Reg, RegU, Wire, DWire, RWire, Pulse, Plain, Pipeline, Bypass}
-use Rattle.bsv_design.specs.tree.Kinds.{kind_table, kind_laws}
+use Rattle.bsv_design.specs.parts.Kinds.{kind_table, kind_laws}
 use Rattle.bsv_design.specs.scheme.States.{FitsKinds, opening}
 use Rattle.bsv_graph.specs.Edges.{numbers_below}
 use Rattle.bsv_guard.specs.Fitting.{HaveWidths}

@@ -8,7 +8,7 @@ use Rattle.bsv_bits.specs.Words.{Bits, bit, word_concat, word_less, word_same, w
 use Rattle.bsv_bits.specs.declared.operator.Operator.{Operator}
 use Rattle.bsv_bits.specs.declared.operator.Operator.TheVariants as bits
 use Rattle.bsv_prim.specs.Table.{IsWordOf}
-use Rattle.bsv_design.specs.carrying.Computing as computing
+use Rattle.bsv_design.specs.design.Computing as computing
 use Rattle.bsv_design.specs.design.Widths.{gives_bit, if_width}
 use Rattle.bsv_guard.proofs.Words.{join_fits, not_fits, pick_fits, slice_fits, two_fits}
 use Rattle.bsv_vtext.specs.declared.tree.Atom.{Atom}

@@ -8,7 +8,7 @@ use Rattle.bsv_bits.specs.Signed.{word_less_signed, word_sign_extend}
 use Rattle.bsv_bits.specs.declared.operator.Operator.{Operator}
 use Rattle.bsv_bits.specs.declared.operator.Operator.TheVariants as operator
 use Rattle.bsv_prim.specs.Table.{IsWordOf}
-use Rattle.bsv_design.specs.carrying.Computing.{sliced}
+use Rattle.bsv_design.specs.design.Computing.{sliced}
 use Rattle.bsv_vtext.specs.declared.tree.Assign.{Assign}
 use Rattle.bsv_vtext.specs.declared.tree.Atom.{Atom}
 use Rattle.bsv_vtext.specs.declared.tree.Atom.TheVariants as atom

@@ -9,7 +9,7 @@ use Rattle.bsv_lemmas.proofs.Lists.{same_head, same_tail}
 use Rattle.bsv_ast.specs.Names.{is_lower, begins_name, is_word, is_capital}
 use Rattle.bsv_ast.proofs.Names.{begins_small, begins_word, word_no_dollar, word_no_dot, lower_words, lower_small}
 use Rattle.bsv_design.specs.design.Designs.{IsDotted}
-use Rattle.bsv_design.specs.tree.Trees.{joined}
+use Rattle.bsv_design.specs.design.Paths.{joined}
 use Rattle.bsv_vtext.specs.Modules.{is_name_byte}
 use Rattle.bsv_vgen.specs.Names.{written, verilog_name}
 

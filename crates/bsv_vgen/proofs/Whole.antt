@@ -16,10 +16,10 @@ use Rattle.bsv_prim.specs.declared.primitive.RegisterInfo.{RegisterInfo}
 use Rattle.bsv_design.specs.declared.element.Element.{Element}
 use Rattle.bsv_design.specs.design.Bodies.{at}
 use Rattle.bsv_design.specs.design.Designs.{DesignData, IsDesign}
-use Rattle.bsv_design.specs.carrying.Running as running
+use Rattle.bsv_design.specs.design.Words as the_words
 use Rattle.bsv_design.specs.declared.element.Role.{Role}
 use Rattle.bsv_design.specs.declared.element.Role.TheVariants as role
-use Rattle.bsv_design.specs.tree.Roles.{is_rule, is_value, gives_value}
+use Rattle.bsv_design.specs.design.Roles.{is_rule, is_value, gives_value}
 use Rattle.bsv_design.specs.scheme.Schemes.{Outline, outline}
 use Rattle.bsv_design.specs.scheme.States.{methods_in}
 use Rattle.bsv_design.specs.design.Widths.{has_width}
@@ -66,7 +66,7 @@ use Rattle.bsv_vgen.proofs.Outputs.{IsOutput, IsOutputIn, IsPlaced, ready, resul
 use Rattle.bsv_vgen.proofs.NamesApart.{apart}
 use Rattle.bsv_vgen.proofs.NamesRight.{name_right, method_right, argument_right, register_right, wire_right, wire_fires, fires}
 use Rattle.bsv_vgen.proofs.Told.{Solved}
-use Rattle.bsv_design.specs.carrying.Running.{or_zero}
+use Rattle.bsv_design.specs.design.Words.{or_zero}
 use Rattle.bsv_clock.proofs.Propositions.{bits_set}
 
 -- ---- the widths of a net
@@ -495,7 +495,7 @@ module _ (b : DesignData) (c : NetData)
               let past : length right.widths ≤ p = none_past right.widths p e in
               let none : slice_get ks p ≡ None = slice_get_past ks p (let s = (nodes_are right).knows.as_many in omega (arith, s, past)) in
               let end : slice_get values p ≡ None = slice_get_past values p (let s = same_length right.widths values (words_have c right vs ws have hold) in omega (arith, s, past)) in
-              ap (λ (o : Option Known). word (or_nothing o).atom) none ∙ sym (ap running.or_zero end)
+              ap (λ (o : Option Known). word (or_nothing o).atom) none ∙ sym (ap the_words.or_zero end)
 
     word_told : (p : ℕ) → word (known_at ks p).atom ≡ at values p
     word_told p = ∥∥₁_elim ordered_net (bits_set _ _) (λ (right : IsNet c). known_told right p)

@@ -2,7 +2,7 @@
 use Rattle.std.specs.Prelude.{◌≡◌, ℕ, false, not, List, ◌++◌, map, slice_get, Some, is_some}
 use Rattle.bsv_design.specs.declared.design.NamedPart.{NamedPart}
 use Rattle.bsv_design.specs.declared.element.Port.{Port}
-use Rattle.bsv_design.specs.tree.Roles.{is_rule, is_value, gives_value}
+use Rattle.bsv_design.specs.design.Roles.{is_rule, is_value, gives_value}
 use Rattle.bsv_design.specs.scheme.Schemes.{Outline}
 use Rattle.bsv_clock.specs.Shows.{Cell, cells_of}
 use Rattle.bsv_vtext.specs.declared.tree.VMethod.{VMethod}

@@ -5,7 +5,7 @@ use Rattle.bsv_bits.specs.declared.operator.Operator.{Operator}
 use Rattle.bsv_bits.specs.declared.operator.Operator.TheVariants as operator
 use Rattle.bsv_bits.specs.Words.{Bits, bit, word_not}
 use Rattle.bsv_prim.specs.declared.primitive.RegisterInfo.{RegisterInfo}
-use Rattle.bsv_design.specs.carrying.Computing.{word, sliced}
+use Rattle.bsv_design.specs.design.Computing.{word, sliced}
 use Rattle.bsv_design.specs.design.Widths.{gives_bit}
 use Rattle.bsv_net.specs.declared.node.NetNode.{NetNode}
 use Rattle.bsv_net.specs.declared.node.NetNode.TheVariants as net

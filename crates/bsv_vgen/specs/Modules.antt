@@ -6,7 +6,7 @@ use Rattle.bsv_design.specs.declared.element.Element.{Element}
 use Rattle.bsv_design.specs.declared.element.Port.{Port}
 use Rattle.bsv_design.specs.declared.element.Role.{Role}
 use Rattle.bsv_design.specs.design.Designs.{DesignData}
-use Rattle.bsv_design.specs.tree.Roles.{is_value, gives_value}
+use Rattle.bsv_design.specs.design.Roles.{is_value, gives_value}
 use Rattle.bsv_design.specs.scheme.States.{methods_in}
 use Rattle.bsv_net.specs.declared.net_data.NetData.{NetData}
 use Rattle.bsv_vtext.specs.declared.tree.Assign.{Assign}

@@ -5,7 +5,7 @@ use Rattle.bsv_bits.specs.Words.{Bits}
 use Rattle.bsv_prim.specs.declared.part.Part.{Part}
 use Rattle.bsv_design.specs.declared.kind.Kind.{Kind}
 use Rattle.bsv_design.specs.declared.kind.Kind.TheVariants.{RegU}
-use Rattle.bsv_design.specs.tree.Kinds.{kind_table}
+use Rattle.bsv_design.specs.parts.Kinds.{kind_table}
 use Rattle.bsv_design.specs.scheme.States.{FitsKinds, opening}
 use Rattle.bsv_guard.specs.Fitting.{HaveWidths}
 use Rattle.bsv_clock.specs.Shows.{Shows, cell_widths, cells_of}

@@ -2,7 +2,7 @@ ghost use Rattle.std.specs.Prelude.{◌≡◌, ◌^◌, nat_lt, Bool, IsTrue, le
 ghost use Rattle.bsv_clock.specs.Shows.{cell, cells_of, input_widths};
 ghost use Rattle.bsv_clock.specs.Grounds.{IsLawful, IsScheduleOf};
 ghost use Rattle.bsv_design.specs.scheme.Schemes.{Scheme, AreAlike, design_scheme, kinds_of, outline};
-ghost use Rattle.bsv_design.specs.tree.Seen.{design_data};
+ghost use Rattle.bsv_design.specs.scheme.Seen.{design_data};
 ghost use Rattle.bsv_design.specs.declared.schedule.Schedule.{Schedule};
 ghost use Rattle.bsv_net.specs.ShowsByNet.{WordsCarry};
 ghost use Rattle.bsv_net.specs.AtHand.{net_data};

@@ -8,7 +8,7 @@ use Rattle.bsv_design.specs.declared.element.Role.{Role}
 use Rattle.bsv_design.specs.declared.element.Role.TheVariants as role
 use Rattle.bsv_design.specs.declared.kind.Kind.{Kind}
 use Rattle.bsv_design.specs.design.Designs.{HasWidths}
-use Rattle.bsv_design.specs.tree.Roles.{gives_value, is_value}
+use Rattle.bsv_design.specs.design.Roles.{gives_value, is_value}
 use Rattle.bsv_design.specs.design.Widths.{widths_from, call_fits, condition_fits, port_fits, result_fits}
 use Rattle.bsv_widths.specs.Fitting.{fits}
 

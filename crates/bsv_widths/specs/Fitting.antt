@@ -3,7 +3,7 @@ use Rattle.std.specs.Prelude.{ℕ, Bool, ◌&&◌, List}
 use Rattle.std.specs.List.{list_all}
 use Rattle.bsv_design.specs.declared.element.Element.{Element}
 use Rattle.bsv_design.specs.declared.kind.Kind.{Kind}
-use Rattle.bsv_design.specs.tree.Roles.{gives_value}
+use Rattle.bsv_design.specs.design.Roles.{gives_value}
 use Rattle.bsv_design.specs.design.Widths.{call_fits, condition_fits, port_fits, result_fits}
 
 -- calls, conditions, the result and the arguments have the widths that they need

@@ -1,7 +1,7 @@
 ghost use Rattle.std.specs.Prelude.{◌≡◌, ◌<◌, map, slice_get};
 ghost use Rattle.std.specs.List.{list_all};
 ghost use Rattle.std.specs.Option.{option_copied};
-ghost use Rattle.bsv_design.specs.tree.Kinds.{kind_table};
+ghost use Rattle.bsv_design.specs.parts.Kinds.{kind_table};
 ghost use Rattle.bsv_design.specs.design.Widths as spec;
 
 use crate::methods::{acts, answer_width};

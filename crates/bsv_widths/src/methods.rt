@@ -1,6 +1,6 @@
 ghost use Rattle.std.specs.Prelude.{◌≡◌};
 ghost use Rattle.bsv_fifo.specs.Queues.{queue_method, queue_result_width};
-ghost use Rattle.bsv_design.specs.tree.Kinds.{kind_table};
+ghost use Rattle.bsv_design.specs.parts.Kinds.{kind_table};
 
 use bsv_design::Kind;
 use bsv_prim::Primitive;

@@ -1,15 +1,15 @@
 -- Where arms join, the same comes out from less weight.
 use Rattle.std.proofs.Common.{ℕ, List, [], ◌∷◌, length, refl}
 use Rattle.bsv_types.specs.declared.definitions.Param.{Param}
-use Rattle.bsv_design.specs.declared.steps.Arm.{Arm}
-use Rattle.bsv_design.specs.declared.values.Count.{Count}
-use Rattle.bsv_design.specs.declared.values.Local.{Local}
-use Rattle.bsv_design.specs.declared.values.Pending.{Pending}
-use Rattle.bsv_design.specs.declared.values.Value.{Value}
-use Rattle.bsv_design.specs.declared.values.Work.{Work}
-use Rattle.bsv_design.specs.carrying.Arms as arms
-use Rattle.bsv_design.specs.carrying.Working.{at_count}
-use Rattle.bsv_design.specs.carrying.Carrying as carrying
+use Rattle.bsv_tree.specs.declared.steps.Arm.{Arm}
+use Rattle.bsv_tree.specs.declared.values.Count.{Count}
+use Rattle.bsv_tree.specs.declared.values.Local.{Local}
+use Rattle.bsv_tree.specs.declared.values.Pending.{Pending}
+use Rattle.bsv_tree.specs.declared.values.Value.{Value}
+use Rattle.bsv_tree.specs.declared.values.Work.{Work}
+use Rattle.bsv_tree.specs.carrying.Arms as arms
+use Rattle.bsv_tree.specs.carrying.Working.{at_count}
+use Rattle.bsv_tree.specs.carrying.Carrying as carrying
 use Rattle.bsv_carry.proofs.StaysAccepted.SideBySide.{Into, into_then, into_if, raised, heavier, at_raised, both_raised, at_heavier, fresh_over, give_over}
 
 module _ (d : ℕ) where

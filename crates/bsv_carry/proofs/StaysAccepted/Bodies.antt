@@ -8,17 +8,18 @@ use Rattle.bsv_types.specs.declared.definitions.Body.TheVariants as body
 use Rattle.bsv_types.specs.declared.expressions.Expr.{Expr}
 use Rattle.bsv_types.specs.declared.modules.Method.{Method}
 use Rattle.bsv_types.specs.declared.statements.Stmt.{Stmt}
-use Rattle.bsv_design.specs.declared.steps.MethodPlace.{MethodPlace}
-use Rattle.bsv_design.specs.declared.tree.Instance.{Instance}
-use Rattle.bsv_design.specs.declared.values.Count.{Count}
-use Rattle.bsv_design.specs.declared.values.Local.{Local}
-use Rattle.bsv_design.specs.declared.values.Value.{Value}
-use Rattle.bsv_design.specs.declared.values.Work.{Work}
-use Rattle.bsv_design.specs.carrying.Calls.{Context, Callee, Caller}
-use Rattle.bsv_design.specs.carrying.Frames.{no_variables}
-use Rattle.bsv_design.specs.carrying.Values.{is_true}
-use Rattle.bsv_design.specs.carrying.Working.{no_steps, at_count}
-use Rattle.bsv_design.specs.carrying.Carrying as carrying
+use Rattle.bsv_tree.specs.declared.steps.MethodPlace.{MethodPlace}
+use Rattle.bsv_tree.specs.declared.tree.Instance.{Instance}
+use Rattle.bsv_tree.specs.declared.values.Count.{Count}
+use Rattle.bsv_tree.specs.declared.values.Local.{Local}
+use Rattle.bsv_tree.specs.declared.values.Value.{Value}
+use Rattle.bsv_tree.specs.declared.values.Work.{Work}
+use Rattle.bsv_tree.specs.tree.Contexts.{Context, Callee}
+use Rattle.bsv_tree.specs.carrying.Calls.{Caller}
+use Rattle.bsv_tree.specs.carrying.Frames.{no_variables}
+use Rattle.bsv_tree.specs.carrying.Values.{is_true}
+use Rattle.bsv_tree.specs.carrying.Working.{no_steps, at_count}
+use Rattle.bsv_tree.specs.carrying.Carrying as carrying
 use Rattle.bsv_carry.proofs.StaysAccepted.SideBySide.{Into, into_then, into_if, raised, heavier, at_heavier}
 use Rattle.bsv_carry.proofs.StaysAccepted.Arms.{parameters_over}
 use Rattle.bsv_carry.specs.StaysAccepted.{Grows, over}

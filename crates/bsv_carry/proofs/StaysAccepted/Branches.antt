@@ -2,18 +2,19 @@
 use Rattle.std.proofs.Common.{ℕ, List, [], ◌∷◌, Option, Some, None, refl}
 use Rattle.bsv_types.specs.declared.statements.Condition.{Condition}
 use Rattle.bsv_types.specs.declared.statements.Condition.TheVariants as condition
-use Rattle.bsv_design.specs.declared.tree.Instance.{Instance}
-use Rattle.bsv_design.specs.declared.values.Count.{Count}
-use Rattle.bsv_design.specs.declared.values.Local.{Local}
-use Rattle.bsv_design.specs.declared.values.Pending.{Pending}
-use Rattle.bsv_design.specs.declared.values.Value.{Value}
-use Rattle.bsv_design.specs.declared.values.Work.{Work}
-use Rattle.bsv_design.specs.carrying.Calls.{Context, Caller}
-use Rattle.bsv_design.specs.carrying.Frames.{untouched}
-use Rattle.bsv_design.specs.carrying.Values.{is_static, is_true}
-use Rattle.bsv_design.specs.carrying.Working.{no_steps, at_count}
-use Rattle.bsv_design.specs.carrying.Carrying as carrying
-use Rattle.bsv_design.specs.carrying.Carrying.{Acts, Branched, Test}
+use Rattle.bsv_tree.specs.declared.tree.Instance.{Instance}
+use Rattle.bsv_tree.specs.declared.values.Count.{Count}
+use Rattle.bsv_tree.specs.declared.values.Local.{Local}
+use Rattle.bsv_tree.specs.declared.values.Pending.{Pending}
+use Rattle.bsv_tree.specs.declared.values.Value.{Value}
+use Rattle.bsv_tree.specs.declared.values.Work.{Work}
+use Rattle.bsv_tree.specs.tree.Contexts.{Context}
+use Rattle.bsv_tree.specs.carrying.Calls.{Caller}
+use Rattle.bsv_tree.specs.carrying.Frames.{untouched}
+use Rattle.bsv_tree.specs.carrying.Values.{is_static, is_true}
+use Rattle.bsv_tree.specs.carrying.Working.{no_steps, at_count}
+use Rattle.bsv_tree.specs.carrying.Carrying as carrying
+use Rattle.bsv_tree.specs.carrying.Carrying.{Acts, Branched, Test}
 use Rattle.bsv_carry.proofs.StaysAccepted.SideBySide.{Into, into_then, into_if, raised, heavier, at_raised, at_heavier, both_heavier, sliced_over}
 use Rattle.bsv_carry.proofs.StaysAccepted.Arms.{close_over}
 use Rattle.bsv_carry.specs.StaysAccepted.{Grows, over}

@@ -8,20 +8,23 @@ use Rattle.bsv_types.specs.declared.operators.Op.{Op}
 use Rattle.bsv_types.specs.declared.types.PartTy.{PartTy}
 use Rattle.bsv_types.specs.Kinds.{Kind as Sort}
 use Rattle.bsv_design.specs.declared.kind.Kind.{Kind}
-use Rattle.bsv_design.specs.declared.tree.Built.{Built}
-use Rattle.bsv_design.specs.declared.tree.Instance.{Instance}
-use Rattle.bsv_design.specs.declared.tree.Made.{Made}
-use Rattle.bsv_design.specs.declared.tree.Made.TheVariants as made
-use Rattle.bsv_design.specs.declared.values.Count.{Count}
-use Rattle.bsv_design.specs.declared.values.Local.{Local}
-use Rattle.bsv_design.specs.declared.values.Value.{Value}
-use Rattle.bsv_design.specs.declared.values.Work.{Work}
-use Rattle.bsv_design.specs.carrying.Calls as calls
-use Rattle.bsv_design.specs.carrying.Calls.{Context, Caller, made_of, part_method, static_fault}
-use Rattle.bsv_design.specs.carrying.Working.{at_count}
-use Rattle.bsv_design.specs.carrying.Operated as operated
-use Rattle.bsv_design.specs.carrying.Carrying as carrying
-use Rattle.bsv_design.specs.carrying.Carrying.{Carried, Placing, first_type}
+use Rattle.bsv_tree.specs.declared.tree.Built.{Built}
+use Rattle.bsv_tree.specs.declared.tree.Instance.{Instance}
+use Rattle.bsv_tree.specs.declared.tree.Made.{Made}
+use Rattle.bsv_tree.specs.declared.tree.Made.TheVariants as made
+use Rattle.bsv_tree.specs.declared.values.Count.{Count}
+use Rattle.bsv_tree.specs.declared.values.Local.{Local}
+use Rattle.bsv_tree.specs.declared.values.Value.{Value}
+use Rattle.bsv_tree.specs.declared.values.Work.{Work}
+use Rattle.bsv_tree.specs.carrying.Calls as calls
+use Rattle.bsv_tree.specs.tree.Contexts as contexts
+use Rattle.bsv_tree.specs.tree.Contexts.{Context, made_of}
+use Rattle.bsv_tree.specs.carrying.Calls.{Caller, static_fault}
+use Rattle.bsv_tree.specs.tree.Methods.{part_method}
+use Rattle.bsv_tree.specs.carrying.Working.{at_count}
+use Rattle.bsv_tree.specs.carrying.Operated as operated
+use Rattle.bsv_tree.specs.carrying.Carrying as carrying
+use Rattle.bsv_tree.specs.carrying.Carrying.{Carried, Placing, first_type}
 use Rattle.bsv_carry.proofs.StaysAccepted.SideBySide.{Into, into_then, into_same, raised, heavier, both_heavier, at_heavier, counted_over, give_over}
 use Rattle.bsv_carry.proofs.StaysAccepted.Operators.{applied_over}
 use Rattle.bsv_carry.specs.StaysAccepted.{Stays, Grows, over}
@@ -156,4 +159,4 @@ module _ (d : ℕ) (is : List Instance) (call next : Caller) (s : Context) (grow
   unfolding calls.variable
   variable_into level vs =
       into_same (calls.in_module (static_fault s) (slice_get s.bindings level)
-      (calls.in_body (static_fault s) (slice_get vs (calls.place_in_body s level))))
+      (calls.in_body (static_fault s) (slice_get vs (contexts.place_in_body s level))))

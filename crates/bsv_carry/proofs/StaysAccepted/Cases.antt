@@ -4,20 +4,21 @@ use Rattle.std.specs.Prelude.{not}
 use Rattle.bsv_types.specs.declared.operators.Op.TheVariants as op
 use Rattle.bsv_types.specs.declared.statements.Head.{Head}
 use Rattle.bsv_types.specs.Kinds.{integer}
-use Rattle.bsv_design.specs.declared.tree.Instance.{Instance}
-use Rattle.bsv_design.specs.declared.values.Constant.TheVariants as constant
-use Rattle.bsv_design.specs.declared.values.Count.{Count}
-use Rattle.bsv_design.specs.declared.values.Local.{Local}
-use Rattle.bsv_design.specs.declared.values.Pending.{Pending}
-use Rattle.bsv_design.specs.declared.values.Value.{Value}
-use Rattle.bsv_design.specs.declared.values.Value.TheVariants as value
-use Rattle.bsv_design.specs.declared.values.Work.{Work}
-use Rattle.bsv_design.specs.carrying.Calls.{Context, Caller, static_fault, place_in_body}
-use Rattle.bsv_design.specs.carrying.Frames.{untouched}
-use Rattle.bsv_design.specs.carrying.Values.{is_static, is_true}
-use Rattle.bsv_design.specs.carrying.Working.{no_steps, at_count}
-use Rattle.bsv_design.specs.carrying.Carrying as carrying
-use Rattle.bsv_design.specs.carrying.Carrying.{Carry, Acts, Labelled}
+use Rattle.bsv_tree.specs.declared.tree.Instance.{Instance}
+use Rattle.bsv_tree.specs.declared.values.Constant.TheVariants as constant
+use Rattle.bsv_tree.specs.declared.values.Count.{Count}
+use Rattle.bsv_tree.specs.declared.values.Local.{Local}
+use Rattle.bsv_tree.specs.declared.values.Pending.{Pending}
+use Rattle.bsv_tree.specs.declared.values.Value.{Value}
+use Rattle.bsv_tree.specs.declared.values.Value.TheVariants as value
+use Rattle.bsv_tree.specs.declared.values.Work.{Work}
+use Rattle.bsv_tree.specs.tree.Contexts.{Context, place_in_body}
+use Rattle.bsv_tree.specs.carrying.Calls.{Caller, static_fault}
+use Rattle.bsv_tree.specs.carrying.Frames.{untouched}
+use Rattle.bsv_tree.specs.carrying.Values.{is_static, is_true}
+use Rattle.bsv_tree.specs.carrying.Working.{no_steps, at_count}
+use Rattle.bsv_tree.specs.carrying.Carrying as carrying
+use Rattle.bsv_tree.specs.carrying.Carrying.{Carry, Acts, Labelled}
 use Rattle.bsv_carry.proofs.StaysAccepted.SideBySide.{Into, into_then, into_if, raised, heavier, at_raised, at_heavier, both_heavier, between_over}
 use Rattle.bsv_carry.proofs.StaysAccepted.Operators.{two_over}
 use Rattle.bsv_carry.proofs.StaysAccepted.Arms.{close_over}

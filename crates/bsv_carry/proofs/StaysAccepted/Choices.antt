@@ -2,18 +2,19 @@
 use Rattle.std.proofs.Common.{ℕ, List, [], ◌∷◌, Option, Some, None, refl}
 use Rattle.std.specs.Prelude.{slice_get}
 use Rattle.bsv_types.specs.Kinds.{Kind as Sort, integer}
-use Rattle.bsv_design.specs.declared.steps.Arm.{Arm}
-use Rattle.bsv_design.specs.declared.tree.Instance.{Instance}
-use Rattle.bsv_design.specs.declared.values.Count.{Count}
-use Rattle.bsv_design.specs.declared.values.Fault.{Fault}
-use Rattle.bsv_design.specs.declared.values.Local.{Local}
-use Rattle.bsv_design.specs.declared.values.Value.{Value}
-use Rattle.bsv_design.specs.declared.values.Work.{Work}
-use Rattle.bsv_design.specs.carrying.Calls.{Context, Caller, placed, placed_at, static_fault}
-use Rattle.bsv_design.specs.carrying.Values.{is_static, is_true}
-use Rattle.bsv_design.specs.carrying.Working.{no_steps, at_count}
-use Rattle.bsv_design.specs.carrying.Carrying as carrying
-use Rattle.bsv_design.specs.carrying.Carrying.{Carried}
+use Rattle.bsv_tree.specs.declared.steps.Arm.{Arm}
+use Rattle.bsv_tree.specs.declared.tree.Instance.{Instance}
+use Rattle.bsv_tree.specs.declared.values.Count.{Count}
+use Rattle.bsv_tree.specs.declared.values.Fault.{Fault}
+use Rattle.bsv_tree.specs.declared.values.Local.{Local}
+use Rattle.bsv_tree.specs.declared.values.Value.{Value}
+use Rattle.bsv_tree.specs.declared.values.Work.{Work}
+use Rattle.bsv_tree.specs.tree.Contexts.{Context}
+use Rattle.bsv_tree.specs.carrying.Calls.{Caller, placed, placed_at, static_fault}
+use Rattle.bsv_tree.specs.carrying.Values.{is_static, is_true}
+use Rattle.bsv_tree.specs.carrying.Working.{no_steps, at_count}
+use Rattle.bsv_tree.specs.carrying.Carrying as carrying
+use Rattle.bsv_tree.specs.carrying.Carrying.{Carried}
 use Rattle.bsv_carry.proofs.StaysAccepted.SideBySide.{Into, into_then, into_if, into_same, raised, heavier, at_raised, at_heavier, tick_over}
 use Rattle.bsv_carry.proofs.StaysAccepted.Arms.{value_choice_over}
 use Rattle.bsv_carry.specs.StaysAccepted.{over}

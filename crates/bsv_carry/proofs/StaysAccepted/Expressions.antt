@@ -4,10 +4,11 @@ use Rattle.bsv_types.specs.declared.expressions.Expr.{Expr, roll-Expr, ind-Expr,
 use Rattle.bsv_types.specs.declared.expressions.Expr.TheOpen.{Expr-F, Place-F}
 use Rattle.bsv_types.specs.declared.expressions.Place.{Place, roll-Place, ind-Place, map-Place, fold-roll-Place}
 use Rattle.bsv_types.specs.Kinds.{kind}
-use Rattle.bsv_design.specs.declared.tree.Instance.{Instance}
-use Rattle.bsv_design.specs.carrying.Calls.{Context, Caller, static_fault}
-use Rattle.bsv_design.specs.carrying.Carrying as carrying
-use Rattle.bsv_design.specs.carrying.Carrying.{Carried, Placing, expression, place}
+use Rattle.bsv_tree.specs.declared.tree.Instance.{Instance}
+use Rattle.bsv_tree.specs.tree.Contexts.{Context}
+use Rattle.bsv_tree.specs.carrying.Calls.{Caller, static_fault}
+use Rattle.bsv_tree.specs.carrying.Carrying as carrying
+use Rattle.bsv_tree.specs.carrying.Carrying.{Carried, Placing, expression, place}
 use Rattle.bsv_carry.proofs.StaysAccepted.SideBySide.{into_then, counted_over}
 use Rattle.bsv_carry.proofs.StaysAccepted.Operators.{literal_over}
 use Rattle.bsv_carry.specs.StaysAccepted.{Grows, over}

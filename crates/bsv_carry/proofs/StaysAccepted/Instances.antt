@@ -3,16 +3,17 @@
 use Rattle.std.proofs.Common.{◌≡◌, ℕ, List, [], ◌∷◌, Option, Some, None, Result, Ok, Err, refl, inr}
 use Rattle.bsv_fail.specs.Given.{◌>>=◌}
 use Rattle.bsv_types.specs.Kinds.{Kind as Sort}
-use Rattle.bsv_design.specs.declared.tree.Instance.{Instance}
-use Rattle.bsv_design.specs.declared.tree.Made.{Made}
-use Rattle.bsv_design.specs.declared.tree.Made.TheVariants as made
-use Rattle.bsv_design.specs.declared.values.Count.{Count}
-use Rattle.bsv_design.specs.declared.values.Fault.{Fault}
-use Rattle.bsv_design.specs.declared.values.Local.{Local}
-use Rattle.bsv_design.specs.declared.values.Value.{Value}
-use Rattle.bsv_design.specs.declared.values.Work.{Work}
-use Rattle.bsv_design.specs.carrying.Calls.{Context, Callee, Caller}
-use Rattle.bsv_design.specs.carrying.Carrying.{Carry, Carried, Placing, Acts, Branched, Labelled, all_from, all, first_type}
+use Rattle.bsv_tree.specs.declared.tree.Instance.{Instance}
+use Rattle.bsv_tree.specs.declared.tree.Made.{Made}
+use Rattle.bsv_tree.specs.declared.tree.Made.TheVariants as made
+use Rattle.bsv_tree.specs.declared.values.Count.{Count}
+use Rattle.bsv_tree.specs.declared.values.Fault.{Fault}
+use Rattle.bsv_tree.specs.declared.values.Local.{Local}
+use Rattle.bsv_tree.specs.declared.values.Value.{Value}
+use Rattle.bsv_tree.specs.declared.values.Work.{Work}
+use Rattle.bsv_tree.specs.tree.Contexts.{Context, Callee}
+use Rattle.bsv_tree.specs.carrying.Calls.{Caller}
+use Rattle.bsv_tree.specs.carrying.Carrying.{Carry, Carried, Placing, Acts, Branched, Labelled, all_from, all, first_type}
 use Rattle.bsv_carry.specs.StaysAccepted.{Stays, Grows, over}
 use Rattle.bsv_carry.proofs.StaysAccepted.SideBySide.{Into, into_then, raised, heavier, at_raised, at_heavier, both_heavier}
 

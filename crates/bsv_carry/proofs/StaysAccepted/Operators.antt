@@ -7,16 +7,18 @@ use Rattle.bsv_types.specs.declared.operators.Op.TheVariants as op
 use Rattle.bsv_types.specs.declared.definitions.Field.{Field}
 use Rattle.bsv_types.specs.Kinds.{Kind, integer}
 use Rattle.bsv_types.specs.Shapes.{Shapes}
-use Rattle.bsv_design.specs.declared.values.Constant.{Constant}
-use Rattle.bsv_design.specs.declared.values.Constant.TheVariants as constant
-use Rattle.bsv_design.specs.declared.values.Value.{Value}
-use Rattle.bsv_design.specs.declared.values.Value.TheVariants as value
-use Rattle.bsv_design.specs.declared.values.Work.{Work}
-use Rattle.bsv_design.specs.declared.values.Fault.{Fault}
-use Rattle.bsv_design.specs.carrying.Integers.{number_between, fitted}
-use Rattle.bsv_design.specs.carrying.Applied as applied
-use Rattle.bsv_design.specs.carrying.Operated as operated
-use Rattle.bsv_design.specs.carrying.Carrying as carrying
+use Rattle.bsv_tree.specs.declared.values.Constant.{Constant}
+use Rattle.bsv_tree.specs.declared.values.Constant.TheVariants as constant
+use Rattle.bsv_tree.specs.declared.values.Value.{Value}
+use Rattle.bsv_tree.specs.declared.values.Value.TheVariants as value
+use Rattle.bsv_tree.specs.declared.values.Work.{Work}
+use Rattle.bsv_tree.specs.declared.values.Fault.{Fault}
+use Rattle.bsv_tree.specs.meaning.Integers.{number_between, fitted}
+use Rattle.bsv_tree.specs.carrying.Applied as applied
+use Rattle.bsv_tree.specs.tree.Widths as type_widths
+use Rattle.bsv_tree.specs.carrying.Operated as operated
+use Rattle.bsv_tree.specs.meaning.Operators as the_operators
+use Rattle.bsv_tree.specs.carrying.Carrying as carrying
 use Rattle.bsv_carry.proofs.StaysAccepted.SideBySide.{Into, into_then, into_if, into_same, heavier, at_heavier, inverted_over, between_over, picked_over, sliced_over, joined_over, extended_over, sign_extended_over}
 
 module _ (d : ℕ) where
@@ -83,7 +85,7 @@ module _ (d : ℕ) where
 
     from_integer_over : (t : Kind) (x : Value) (w : Work)
         → Into (at_heavier d) (applied.from_integer s f t x (heavier d w)) (applied.from_integer s f t x w)
-    from_integer_over t (value.Static (constant.Number n)) w = or_fault_over f (fitted t (applied.width s t) n) w
+    from_integer_over t (value.Static (constant.Number n)) w = or_fault_over f (fitted t (type_widths.width s t) n) w
     from_integer_over t x w = record { seen = tt }
 
     one_over : (o : Op) (t k : Kind) (x : Value) (w : Work)
@@ -123,13 +125,13 @@ module _ (d : ℕ) where
         → Into (at_heavier d) (operated.applied_to s f t k os x xs (heavier d w)) (operated.applied_to s f t k os x xs w)
     unfolding operated.applied_to
     applied_to_over t k [] x xs w = record { seen = refl }
-    applied_to_over t k (o ∷ os) x xs w = into_if (operated.is_suffix o) (suffixed_over (o ∷ os) _ _ x xs w) (no_suffixes_over t k o os x xs w)
+    applied_to_over t k (o ∷ os) x xs w = into_if (the_operators.is_suffix o) (suffixed_over (o ∷ os) _ _ x xs w) (no_suffixes_over t k o os x xs w)
 
     pub applied_over : (t k : Kind) (os : List Op) (xs : List Value) (w : Work)
         → Into (at_heavier d) (operated.applied s f t k os xs (heavier d w)) (operated.applied s f t k os xs w)
     unfolding operated.applied
     applied_over t k os [] w = record { seen = refl }
-    applied_over t k os (x ∷ xs) w = into_if (operated.builds os) (all_together_over _ w) (applied_to_over t k os x xs w)
+    applied_over t k os (x ∷ xs) w = into_if (the_operators.builds os) (all_together_over _ w) (applied_to_over t k os x xs w)
 
     pub literal_over : (k : Kind) (number : ℕ) (w : Work)
         → Into (at_heavier d) (carrying.literal s f k number (heavier d w)) (carrying.literal s f k number w)

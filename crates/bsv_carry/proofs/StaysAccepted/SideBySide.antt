@@ -6,17 +6,17 @@ use Rattle.std.proofs.lemmas.Bool.{leb-true, le-leb}
 use Rattle.bsv_fail.specs.Given.{◌>>=◌}
 use Rattle.bsv_bits.specs.Words.{Bits, word_not}
 use Rattle.bsv_bits.specs.declared.operator.Operator.{Operator}
-use Rattle.bsv_design.specs.declared.steps.Compute.{Compute}
-use Rattle.bsv_design.specs.declared.steps.Compute.TheVariants as compute
-use Rattle.bsv_design.specs.declared.steps.Step.{Step}
-use Rattle.bsv_design.specs.declared.values.Value.{Value}
-use Rattle.bsv_design.specs.declared.values.Count.{Count}
-use Rattle.bsv_design.specs.declared.values.Work.{Work}
-use Rattle.bsv_design.specs.declared.values.Fault.{Fault}
-use Rattle.bsv_design.specs.carrying.Computing as computing
-use Rattle.bsv_design.specs.carrying.Values.{atom_of, known}
-use Rattle.bsv_design.specs.carrying.Working as work
-use Rattle.bsv_design.specs.carrying.Working.{tick, fresh, counted, give, settle, of_two, of_three}
+use Rattle.bsv_tree.specs.declared.steps.Compute.{Compute}
+use Rattle.bsv_tree.specs.declared.steps.Compute.TheVariants as compute
+use Rattle.bsv_tree.specs.declared.steps.Step.{Step}
+use Rattle.bsv_tree.specs.declared.values.Value.{Value}
+use Rattle.bsv_tree.specs.declared.values.Count.{Count}
+use Rattle.bsv_tree.specs.declared.values.Work.{Work}
+use Rattle.bsv_tree.specs.declared.values.Fault.{Fault}
+use Rattle.bsv_design.specs.design.Computing as computing
+use Rattle.bsv_tree.specs.carrying.Values.{atom_of, known}
+use Rattle.bsv_tree.specs.carrying.Working as work
+use Rattle.bsv_tree.specs.carrying.Working.{tick, fresh, counted, give, settle, of_two, of_three}
 
 -- ---- side by side
 

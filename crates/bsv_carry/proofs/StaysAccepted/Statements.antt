@@ -4,10 +4,11 @@ use Rattle.bsv_types.specs.declared.statements.Branch.{Branch, roll-Branch, map-
 use Rattle.bsv_types.specs.declared.statements.CaseArm.{CaseArm, roll-CaseArm, map-CaseArm, fold-roll-CaseArm}
 use Rattle.bsv_types.specs.declared.statements.Stmt.{Stmt, roll-Stmt, ind-Stmt, map-Stmt, fold-roll-Stmt}
 use Rattle.bsv_types.specs.declared.statements.Stmt.TheOpen.{Stmt-F, Branch-F, CaseArm-F}
-use Rattle.bsv_design.specs.declared.tree.Instance.{Instance}
-use Rattle.bsv_design.specs.carrying.Calls.{Context, Caller}
-use Rattle.bsv_design.specs.carrying.Carrying as carrying
-use Rattle.bsv_design.specs.carrying.Carrying.{Acts, Branched, Labelled, place, stmt, branch, case_arm}
+use Rattle.bsv_tree.specs.declared.tree.Instance.{Instance}
+use Rattle.bsv_tree.specs.tree.Contexts.{Context}
+use Rattle.bsv_tree.specs.carrying.Calls.{Caller}
+use Rattle.bsv_tree.specs.carrying.Carrying as carrying
+use Rattle.bsv_tree.specs.carrying.Carrying.{Acts, Branched, Labelled, place, stmt, branch, case_arm}
 use Rattle.bsv_carry.proofs.StaysAccepted.SideBySide.{into_then, counted_over}
 use Rattle.bsv_carry.specs.StaysAccepted.{Grows, over}
 use Rattle.bsv_carry.proofs.StaysAccepted.Instances.{ActsInto, BranchedInto, LabelledInto, EachActs, EachBranched, EachLabelled, CallsInto}

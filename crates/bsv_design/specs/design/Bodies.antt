@@ -7,8 +7,8 @@ use Rattle.bsv_design.specs.declared.element.Call.{Call}
 use Rattle.bsv_design.specs.declared.element.Element.{Element}
 use Rattle.bsv_design.specs.declared.node.Node.{Node}
 use Rattle.bsv_design.specs.declared.node.Node.TheVariants as node
-use Rattle.bsv_design.specs.carrying.Computing as computing
-use Rattle.bsv_design.specs.carrying.Running.{or_zero}
+use Rattle.bsv_design.specs.design.Computing as computing
+use Rattle.bsv_design.specs.design.Words.{or_zero}
 
 -- the word of a node, where these words stand
 abbrev pub at : List Bits → ℕ → Bits

@@ -10,13 +10,13 @@ use Rattle.bsv_design.specs.declared.element.Role.{Role}
 use Rattle.bsv_design.specs.declared.element.Role.TheVariants as role
 use Rattle.bsv_design.specs.declared.design.NamedPart.{NamedPart}
 use Rattle.bsv_design.specs.declared.kind.Kind.{Kind}
-use Rattle.bsv_design.specs.declared.tree.Assert.{Assert}
-use Rattle.bsv_design.specs.declared.tree.Pair.{Pair}
+use Rattle.bsv_design.specs.declared.attributes.Assert.{Assert}
+use Rattle.bsv_design.specs.declared.attributes.Pair.{Pair}
 use Rattle.bsv_design.specs.design.Bodies.{Answers}
 use Rattle.bsv_design.specs.design.Branches.{AreExclusive, AgreeOnTaken, AreSameWhereTaken}
-use Rattle.bsv_design.specs.tree.Roles.{gives_value}
+use Rattle.bsv_design.specs.design.Roles.{gives_value}
 use Rattle.bsv_design.specs.scheme.Traces.{body_trace}
-use Rattle.bsv_design.specs.tree.Trees.{joined}
+use Rattle.bsv_design.specs.design.Paths.{joined}
 use Rattle.bsv_design.specs.design.Widths.{widths_from, call_fits, condition_fits, port_fits, result_fits, acts_not}
 
 -- what a design is made of

@@ -7,8 +7,8 @@ use Rattle.bsv_design.specs.declared.element.Element.{Element}
 use Rattle.bsv_design.specs.declared.kind.Kind.{Kind}
 use Rattle.bsv_design.specs.declared.schedule.Need.{Need}
 use Rattle.bsv_design.specs.design.Bodies.{target, at, words}
-use Rattle.bsv_design.specs.tree.Kinds.{kind_table}
-use Rattle.bsv_design.specs.carrying.Running.{is_one}
+use Rattle.bsv_design.specs.parts.Kinds.{kind_table}
+use Rattle.bsv_design.specs.design.Words.{is_one}
 use Rattle.bsv_design.specs.scheme.Schemes.{Look, is_open, answers, all_hold}
 use Rattle.bsv_design.specs.scheme.Traces.{kind_at, demand_at}
 

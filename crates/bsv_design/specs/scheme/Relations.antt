@@ -6,7 +6,7 @@ use Rattle.bsv_prim.specs.Table.{goes_before, in_one_element}
 use Rattle.bsv_design.specs.declared.kind.Kind.{Kind}
 use Rattle.bsv_design.specs.design.Bodies.{Target, Answers}
 use Rattle.bsv_design.specs.design.Branches.{apart}
-use Rattle.bsv_design.specs.tree.Kinds.{kind_table}
+use Rattle.bsv_design.specs.parts.Kinds.{kind_table}
 use Rattle.bsv_design.specs.scheme.Schemes.{Scheme, ports_of, filled}
 use Rattle.bsv_design.specs.scheme.Traces.{Site, kind_at}
 

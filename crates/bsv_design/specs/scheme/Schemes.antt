@@ -1,23 +1,19 @@
 -- What a design is, however its elements are written: as text that is carried out, or as flat bodies. All that is said of
 -- schedules and clocks is said of a scheme (Hoe and Arvind 2004, guarded atomic actions; Bluespec reference guide, "Rules").
-use Rattle.std.specs.Prelude.{◌≡◌, ℕ, zero, suc, Bool, true, false, cond, not, ◌&&◌, ◌||◌, List, [], ◌∷◌, ◌++◌, map, length, slice_get, Option, Some, None}
+use Rattle.std.specs.Prelude.{◌≡◌, ℕ, Bool, true, false, cond, not, ◌&&◌, ◌||◌, List, [], ◌∷◌, map, length, slice_get, Option, Some, None}
 use Rattle.bsv_bits.specs.Words.{Bits, bit, zero_word}
 use Rattle.bsv_prim.specs.declared.part.Part.{Part}
 use Rattle.bsv_design.specs.declared.element.Element.{Element}
 use Rattle.bsv_design.specs.declared.element.Port.{Port}
 use Rattle.bsv_design.specs.declared.element.Role.{Role}
 use Rattle.bsv_design.specs.declared.kind.Kind.{Kind}
-use Rattle.bsv_design.specs.declared.source.Source.{Source}
-use Rattle.bsv_design.specs.declared.tree.Assert.{Assert}
-use Rattle.bsv_design.specs.declared.tree.Instance.{Instance}
-use Rattle.bsv_design.specs.declared.tree.Pair.{Pair}
+use Rattle.bsv_design.specs.declared.attributes.Assert.{Assert}
+use Rattle.bsv_design.specs.declared.attributes.Pair.{Pair}
 use Rattle.bsv_design.specs.design.Bodies.{Target, target, Answers}
 use Rattle.bsv_design.specs.design.Designs.{DesignData}
-use Rattle.bsv_design.specs.tree.Kinds.{kind_table}
-use Rattle.bsv_design.specs.tree.Sources.{element_at, element_count, parts_among}
-use Rattle.bsv_design.specs.scheme.Traces.{Site, Demand, Trace, kind_at, target_of, body_trace, step_trace}
-use Rattle.bsv_design.specs.tree.Trees.{TreeData}
-use Rattle.bsv_design.specs.carrying.Uses.{uses}
+use Rattle.bsv_design.specs.parts.Kinds.{kind_table}
+use Rattle.bsv_design.specs.scheme.Traces.{Site, Demand, Trace, kind_at, body_trace}
+use Rattle.bsv_tree.specs.carrying.Uses.{uses}
 
 -- what is known of an element from outside
 pub record Outline : Type 0 where
@@ -65,37 +61,6 @@ design_scheme b = record {
   trace = λ n. trace_of (kinds_of b) (slice_get b.elements n);
   pairs = b.pairs;
   asserts = b.asserts;
-}
-
-abbrev pub outline_of : Source → Outline
-outline_of s = record { name = s.name; role = s.role; ports = s.ports }
-
--- the outlines of so many elements from this position on
-abbrev pub outline_at : Option Source → List Outline
-outline_at None = []
-outline_at (Some s) = outline_of s ∷ []
-
-abbrev pub outlines_below : TreeData → ℕ → List Outline
-outlines_below h zero = []
-outlines_below h (suc n) = outlines_below h n ++ outline_at (element_at h n)
-
-abbrev pub uses_of : List Instance → Option Source → List Target
-uses_of is None = []
-uses_of is (Some s) = map (target_of is) (uses s.steps)
-
-abbrev pub carried_trace : TreeData → Option Source → Answers → List Bits → Trace
-carried_trace h None r arguments = no_trace
-carried_trace h (Some s) r arguments = step_trace h.typed.modules h.instances s.steps s.gives r arguments
-
--- the elements as text
-unfoldable pub tree_scheme : TreeData → Scheme
-tree_scheme h = record {
-  kinds = map (λ p. p.kind) (parts_among h.instances);
-  elements = outlines_below h (element_count h);
-  uses = λ n. uses_of h.instances (element_at h n);
-  trace = λ n. carried_trace h (element_at h n);
-  pairs = h.pairs;
-  asserts = h.asserts;
 }
 
 -- ---- looks

@@ -5,9 +5,9 @@ use Rattle.std.proofs.lemmas.Option.{same_Some}
 use Rattle.bsv_types.specs.declared.modules.Method.{Method}
 use Rattle.bsv_types.specs.declared.modules.Module.{Module}
 use Rattle.bsv_types.specs.declared.modules.Rule.{Rule}
-use Rattle.bsv_design.specs.carrying.Carrying as carrying
-use Rattle.bsv_design.specs.tree.Trees.{IsAccepted}
-use Rattle.bsv_design.specs.carrying.Working.{no_steps}
+use Rattle.bsv_tree.specs.carrying.Carrying as carrying
+use Rattle.bsv_tree.specs.tree.Trees.{IsAccepted}
+use Rattle.bsv_tree.specs.carrying.Working.{no_steps}
 use Rattle.bsv_elab.specs.declared.state.State.{State}
 use Rattle.bsv_elab.specs.Names.{new_name, take_name}
 use Rattle.bsv_elab.specs.Statics.{Here, site, count, countable}

@@ -2,8 +2,8 @@
 use Rattle.std.proofs.Common.{◌≡◌, Bool, true, false, Result, Ok, Err, subst}
 use Rattle.std.specs.Prelude.{if◌then◌else◌}
 use Rattle.bsv_fail.specs.Given.{◌>>=◌}
-use Rattle.bsv_design.specs.declared.values.Fault.{Fault}
-use Rattle.bsv_design.specs.tree.Trees.{IsAccepted}
+use Rattle.bsv_tree.specs.declared.values.Fault.{Fault}
+use Rattle.bsv_tree.specs.tree.Trees.{IsAccepted}
 use Rattle.bsv_elab.specs.Statics.{carried}
 
 abbrev pub GivesOf : {A E : Type 0} → (A → Type 0) → Result A E → Type 0

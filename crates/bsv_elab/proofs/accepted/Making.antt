@@ -10,10 +10,10 @@ use Rattle.bsv_types.specs.declared.makers.Maker.TheVariants as maker
 use Rattle.bsv_types.specs.declared.types.PartTy.{PartTy}
 use Rattle.bsv_types.specs.Methods.{made_part}
 use Rattle.bsv_design.specs.declared.kind.Kind.{Kind}
-use Rattle.bsv_design.specs.declared.statics.Binding.{Binding}
-use Rattle.bsv_design.specs.declared.statics.Static.{Static}
-use Rattle.bsv_design.specs.declared.tree.Instance.{Instance}
-use Rattle.bsv_design.specs.declared.tree.Made.TheVariants as made
+use Rattle.bsv_tree.specs.declared.statics.Binding.{Binding}
+use Rattle.bsv_tree.specs.declared.statics.Static.{Static}
+use Rattle.bsv_tree.specs.declared.tree.Instance.{Instance}
+use Rattle.bsv_tree.specs.declared.tree.Made.TheVariants as made
 use Rattle.bsv_elab.specs.declared.state.Done.{Done}
 use Rattle.bsv_elab.specs.declared.state.Grown.{Grown}
 use Rattle.bsv_elab.specs.declared.state.State.{State}

@@ -8,7 +8,7 @@ use Rattle.bsv_types.specs.declared.modules.ModuleStmt.{ModuleStmt, roll-ModuleS
 use Rattle.bsv_types.specs.declared.modules.ModuleStmt.TheOpen.{ModuleStmt-F, ModuleBranch-F}
 use Rattle.bsv_types.specs.declared.statements.Head.{Head}
 use Rattle.bsv_types.specs.Kinds.{Kind as Sort, kind}
-use Rattle.bsv_design.specs.declared.statics.Binding.{Binding}
+use Rattle.bsv_tree.specs.declared.statics.Binding.{Binding}
 use Rattle.bsv_elab.specs.declared.state.State.{State}
 use Rattle.bsv_elab.specs.Statics.{Here, Builds, static_fault, held, bind, inside}
 use Rattle.bsv_elab.specs.Making.{Bodies, width_in}

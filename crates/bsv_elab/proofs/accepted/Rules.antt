@@ -7,14 +7,14 @@ use Rattle.std.proofs.lemmas.Option.{same_Some}
 use Rattle.bsv_types.specs.declared.modules.Method.{Method}
 use Rattle.bsv_types.specs.declared.modules.Module.{Module}
 use Rattle.bsv_types.specs.declared.modules.Rule.{Rule}
-use Rattle.bsv_design.specs.declared.statics.Binding.{Binding}
-use Rattle.bsv_design.specs.declared.tree.BuiltRule.{BuiltRule}
-use Rattle.bsv_design.specs.declared.tree.Instance.{Instance}
-use Rattle.bsv_design.specs.declared.tree.Made.{Made}
-use Rattle.bsv_design.specs.declared.tree.Made.TheVariants as made
-use Rattle.bsv_design.specs.carrying.Calls.{Context, made_of}
-use Rattle.bsv_design.specs.carrying.Carrying as carrying
-use Rattle.bsv_design.specs.tree.Trees.{IsAccepted}
+use Rattle.bsv_tree.specs.declared.statics.Binding.{Binding}
+use Rattle.bsv_tree.specs.declared.tree.BuiltRule.{BuiltRule}
+use Rattle.bsv_tree.specs.declared.tree.Instance.{Instance}
+use Rattle.bsv_tree.specs.declared.tree.Made.{Made}
+use Rattle.bsv_tree.specs.declared.tree.Made.TheVariants as made
+use Rattle.bsv_tree.specs.tree.Contexts.{Context, made_of}
+use Rattle.bsv_tree.specs.carrying.Carrying as carrying
+use Rattle.bsv_tree.specs.tree.Trees.{IsAccepted}
 use Rattle.bsv_carry.specs.StaysAccepted.{Grows, weighing}
 use Rattle.bsv_carry.proofs.StaysAccepted.{stays_accepted, grows_same}
 use Rattle.bsv_elab.specs.Statics.{Here, put_at}

@@ -3,9 +3,9 @@
 use Rattle.std.proofs.Common.{◌≡◌, ◌∙◌, ℕ, [], Option, Some, None, Result, refl, sym, subst, append-nil}
 use Rattle.std.specs.Prelude.{slice_get}
 use Rattle.bsv_types.specs.declared.expressions.Expr.{Expr}
-use Rattle.bsv_design.specs.declared.statics.Binding.{Binding}
-use Rattle.bsv_design.specs.declared.values.Constant.{Constant}
-use Rattle.bsv_design.specs.carrying.Working.{tick}
+use Rattle.bsv_tree.specs.declared.statics.Binding.{Binding}
+use Rattle.bsv_tree.specs.declared.values.Constant.{Constant}
+use Rattle.bsv_tree.specs.carrying.Working.{tick}
 use Rattle.bsv_elab.specs.declared.refused.Refused.{Refused}
 use Rattle.bsv_elab.specs.declared.state.State.{State}
 use Rattle.bsv_elab.specs.Statics.{Here, Builds, static_fault, count, carried, weigh, carried_in, constant_in, known, number_in, as_number, truth_in, as_truth, inside, assigned, assign}

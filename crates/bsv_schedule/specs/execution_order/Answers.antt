@@ -1,7 +1,7 @@
 -- What each fault tells of how elements relate.
 use Rattle.std.specs.Prelude.{◌≡◌, ◌≢◌, ◌⊎◌, ℕ, List, Some, slice_get, Result, Ok, Err}
-use Rattle.bsv_design.specs.declared.tree.Attribute.TheVariants as attribute
-use Rattle.bsv_design.specs.declared.tree.Pair.{Pair}
+use Rattle.bsv_design.specs.declared.attributes.Attribute.TheVariants as attribute
+use Rattle.bsv_design.specs.declared.attributes.Pair.{Pair}
 use Rattle.bsv_schedule.specs.relating.Elements.{edge_of}
 use Rattle.bsv_schedule.specs.execution_order.Orders.{WireCycle, ValueClash, ExecutionCycle, Executes}
 use Rattle.bsv_schedule.specs.relating.Relating.{Relating}

@@ -1,9 +1,9 @@
 -- Rules that are marked (Bluespec reference guide, "fire_when_enabled", "no_implicit_conditions"), and pairs that are
 -- listed.
 use Rattle.std.specs.Prelude.{◌≡◌, ℕ, Bool, List, slice_get, Some}
-use Rattle.bsv_design.specs.declared.tree.Assert.{Assert}
-use Rattle.bsv_design.specs.declared.tree.Attribute.{Attribute}
-use Rattle.bsv_design.specs.declared.tree.Pair.{Pair}
+use Rattle.bsv_design.specs.declared.attributes.Assert.{Assert}
+use Rattle.bsv_design.specs.declared.attributes.Attribute.{Attribute}
+use Rattle.bsv_design.specs.declared.attributes.Pair.{Pair}
 
 -- the mark is one of the element: of `fire_when_enabled` at true, of `no_implicit_conditions` at false
 pub record IsMarkOf (fires : Bool) (n : ℕ) (mark : Assert) : Type 0 where

@@ -1,6 +1,6 @@
 -- What relations say of the elements of a design.
 use Rattle.std.specs.Prelude.{ℕ, nat_lt, Bool, not, ◌&&◌, length, slice_get}
-use Rattle.bsv_design.specs.tree.Roles.{is_rule, is_value}
+use Rattle.bsv_design.specs.design.Roles.{is_rule, is_value}
 use Rattle.bsv_schedule.specs.declared.relating.relations.Relations.{Relations}
 use Rattle.bsv_graph.specs.declared.table.Table.{Table}
 use Rattle.bsv_schedule.specs.relating.Elements.{has_role}

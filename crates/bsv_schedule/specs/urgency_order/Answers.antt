@@ -1,6 +1,6 @@
 -- What each answer tells of how elements relate.
 use Rattle.std.specs.Prelude.{◌≡◌, ◌≢◌, ◌⊎◌, ℕ, List, filter, Some, slice_get, Result, Ok, Err}
-use Rattle.bsv_design.specs.declared.tree.Pair.{Pair}
+use Rattle.bsv_design.specs.declared.attributes.Pair.{Pair}
 use Rattle.bsv_schedule.specs.relating.Elements.{is_urging}
 use Rattle.bsv_schedule.specs.relating.Relating.{Relating}
 use Rattle.bsv_schedule.specs.urgency_order.Orders.{UrgencyCycle, MethodBehindRule, Urges}

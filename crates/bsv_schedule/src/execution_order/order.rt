@@ -1,7 +1,7 @@
 ghost use Rattle.std.specs.Prelude.{◌≡◌, ℕ, List, Result, IfOk, IfErr};
 ghost use Rattle.bsv_design.specs.scheme.Schemes.{design_scheme};
-ghost use Rattle.bsv_design.specs.tree.Seen.{design_data};
-ghost use Rattle.bsv_design.specs.declared.tree.Attribute.TheVariants.{ExecutionOrder};
+ghost use Rattle.bsv_design.specs.scheme.Seen.{design_data};
+ghost use Rattle.bsv_design.specs.declared.attributes.Attribute.TheVariants.{ExecutionOrder};
 ghost use Rattle.bsv_schedule.specs.relating.Elements.{relating, edge_of};
 ghost use Rattle.bsv_schedule.specs.execution_order.Orders.{Executes};
 ghost use Rattle.bsv_schedule.specs.relating.Relations.{relating_of};

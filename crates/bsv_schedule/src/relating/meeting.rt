@@ -3,7 +3,7 @@ ghost use Rattle.std.specs.List.{list_all, list_any};
 ghost use Rattle.bsv_design.specs.design.Bodies.{target};
 ghost use Rattle.bsv_design.specs.scheme.Relations as relations;
 ghost use Rattle.bsv_design.specs.scheme.Schemes.{design_scheme};
-ghost use Rattle.bsv_design.specs.tree.Seen.{design_data};
+ghost use Rattle.bsv_design.specs.scheme.Seen.{design_data};
 ghost use Rattle.bsv_design.specs.design.Widths.{call_named};
 ghost use Rattle.bsv_schedule.specs.relating.Related as spec;
 ghost use Rattle.bsv_schedule.specs.relating.Uses as uses;

@@ -2,7 +2,7 @@ ghost use Rattle.std.specs.Prelude.{◌≡◌, ◌<◌, ◌^◌, ◌↔◌, ◌+
 ghost use Rattle.std.specs.Prelude.{ℕ, IsTrue, IfOk, OnOk, length, map};
 ghost use Rattle.std.specs.List.{list_all, list_any};
 ghost use Rattle.bsv_design.specs.scheme.Schemes.{design_scheme};
-ghost use Rattle.bsv_design.specs.tree.Seen.{design_data};
+ghost use Rattle.bsv_design.specs.scheme.Seen.{design_data};
 ghost use Rattle.bsv_graph.specs.Edges.{AllBelow};
 ghost use Rattle.bsv_schedule.specs.relating.Elements as elements;
 ghost use Rattle.bsv_schedule.specs.relating.Elements.{relating};

@@ -1,6 +1,6 @@
 ghost use Rattle.std.specs.Prelude.{◌≡◌, ◌<◌};
 ghost use Rattle.std.specs.Prelude.{ℕ, List, length, Some, slice_get, Result, IfOk, IfErr};
-ghost use Rattle.bsv_design.specs.declared.tree.Pair.{Pair};
+ghost use Rattle.bsv_design.specs.declared.attributes.Pair.{Pair};
 ghost use Rattle.bsv_schedule.specs.relating.Elements.{is_urging, edges_of};
 ghost use Rattle.bsv_schedule.specs.relating.Relating.{feed_edges};
 ghost use Rattle.bsv_schedule.specs.relating.Relations.{relating_of};

@@ -1,6 +1,6 @@
 use Rattle.std.proofs.Common.{ℕ, ◌<◌}
 use Rattle.bsv_design.specs.scheme.Schemes.{design_scheme}
-use Rattle.bsv_design.specs.tree.Seen.{design_data}
+use Rattle.bsv_design.specs.scheme.Seen.{design_data}
 use Rattle.bsv_attr.specs.Asserting.{IsUnstopped}
 use Rattle.bsv_attr.proofs.asserting.unstopped.Given as goal
 

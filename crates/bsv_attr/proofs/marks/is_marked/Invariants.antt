@@ -1,6 +1,6 @@
 use Rattle.std.proofs.Common.{◌≡◌, ℕ, ◌<◌, Some}
 use Rattle.std.specs.Prelude.{slice_get}
-use Rattle.bsv_design.specs.declared.tree.Assert.{Assert}
+use Rattle.bsv_design.specs.declared.attributes.Assert.{Assert}
 use Rattle.bsv_schedule.specs.relating.Marks.{IsMarkOf}
 use Rattle.bsv_attr.proofs.marks.is_marked.Given as goal
 

@@ -1,5 +1,5 @@
 use Rattle.std.proofs.Common.{◌≡◌, length}
-use Rattle.bsv_design.specs.carrying.Applied as applied
+use Rattle.bsv_tree.specs.carrying.Applied as applied
 use Rattle.bsv_carry.proofs.operators.together.Given as goal
 
 abbrev pub decreases-loop-other : goal.decreases-loop-other

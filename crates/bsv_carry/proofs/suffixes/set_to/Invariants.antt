@@ -1,5 +1,5 @@
 use Rattle.std.proofs.Common.{◌≡◌, length}
-use Rattle.bsv_design.specs.carrying.Operated as operated
+use Rattle.bsv_tree.specs.carrying.Operated as operated
 use Rattle.bsv_carry.proofs.suffixes.set_to.Given as goal
 
 abbrev pub decreases-loop-op : goal.decreases-loop-op

@@ -1,5 +1,5 @@
 use Rattle.std.proofs.Common.{◌∙◌}
-use Rattle.bsv_design.specs.tree.Seen.{tree_data}
+use Rattle.bsv_tree.specs.tree.Seen.{tree_data}
 use Rattle.bsv_flow.proofs.Trees.{built_at}
 use Rattle.bsv_flow.proofs.building.tree.Goals as goal
 

@@ -1,7 +1,7 @@
 use Rattle.std.proofs.Common.{rules, ◌≡◌, Result, Err}
 use Rattle.bsv_types.specs.declared.typed.Typed.{Typed}
-use Rattle.bsv_design.specs.declared.whole.Tree.{Tree}
-use Rattle.bsv_design.specs.tree.Seen.{tree_data}
+use Rattle.bsv_tree.specs.declared.whole.Tree.{Tree}
+use Rattle.bsv_tree.specs.tree.Seen.{tree_data}
 use Rattle.bsv_flow.specs.Compilings.{Declines}
 use Rattle.bsv_flow.specs.declared.refusal.CompileFault.{CompileFault}
 use Rattle.bsv_flow.specs.declared.refusal.CompileFault.TheVariants as fault

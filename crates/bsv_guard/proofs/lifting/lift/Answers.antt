@@ -2,7 +2,7 @@ use Rattle.std.proofs.Common.{◌∙◌, map, ap, subst, arith, length, ◌≤�
 use Rattle.std.proofs.lemmas.Option.{slice_get_within}
 use Rattle.std.proofs.lemmas.Result.{err_from_is_err_and}
 use Rattle.bsv_design.specs.design.Guards.{needs_of}
-use Rattle.bsv_design.specs.tree.Seen.{design_data}
+use Rattle.bsv_design.specs.scheme.Seen.{design_data}
 use Rattle.bsv_guard.specs.Lifted.{IsElementLifted, IsElementRefused}
 use Rattle.bsv_guard.specs.Pairs.{AreFree}
 use Rattle.bsv_guard.proofs.Whole.{named_in, few_in, one_element_more, needs_more, needs_whole, refused, keeps, lifted}

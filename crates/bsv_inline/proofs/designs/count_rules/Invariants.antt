@@ -1,5 +1,5 @@
 use Rattle.std.proofs.Common.{◌≡◌, ◌+◌, length}
-use Rattle.bsv_design.specs.tree.Trees as trees
+use Rattle.bsv_tree.specs.tree.Trees as trees
 use Rattle.bsv_inline.proofs.designs.count_rules.Given as goal
 
 abbrev pub decreases-loop-instance : goal.decreases-loop-instance

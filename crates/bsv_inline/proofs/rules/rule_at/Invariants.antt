@@ -1,5 +1,5 @@
 use Rattle.std.proofs.Common.{◌≡◌, length}
-use Rattle.bsv_design.specs.tree.Sources as spec
+use Rattle.bsv_tree.specs.tree.Elements as spec
 use Rattle.bsv_inline.proofs.rules.rule_at.Given as goal
 
 abbrev pub decreases-loop-instance : goal.decreases-loop-instance

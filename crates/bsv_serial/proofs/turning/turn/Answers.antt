@@ -3,7 +3,7 @@ use Rattle.std.proofs.lemmas.List.{with_items_is}
 use Rattle.std.specs.Bool.{OnTrue}
 use Rattle.bsv_bits.specs.Words.{Bits}
 use Rattle.bsv_design.specs.scheme.Schemes.{kinds_of}
-use Rattle.bsv_design.specs.tree.Seen.{asking, design_data}
+use Rattle.bsv_design.specs.scheme.Seen.{asking, design_data}
 use Rattle.bsv_design.specs.scheme.States.{FitsKinds}
 use Rattle.bsv_guard.proofs.Whole.{named_in}
 use Rattle.bsv_serial.specs.Making.{with_sites}

@@ -3,7 +3,7 @@ use Rattle.std.proofs.Common.{List, Bool, get_or, slice_set}
 use Rattle.bsv_design.specs.declared.element.Element.{Element}
 use Rattle.bsv_design.specs.declared.element.Port.{Port}
 use Rattle.bsv_design.specs.scheme.Schemes.{outline}
-use Rattle.bsv_design.specs.tree.Seen.{asking}
+use Rattle.bsv_design.specs.scheme.Seen.{asking}
 use Rattle.bsv_trace.specs.Reading as spec
 use Rattle.bsv_trace.proofs.Places.{flag_at, outline_at, args_at, words_at, with_words, with_call, call_of-asked, call_of-read}
 use Rattle.bsv_trace.proofs.call.call_of.Goals as goal

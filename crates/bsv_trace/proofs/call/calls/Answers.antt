@@ -1,6 +1,6 @@
 use Rattle.std.proofs.Common.{◌∙◌, length, map, sym}
 use Rattle.bsv_design.specs.scheme.Schemes.{outline}
-use Rattle.bsv_design.specs.tree.Seen.{asking}
+use Rattle.bsv_design.specs.scheme.Seen.{asking}
 use Rattle.bsv_trace.proofs.Turns.{turn_on}
 use Rattle.bsv_trace.proofs.call.calls.Goals as goal
 

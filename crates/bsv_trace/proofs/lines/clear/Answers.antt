@@ -1,7 +1,7 @@
 use Rattle.std.proofs.Common.{◌∙◌, List, length, map, sym, ap}
 use Rattle.bsv_design.specs.declared.element.Port.{Port}
 use Rattle.bsv_design.specs.scheme.Schemes.{outline}
-use Rattle.bsv_design.specs.tree.Seen.{asking}
+use Rattle.bsv_design.specs.scheme.Seen.{asking}
 use Rattle.bsv_trace.proofs.Clearing.{next_words, asked_cleared, args_cleared}
 use Rattle.bsv_trace.proofs.Places.{outline_at}
 use Rattle.bsv_trace.proofs.lines.clear.Goals as goal

@@ -1,5 +1,5 @@
 use Rattle.std.proofs.Common.{◌∙◌, ap}
-use Rattle.bsv_design.specs.tree.Seen.{asking}
+use Rattle.bsv_design.specs.scheme.Seen.{asking}
 use Rattle.bsv_design.specs.scheme.States.{methods_in}
 use Rattle.bsv_trace.proofs.Asked.{methods_right, cleared_places, asks, only, bad, nothing, fits, cleared_fit}
 use Rattle.bsv_trace.proofs.lines.line.Goals as goal

@@ -2,7 +2,7 @@ use Rattle.std.proofs.Common.{◌∙◌, ◌≤◌, ℕ, List, map, length, take
 use Rattle.std.proofs.Math.Seq.{length-take-le}
 use Rattle.bsv_design.specs.declared.element.Element.{Element}
 use Rattle.bsv_design.specs.scheme.Schemes.{outline}
-use Rattle.bsv_design.specs.tree.Seen.{asking}
+use Rattle.bsv_design.specs.scheme.Seen.{asking}
 use Rattle.bsv_trace.specs.Reading as spec
 use Rattle.bsv_trace.proofs.Methods.{asking_places, asked_fewer, asked_front}
 use Rattle.bsv_trace.proofs.lines.methods_of.Goals as goal

@@ -1,5 +1,5 @@
 use Rattle.std.proofs.Common.{◌≡◌, ◌∙◌}
-use Rattle.bsv_design.specs.tree.Seen.{design_data}
+use Rattle.bsv_design.specs.scheme.Seen.{design_data}
 use Rattle.bsv_net.specs.AtHand.{net_data}
 use Rattle.bsv_vtext.specs.AtHand.{module_data}
 use Rattle.bsv_vgen.specs.AtHand as hand

@@ -1,5 +1,5 @@
 use Rattle.std.proofs.Common.{◌≡◌, ◌+◌, ◌*◌, ◌≤◌, [], length, map}
-use Rattle.bsv_design.specs.declared.steps.Choice.{out-Choice}
+use Rattle.bsv_tree.specs.declared.steps.Choice.{out-Choice}
 use Rattle.bsv_body.specs.AtHand as spec
 use Rattle.bsv_body.specs.Flat as flat
 use Rattle.bsv_body.proofs.Sizes.{step_size, arm_size, choice_size, steps_size, arms_size}

@@ -1,5 +1,5 @@
 use Rattle.std.proofs.Common.{◌≡◌, ◌≤◌, ◌+◌, ◌-◌, ◌*◌, length}
-use Rattle.bsv_design.specs.carrying.Carrying as carrying
+use Rattle.bsv_tree.specs.carrying.Carrying as carrying
 use Rattle.bsv_carry.specs.AtHand as spec
 use Rattle.bsv_carry.proofs.Depths.{calls_left, expr_size, exprs_size, place_size, condition_size, head_size, stmt_size, stmts_size, branch_size, branches_size, case_size, cases_size, last_size, asked_size, body_size, method_size}
 use Rattle.bsv_carry.proofs.carrier.Carrier.+carry.Given as goal

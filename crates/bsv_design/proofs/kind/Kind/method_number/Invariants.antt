@@ -1,5 +1,5 @@
 use Rattle.std.proofs.Common.{◌≡◌, ◌<◌, ℕ, Some, slice_get}
-use Rattle.bsv_design.specs.tree.MethodNames.{method_names}
+use Rattle.bsv_design.specs.parts.MethodNames.{method_names}
 use Rattle.bsv_design.proofs.kind.Kind.method_number.Given as goal
 
 -- no earlier method has the name

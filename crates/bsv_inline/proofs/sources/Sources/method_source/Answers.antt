@@ -5,13 +5,14 @@ use Rattle.std.proofs.lemmas.Result.{IfOk-weaker}
 use Rattle.bsv_fail.specs.declared.fail.Fail.{Fail}
 use Rattle.bsv_fail.specs.Given.{Gives}
 use Rattle.bsv_types.specs.declared.modules.Method.{Method}
-use Rattle.bsv_design.specs.declared.source.Source.{Source}
-use Rattle.bsv_design.specs.declared.tree.Built.{Built}
-use Rattle.bsv_design.specs.declared.values.Fault.{Fault}
-use Rattle.bsv_design.specs.declared.values.Value.{Value}
-use Rattle.bsv_design.specs.declared.values.Work.{Work}
-use Rattle.bsv_design.specs.carrying.Carrying.{top_method}
-use Rattle.bsv_design.specs.tree.Sources as sources
+use Rattle.bsv_tree.specs.declared.source.Source.{Source}
+use Rattle.bsv_tree.specs.declared.tree.Built.{Built}
+use Rattle.bsv_tree.specs.declared.values.Fault.{Fault}
+use Rattle.bsv_tree.specs.declared.values.Value.{Value}
+use Rattle.bsv_tree.specs.declared.values.Work.{Work}
+use Rattle.bsv_tree.specs.carrying.Carrying.{top_method}
+use Rattle.bsv_tree.specs.tree.Elements as sources
+use Rattle.bsv_tree.specs.carrying.Sources as the_carried
 use Rattle.bsv_inline.specs.SourcesAtHand as at_hand
 use Rattle.bsv_inline.specs.declared.sources.Sources.{Sources}
 use Rattle.bsv_inline.proofs.sources.Sources.method_source.Goals as goal
@@ -22,9 +23,9 @@ carried : (s : Sources) (b : Built) (number levels : ℕ) (m : Method) (done : R
     → Gives done (top_method (at_hand.site s b.«module» (take levels b.bindings)) m 0)
     → at_hand.method_done s m done ≡ Some source → at_hand.method_source s b number ≡ Some source
 carried s b number levels m (Ok x) source seen text gives is =
-    ap (λ l. sources.method_source (at_hand.tree s) b l (slice_get (sources.top_methods (at_hand.tree s)) number)) seen
-    ∙ ap (sources.method_source (at_hand.tree s) b (Some levels)) text
-    ∙ ap (sources.method_done (at_hand.shapes s) m) gives
+    ap (λ l. the_carried.method_source (at_hand.tree s) b l (slice_get (sources.top_methods (at_hand.tree s)) number)) seen
+    ∙ ap (the_carried.method_source (at_hand.tree s) b (Some levels)) text
+    ∙ ap (the_carried.method_done (at_hand.shapes s) m) gives
     ∙ is
 carried s b number levels m (Err f) source seen text gives is = absurd cc
 

@@ -1,5 +1,5 @@
 use Rattle.std.proofs.Common.{◌≡◌, ◌++◌, length, map}
-use Rattle.bsv_design.specs.tree.Sources as spec
+use Rattle.bsv_tree.specs.tree.Elements as spec
 use Rattle.bsv_inline.specs.SourcesAtHand as at_hand
 use Rattle.bsv_inline.proofs.sources.Sources.ports.Given as goal
 

@@ -2,15 +2,16 @@ use Rattle.std.proofs.Common.{◌≡◌, ◌∙◌, ℕ, ◌≤◌, sym, ap, sub
 use Rattle.std.specs.Prelude.{if◌then◌else◌, slice_get}
 use Rattle.std.proofs.lemmas.Bool.{le-ltb}
 use Rattle.std.proofs.lemmas.Result.{IfOk-weaker}
-use Rattle.bsv_design.specs.declared.source.Source.{Source}
-use Rattle.bsv_design.specs.carrying.Calls.{made_of}
-use Rattle.bsv_design.specs.tree.Sources.{Standing, top_methods, top_source, rule_at, rule_source, source_at}
-use Rattle.bsv_design.specs.tree.Trees.{TreeData}
+use Rattle.bsv_tree.specs.declared.source.Source.{Source}
+use Rattle.bsv_tree.specs.tree.Contexts.{made_of}
+use Rattle.bsv_tree.specs.tree.Elements.{PlacedRule, top_methods, rule_at}
+use Rattle.bsv_tree.specs.carrying.Sources.{top_source, rule_source, source_at}
+use Rattle.bsv_tree.specs.tree.Trees.{TreeData}
 use Rattle.bsv_inline.specs.SourcesAtHand as at_hand
 use Rattle.bsv_inline.proofs.sources.Sources.source.Goals as goal
 
 -- after the methods of the top stand the rules
-behind : (h : TreeData) (n : ℕ) (r : Standing) (source : Option Source) → length (top_methods h) ≤ n → rule_at h.instances n ≡ Some r
+behind : (h : TreeData) (n : ℕ) (r : PlacedRule) (source : Option Source) → length (top_methods h) ≤ n → rule_at h.instances n ≡ Some r
     → rule_source h (Some r) ≡ source → source_at h n ≡ source
 unfolding source_at
 behind h n r source past at is =

@@ -1,5 +1,5 @@
 use Rattle.std.proofs.Common.{◌∙◌, ◌++◌, ◌∷◌, [], ℕ, List, sym, ap, ap₂}
-use Rattle.bsv_design.specs.tree.Kinds.{kind_table}
+use Rattle.bsv_design.specs.parts.Kinds.{kind_table}
 use Rattle.bsv_ports.specs.Ports.{PlacedAll}
 use Rattle.bsv_net.specs.AtHand.{wires}
 use Rattle.bsv_net.specs.declared.node.NetNode.{NetNode}

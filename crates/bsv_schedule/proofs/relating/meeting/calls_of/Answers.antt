@@ -2,7 +2,7 @@ use Rattle.std.proofs.Common.{◌∙◌, map, sym, ap, subst, IsTrue}
 use Rattle.std.specs.List.{list_all}
 use Rattle.bsv_design.specs.design.Bodies.{target}
 use Rattle.bsv_design.specs.scheme.Schemes.{kinds_of}
-use Rattle.bsv_design.specs.tree.Seen.{design_data}
+use Rattle.bsv_design.specs.scheme.Seen.{design_data}
 use Rattle.bsv_design.specs.design.Widths.{call_named}
 use Rattle.bsv_design.proofs.Named.{calls_named}
 use Rattle.bsv_schedule.proofs.DesignLemmas.{uses_some, uses_none}

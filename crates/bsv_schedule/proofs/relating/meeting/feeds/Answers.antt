@@ -1,6 +1,6 @@
 use Rattle.std.proofs.Common.{◌∙◌, map, sym, ap}
 use Rattle.bsv_design.specs.scheme.Schemes.{design_scheme}
-use Rattle.bsv_design.specs.tree.Seen.{design_data}
+use Rattle.bsv_design.specs.scheme.Seen.{design_data}
 use Rattle.bsv_schedule.proofs.DesignLemmas.{kinds_are}
 use Rattle.bsv_schedule.proofs.UsesLemmas.{calls_feed}
 use Rattle.bsv_schedule.proofs.relating.meeting.feeds.Goals as goal

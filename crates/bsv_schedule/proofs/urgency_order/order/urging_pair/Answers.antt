@@ -2,7 +2,7 @@ use Rattle.std.proofs.Common.{◌≡◌, rules, tests, Option, Some, None, refl,
 use Rattle.std.proofs.lemmas.Iterator.{YieldsList-from_slice}
 use Rattle.std.proofs.lemmas.Iterator.Consumers.{YieldsList-at, nth_from_yields_List, YieldsList-from_copied, YieldsList-from_filter}
 use Rattle.std.specs.Option.{option_map}
-use Rattle.bsv_design.specs.declared.tree.Pair.{Pair}
+use Rattle.bsv_design.specs.declared.attributes.Pair.{Pair}
 use Rattle.bsv_schedule.proofs.urgency_order.order.urging_pair.Goals as goal
 
 map_same : (p : Option Pair) → option_map (λ x. x) p ≡ p

@@ -1,7 +1,7 @@
 use Rattle.std.proofs.Common.{◌∙◌, sym, ap}
 use Rattle.bsv_bits.specs.Words.{zero_word}
 use Rattle.bsv_design.specs.declared.element.Port.{Port}
-use Rattle.bsv_design.specs.carrying.Running.{or_zero}
+use Rattle.bsv_design.specs.design.Words.{or_zero}
 use Rattle.bsv_serial.proofs.Lists.{read_at}
 use Rattle.bsv_serial.proofs.Operands.{given_there, zero_there}
 use Rattle.bsv_serial.proofs.body.Body.argument.Goals as goal

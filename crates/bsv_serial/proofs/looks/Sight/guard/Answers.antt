@@ -1,5 +1,5 @@
 use Rattle.std.proofs.Common.{◌∙◌, sym, ap}
-use Rattle.bsv_design.specs.tree.Kinds.{kind_table}
+use Rattle.bsv_design.specs.parts.Kinds.{kind_table}
 use Rattle.bsv_serial.proofs.Looking.{after_fits, unmoved}
 use Rattle.bsv_serial.proofs.looks.Sight.guard.Goals as goal
 

@@ -1,6 +1,6 @@
 use Rattle.std.proofs.Common.{sym, subst}
 use Rattle.bsv_design.specs.scheme.Schemes.{kinds_of}
-use Rattle.bsv_design.specs.tree.Seen.{design_data}
+use Rattle.bsv_design.specs.scheme.Seen.{design_data}
 use Rattle.bsv_design.specs.scheme.States.{FitsKinds}
 use Rattle.bsv_clock.proofs.OneRun.{opening_fits}
 use Rattle.bsv_top.proofs.clocks.Run.new.Goals as goal

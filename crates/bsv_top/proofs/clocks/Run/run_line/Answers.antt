@@ -1,5 +1,5 @@
 use Rattle.std.proofs.Common.{List, ℕ, ap, ◌∙◌, subst}
-use Rattle.bsv_design.specs.tree.Seen.{asking}
+use Rattle.bsv_design.specs.scheme.Seen.{asking}
 use Rattle.bsv_io.specs.Writing.{appended, AppendsPrefix}
 use Rattle.bsv_top.proofs.Named.{asks_here, asks_there, clock_same}
 use Rattle.bsv_top.proofs.clocks.Run.run_line.Goals as goal

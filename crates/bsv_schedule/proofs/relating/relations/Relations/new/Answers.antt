@@ -2,7 +2,7 @@ use Rattle.std.proofs.Common.{◌≡◌, ◌∙◌, map, length, sym, ap, subst,
 use Rattle.std.specs.List.{list_all, list_any}
 use Rattle.std.proofs.lemmas.List.{length-map}
 use Rattle.bsv_design.specs.scheme.Schemes.{design_scheme}
-use Rattle.bsv_design.specs.tree.Seen.{design_data}
+use Rattle.bsv_design.specs.scheme.Seen.{design_data}
 use Rattle.bsv_graph.specs.Edges.{AllBelow}
 use Rattle.bsv_schedule.specs.relating.Elements.{edges_of, is_ordering, is_urging, preempts}
 use Rattle.bsv_schedule.specs.relating.Relating.{Agrees}

@@ -1,0 +1,3 @@
+-- The nine kinds of primitives: their tables, and the names of their methods.
+pub mod Kinds
+pub mod MethodNames

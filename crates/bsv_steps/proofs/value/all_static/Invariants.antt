@@ -1,6 +1,0 @@
-use Rattle.std.proofs.Common.{◌≡◌, drop}
-use Rattle.bsv_design.specs.carrying.Values as spec
-use Rattle.bsv_steps.proofs.value.all_static.Given as goal
-
-abbrev pub invariant-loop-value : goal.invariant-loop-value
-invariant-loop-value l = spec.all_static l.values ≡ spec.all_static (drop l.value-index l.values)

@@ -1,8 +1,0 @@
-use bsv_design::{Count, Fault};
-use bsv_fail::Fail;
-
-/// Something, or the first refusal.
-pub type Got<A> = Result<A, Fail<Fault>>;
-
-/// Something, and the count after it.
-pub type Counted<A> = Got<(A, Count)>;

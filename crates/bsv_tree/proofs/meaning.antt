@@ -1,0 +1,19 @@
+-- The steps of an element do what its text means.
+mod Nodes
+mod Same
+mod Pieces
+mod Operating
+mod Applying
+mod Expressions
+mod Called
+mod Methods
+mod Choices
+mod Trees
+mod Statements
+mod Joins
+mod AfterChoice
+mod Chains
+mod ChainsKept
+mod Loops
+mod Elements
+mod Tries

@@ -1,0 +1,3 @@
+pub mod tree
+pub mod meaning
+pub mod carrying
