@@ -9,7 +9,7 @@ ghost use Rattle.bsv_guard.specs.Pairs.{breaks};
 use bsv_design::{Branch, Call, Kind};
 use bsv_prim::{Primitive, Rel};
 
-/// Whether calls that are so to each other may be in one element.
+/// Whether two calls in this relation may be in one element.
 fn in_one_element(relation: Rel) -> bool
     ensures { result ≡ table.in_one_element relation }
 {

@@ -17,7 +17,7 @@ unfolding all_placed
 placed_long places at [] = refl
 placed_long places at (n ∷ ns) = placed_long (slice_set places n at) (at + 1) ns ∙ length-set places n at
 
--- what does not are in the list keeps its place
+-- what is not in the list keeps its place
 placed_apart : (places : List ℕ) (at : ℕ) (ns : List ℕ) (n : ℕ) → (In ns n → ⊥) → slice_get (all_placed places at ns) n ≡ slice_get places n
 unfolding all_placed
 placed_apart places at [] n out = refl

@@ -3,7 +3,7 @@
 //! Modules in reading order: `number` (the numbers of a line), `call` (a call of a method, with its
 //! arguments), `lines` (a whole line), `law` (a line asks for one thing), `text` (names, constants and
 //! lists of them), `state` (the lines of a state), `report` (the opening and the clocks of a report),
-//! `order` (the text of a schedule). What a line is is in `specs/Lines.antt`, and what is written in
+//! `order` (the text of a schedule). What a line is stands in `specs/Lines.antt`, and what is written in
 //! `specs/Texts.antt`.
 #![tactic(auto)]
 

@@ -242,7 +242,7 @@ module _ (b : DesignData) (c : NetData)
 
     -- ---- what is told
 
-    -- what is known of a place is with its own width, whether there is a node or not
+    -- what is known of a place has its own width, whether there is a node or not
     known_stands : (n : ℕ) → length N.written.wires ≤ n → (p : ℕ) → Stands m n (known_at ks p).atom (known_at ks p).width
     known_stands n long p = of (slice_get us p) refl
       where

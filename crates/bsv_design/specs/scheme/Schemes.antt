@@ -1,4 +1,4 @@
--- What a design is, however its elements are written: as text that is carried out, or as flat bodies. All that is said of
+-- What a design is, however its elements are written: as text, or as flat bodies. All that is said of
 -- schedules and clocks is said of a scheme (Hoe and Arvind 2004, guarded atomic actions; Bluespec reference guide, "Rules").
 use Rattle.std.specs.Prelude.{◌≡◌, ℕ, Bool, true, false, cond, not, ◌&&◌, ◌||◌, List, [], ◌∷◌, map, length, slice_get, Option, Some, None}
 use Rattle.bsv_bits.specs.Words.{Bits, bit, zero_word}
@@ -13,7 +13,6 @@ use Rattle.bsv_design.specs.design.Bodies.{Target, target, Answers}
 use Rattle.bsv_design.specs.design.Designs.{DesignData}
 use Rattle.bsv_design.specs.parts.Kinds.{kind_table}
 use Rattle.bsv_design.specs.scheme.Traces.{Site, Demand, Trace, kind_at, body_trace}
-use Rattle.bsv_tree.specs.carrying.Uses.{uses}
 
 -- what is known of an element from outside
 pub record Outline : Type 0 where

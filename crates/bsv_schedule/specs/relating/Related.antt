@@ -12,7 +12,7 @@ use Rattle.bsv_schedule.specs.declared.relating.related.Relation.TheVariants as 
 abbrev pub names_method : List Kind → ℕ → ℕ → Bool
 names_method ks part m = has_method (slice_get ks part) m
 
--- two calls of methods on one part, the first one of the first element, are so
+-- two calls of methods on one part, the first one of the first element, stand in the relation
 abbrev pub related_by : Relation → Kind → ℕ → ℕ → Bool
 related_by relation.Clashes k m n = not (goes_before ((kind_table k).relation m n))
 related_by relation.Feeds k m n = (kind_table k).sees m n
@@ -21,6 +21,6 @@ abbrev pub related : Relation → Option Kind → ℕ → ℕ → Bool
 related w None m n = false
 related w (Some k) m n = related_by w k m n
 
--- a use of the first element and one of the second are so, on one part
+-- a use of the first element and one of the second stand in the relation, on one part
 abbrev pub on_one_part : Relation → List Kind → Target → Target → Bool
 on_one_part w ks x y = (x.part == y.part) && related w (slice_get ks x.part) x.method y.method

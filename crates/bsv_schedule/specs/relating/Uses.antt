@@ -47,7 +47,7 @@ use_named ks u = names_method ks u.part u.method
 abbrev pub is_named : List Kind → Usage → Bool
 is_named ks u = list_all (use_named ks) u.uses
 
--- a use of the first and one of the second are so, as the code looks for them
+-- a use of the first and one of the second stand in the relation, as the code looks for them
 abbrev pub meet : Relation → List Kind → Usage → Usage → Bool
 meet w ks us vs = list_any (λ v. list_any (λ m. related w (slice_get ks v.part) m v.method) (methods_on us.uses v.part)) vs.uses
 

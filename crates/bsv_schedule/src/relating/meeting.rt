@@ -12,7 +12,7 @@ use crate::relating::related::{Relation, related};
 use crate::relating::usage::Usage;
 use bsv_design::{Call, Design, NamedPart};
 
-// Whether one of these methods of the part and this method are so.
+// Whether one of these methods of the part and this method stand in the relation.
 fn some_related(
     relation: Relation,
     parts: &[NamedPart],
@@ -34,7 +34,7 @@ fn some_related(
     false
 }
 
-/// Whether a use of the first and one of the second are so.
+/// Whether a use of the first and one of the second stand in the relation.
 pub(crate) fn meet(relation: Relation, parts: &[NamedPart], first: &Usage, second: &Usage) -> bool
     requires first { IsTrue (uses.is_named (map (λ p. p.kind) parts.now) first.now) }
     requires second { IsTrue (uses.is_named (map (λ p. p.kind) parts.now) second.now) }
@@ -49,7 +49,7 @@ pub(crate) fn meet(relation: Relation, parts: &[NamedPart], first: &Usage, secon
     false
 }
 
-// Whether the call and one of the others are so.
+// Whether the call and one of the others stand in the relation.
 fn call_meets(relation: Relation, parts: &[NamedPart], call: &Call, others: &[Call]) -> bool
     requires call { IsTrue (call_named (map (λ p. p.kind) parts.now) call.now) }
     requires others { IsTrue (list_all
@@ -67,7 +67,7 @@ fn call_meets(relation: Relation, parts: &[NamedPart], call: &Call, others: &[Ca
     false
 }
 
-// Whether one of the calls and one of the others are so.
+// Whether one of the calls and one of the others stand in the relation.
 fn calls_meet(relation: Relation, parts: &[NamedPart], calls: &[Call], others: &[Call]) -> bool
     requires calls { IsTrue (list_all
         (call_named (map (λ p. p.kind) parts.now)) calls.now) }

@@ -21,7 +21,7 @@ fn goes_before(relation: Rel) -> bool
     matches!(relation, Rel::Cf | Rel::Sb | Rel::Sbr)
 }
 
-/// Whether calls of two methods of a part of this kind are so.
+/// Whether calls of two methods of a part of this kind stand in the relation.
 pub(crate) fn related_by(relation: Relation, kind: &Kind, first: u32, second: u32) -> bool
     requires first { first < (kind_table kind.now).methods }
     requires second { second < (kind_table kind.now).methods }
@@ -33,7 +33,7 @@ pub(crate) fn related_by(relation: Relation, kind: &Kind, first: u32, second: u3
     }
 }
 
-/// Whether calls of two methods of a part are so.
+/// Whether calls of two methods of a part stand in the relation.
 pub(crate) fn related(
     relation: Relation,
     parts: &[NamedPart],
