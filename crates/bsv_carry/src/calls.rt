@@ -2,9 +2,11 @@ ghost use Rattle.bsv_fail.specs.Given.{Gives};
 ghost use Rattle.bsv_carry.specs.AtHand as spec;
 
 use crate::carrier::Carrier;
-use bsv_tree::{Built, Fault, MethodPlace, Value, Work};
 use bsv_fail::Fail;
-use bsv_tree::{Got, Valued, arguments, is_integer, needed, no_steps, no_variables, seen};
+use bsv_tree::{
+    Built, Fault, Got, MethodPlace, Value, Valued, Work, arguments, is_integer, needed, no_steps,
+    no_variables, seen,
+};
 use bsv_types::{Body, Expr, Method, Stmt};
 
 impl<'a> Carrier<'a> {

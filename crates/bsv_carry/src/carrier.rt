@@ -4,8 +4,8 @@ ghost use Rattle.bsv_tree.specs.carrying.Applied as applied;
 ghost use Rattle.bsv_tree.specs.carrying.Calls as calls;
 ghost use Rattle.bsv_carry.specs.AtHand as spec;
 
-use bsv_tree::{Binding, Fault, Instance};
 use bsv_fail::Fail;
+use bsv_tree::{Binding, Fault, Instance};
 use bsv_types::{Field, Ty, Typed, counted_width};
 use std::alloc::Global;
 

@@ -3,11 +3,10 @@ ghost use Rattle.bsv_carry.specs.AtHand as spec;
 
 use crate::carrier::Carrier;
 use crate::statements::Acted;
-use bsv_tree::{Count, Local, Pending, Value, Work};
 use bsv_fail::Fail;
 use bsv_tree::{
-    Counted, Got, Locals, Valued, after_arm, at_count, close, either, is_static, is_true, no_steps,
-    or_false, untouched, with_pending,
+    Count, Counted, Got, Local, Locals, Pending, Value, Valued, Work, after_arm, at_count, close,
+    either, is_static, is_true, no_steps, or_false, untouched, with_pending,
 };
 use bsv_types::{CaseArm, Expr, Stmt};
 use sqlite_items::{Boxed, Items};

@@ -3,10 +3,9 @@ ghost use Rattle.bsv_carry.specs.AtHand as spec;
 
 use crate::carrier::Carrier;
 use crate::statements::Acted;
-use bsv_tree::{Count, Local, Pending, Value, Work};
 use bsv_tree::{
-    Counted, Got, Locals, after_arm, at_count, close, front, is_static, is_true, no_steps, slice,
-    untouched, with_pending, with_variable,
+    Count, Counted, Got, Local, Locals, Pending, Value, Work, after_arm, at_count, close, front,
+    is_static, is_true, no_steps, slice, untouched, with_pending, with_variable,
 };
 use bsv_types::{Branch, Condition, Stmt};
 use sqlite_items::{Boxed, Items};

@@ -3,11 +3,10 @@ ghost use Rattle.bsv_types.specs.Kinds.{kind};
 ghost use Rattle.bsv_carry.specs.AtHand as spec;
 
 use crate::carrier::Carrier;
-use bsv_tree::{Arm, Choice, Count, Local, Value, Work};
 use bsv_fail::Fail;
 use bsv_tree::{
-    Counted, Got, Valued, after_arm, at_count, counted, is_static, is_true, loosened, no_steps,
-    tick, value_choice, with_value_arm,
+    Arm, Choice, Count, Counted, Got, Local, Value, Valued, Work, after_arm, at_count, counted,
+    is_static, is_true, loosened, no_steps, tick, value_choice, with_value_arm,
 };
 use bsv_types::{Expr, Op, Place, Ty};
 use sqlite_items::Items;

@@ -9,9 +9,8 @@ use crate::carrier::Carrier;
 use crate::integers::number_between;
 use crate::operators::constant_of;
 use bsv_bits::Operator;
-use bsv_tree::{Constant, Local, Static, Value, Work};
 use bsv_fail::Fail;
-use bsv_tree::{Got, Valued, between, held, is_static};
+use bsv_tree::{Constant, Got, Local, Static, Value, Valued, Work, between, held, is_static};
 use bsv_types::{Expr, Op, Ty};
 
 /// An Integer that is written is less than this.

@@ -3,9 +3,11 @@ ghost use Rattle.bsv_carry.specs.AtHand as spec;
 
 use crate::carrier::Carrier;
 use crate::statements::Acted;
-use bsv_tree::{Count, Fault, Local, Work};
 use bsv_fail::Fail;
-use bsv_tree::{Counted, Locals, assign, at_count, decided, front, no_steps, with_variable};
+use bsv_tree::{
+    Count, Counted, Fault, Local, Locals, Work, assign, at_count, decided, front, no_steps,
+    with_variable,
+};
 use bsv_types::{Expr, Head, Stmt};
 
 impl Carrier<'_> {

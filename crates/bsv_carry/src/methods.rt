@@ -3,9 +3,11 @@ ghost use Rattle.bsv_carry.specs.AtHand as spec;
 
 use crate::carrier::Carrier;
 use bsv_design::Kind;
-use bsv_tree::{Atom, Built, Count, Local, Made, MethodPlace, Step, Work, part_method_number};
 use bsv_fail::Fail;
-use bsv_tree::{Got, Valued, at_count, atoms, counted, give, no_steps, opened, truth, with_step};
+use bsv_tree::{
+    Atom, Built, Count, Got, Local, Made, MethodPlace, Step, Valued, Work, at_count, atoms,
+    counted, give, no_steps, opened, part_method_number, truth, with_step,
+};
 use bsv_types::{Expr, PartTy, Place};
 use sqlite_items::Items;
 

@@ -9,9 +9,10 @@ use crate::carrier::Carrier;
 use crate::integers::{fitted, number_between};
 use bsv_bits::Operator;
 use bsv_design::word;
-use bsv_tree::{Constant, Value, Work};
 use bsv_fail::Fail;
-use bsv_tree::{Got, Valued, between, extend, inverted, join, pick, sign_extend, slice};
+use bsv_tree::{
+    Constant, Got, Value, Valued, Work, between, extend, inverted, join, pick, sign_extend, slice,
+};
 use bsv_types::{Field, Op, Ty, counted_widths};
 use std::alloc::Global;
 

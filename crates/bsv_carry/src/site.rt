@@ -4,8 +4,7 @@ ghost use Rattle.bsv_tree.specs.carrying.Carrying as carrying;
 ghost use Rattle.bsv_carry.specs.AtHand as spec;
 
 use crate::carrier::Carrier;
-use bsv_tree::{Binding, Count, Instance, Local, Work};
-use bsv_tree::{Counted, Got, Valued, no_steps, parameters};
+use bsv_tree::{Binding, Count, Counted, Got, Instance, Local, Valued, Work, no_steps, parameters};
 use bsv_types::{Expr, Method, Place, Stmt, Typed};
 use std::alloc::Global;
 

@@ -2,10 +2,9 @@ ghost use Rattle.bsv_fail.specs.Given.{Gives};
 ghost use Rattle.bsv_carry.specs.AtHand as spec;
 
 use crate::carrier::Carrier;
-use bsv_tree::{Count, Pending, Work};
 use bsv_tree::{
-    Got, Locals, assign, at_count, close, counted, front, is_integer, no_steps, untouched,
-    with_variable,
+    Count, Got, Locals, Pending, Work, assign, at_count, close, counted, front, is_integer,
+    no_steps, untouched, with_variable,
 };
 use bsv_types::Stmt;
 use sqlite_items::{Boxed, Items};

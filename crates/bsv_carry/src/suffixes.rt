@@ -7,9 +7,8 @@ ghost use Rattle.bsv_carry.specs.AtHand as spec;
 
 use crate::carrier::Carrier;
 use crate::operators::{constant_of, together};
-use bsv_tree::{Value, Work};
 use bsv_fail::Fail;
-use bsv_tree::{Got, Valued, slice, truth};
+use bsv_tree::{Got, Value, Valued, Work, slice, truth};
 use bsv_types::{Field, Op, Ty, counted_widths};
 use sqlite_items::Items;
 use std::alloc::{AllocError, Global};

@@ -1,9 +1,9 @@
 ghost use Rattle.std.specs.Prelude.{◌≡◌};
 ghost use Rattle.bsv_design.specs.design.Designs.{IsDesign};
 
+use crate::attributes::{Assert, Pair};
 use crate::element::Element;
 use crate::kind::Kind;
-use crate::attributes::{Assert, Pair};
 use bsv_bits::Name;
 use sqlite_items::Items;
 

@@ -7,8 +7,8 @@ use crate::refused::{Building, Refused};
 use crate::state::State;
 use crate::variables::{binding, put_at, with_binding};
 use bsv_bits::{Name, OutOfMemory};
-use bsv_tree::{Binding, Static};
 use bsv_fail::Fail;
+use bsv_tree::{Binding, Static};
 use sqlite_items::Items;
 use std::alloc::{AllocError, Global};
 

@@ -3,8 +3,8 @@ ghost use Rattle.bsv_elab.specs.AtHand as spec;
 
 use bsv_bits::Name;
 use bsv_design::Attribute;
-use bsv_tree::Fault;
 use bsv_fail::Fail;
+use bsv_tree::Fault;
 
 /// What is counted.
 #[derive(Clone, Copy, Debug, PartialEq, Eq)]

@@ -9,9 +9,8 @@ use crate::builder::Builder;
 use crate::refused::{Building, Refused, from_carry};
 use crate::state::State;
 use bsv_carry::Context;
-use bsv_tree::{Constant, Count, Fault, Value, Work};
 use bsv_fail::Fail;
-use bsv_tree::{no_steps, no_variables, tick};
+use bsv_tree::{Constant, Count, Fault, Value, Work, no_steps, no_variables, tick};
 use bsv_types::Expr;
 
 /// The greatest number that is a place in a list.

@@ -4,8 +4,7 @@ ghost use Rattle.bsv_elab.specs.Statics as spec;
 
 use crate::state::State;
 use bsv_bits::{Name, OutOfMemory};
-use bsv_tree::{Binding, Constant, Static};
-use bsv_tree::front;
+use bsv_tree::{Binding, Constant, Static, front};
 use bsv_types::Ty;
 use sqlite_items::Items;
 use std::alloc::{AllocError, Global};

@@ -13,8 +13,8 @@ ghost use Rattle.bsv_flow.specs.declared.refusal.Refusal.{Refusal as TheRefusal}
 use crate::naming::attribute_word;
 use crate::refusal::{CompileFault, Refusal};
 use bsv_bits::{Name, OutOfMemory};
-use bsv_tree::Tree;
 use bsv_elab::{ElabFault, LimitKind, build};
+use bsv_tree::Tree;
 use bsv_types::Typed;
 use std::alloc::Global;
 

@@ -18,9 +18,9 @@ use crate::naming::{element_name, method_name, part_path};
 use crate::refusal::{CompileFault, Refusal};
 use bsv_bits::{Name, OutOfMemory};
 use bsv_design::{Design, Guards};
-use bsv_tree::Tree;
 use bsv_guard::{GuardFault, lift};
 use bsv_inline::flatten;
+use bsv_tree::Tree;
 use std::alloc::Global;
 
 /// The refusal of two calls of an element that may not be in it.

@@ -12,8 +12,9 @@ use crate::rules::{Placed, rule_at};
 use bsv_bits::{Name, OutOfMemory};
 use bsv_carry::Context;
 use bsv_design::{Port, Role, path_of};
-use bsv_tree::{Atom, Binding, Built, Count, Made, Source, Tree, Value};
-use bsv_tree::{Valued, atom_of, no_steps, seen};
+use bsv_tree::{
+    Atom, Binding, Built, Count, Made, Source, Tree, Value, Valued, atom_of, no_steps, seen,
+};
 use bsv_types::{Method, MethodResult, Module, Param, Rule, Ty, counted_width};
 use sqlite_items::Items;
 use std::alloc::Global;

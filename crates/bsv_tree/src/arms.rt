@@ -5,10 +5,10 @@ ghost use Rattle.bsv_tree.specs.carrying.Arms as spec;
 use crate::count::fresh;
 use crate::fault::Got;
 use crate::frame::Locals;
-use crate::value::{atom_of, truth};
-use crate::work::with_step;
 use crate::steps::{Arm, Atom, Choice, Step};
+use crate::value::{atom_of, truth};
 use crate::values::{Count, Local, Pending, Value, Work};
+use crate::work::with_step;
 use sqlite_items::Items;
 use std::alloc::{AllocError, Global};
 

@@ -4,14 +4,15 @@ ghost use Rattle.bsv_types.specs.Kinds.{kind};
 ghost use Rattle.bsv_tree.specs.tree.Contexts as contexts;
 ghost use Rattle.bsv_tree.specs.carrying.Carrying as carrying;
 
+use crate::branches::after_arm;
 use crate::count::fresh;
 use crate::fault::Counted;
 use crate::frame::{Locals, variable};
-use crate::value::{all_static, atom_of, is_true, opened, truth};
-use crate::work::{at_count, with_step};
 use crate::statics::Binding;
 use crate::steps::{Atom, MethodPlace, Step};
+use crate::value::{all_static, atom_of, is_true, opened, truth};
 use crate::values::{Constant, Count, Local, Value, Work};
+use crate::work::{at_count, with_step};
 use bsv_types::{Param, Ty};
 use sqlite_items::Items;
 use std::alloc::{AllocError, Global};
@@ -56,7 +57,8 @@ pub fn needed(
     ensures { IfOk result (λ found. found ≡ carrying.needed name work (value, asked)) }
 {
     if is_true(&value) {
-        return Ok(at_count(work, asked.count));
+        let count = after_arm(work.count, asked.count);
+        return Ok(at_count(work, count));
     }
     with_need(name, work, value, asked)
 }

@@ -4,11 +4,11 @@ ghost use Rattle.bsv_tree.specs.carrying.Carrying as carrying;
 ghost use Rattle.bsv_tree.specs.carrying.Values as values;
 
 use crate::frame::Locals;
+use crate::steps::{Arm, Atom, Choice, Step};
 use crate::value::{atom_of, truth};
+use crate::values::{Count, Pending, Value, Work};
 use crate::work::{Valued, at_count, between, give};
 use bsv_bits::Operator;
-use crate::steps::{Arm, Atom, Choice, Step};
-use crate::values::{Count, Pending, Value, Work};
 use sqlite_items::Items;
 use std::alloc::{AllocError, Global};
 

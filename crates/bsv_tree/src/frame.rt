@@ -1,9 +1,9 @@
 ghost use Rattle.std.specs.Prelude.{◌≡◌, [], ◌∷◌, ◌++◌, IfOk, take};
 ghost use Rattle.bsv_tree.specs.carrying.Frames as spec;
 
-use bsv_bits::Word;
 use crate::steps::Atom;
 use crate::values::{Constant, Local, Value};
+use bsv_bits::Word;
 use sqlite_items::Items;
 use std::alloc::{AllocError, Global};
 

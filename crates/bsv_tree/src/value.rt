@@ -1,10 +1,10 @@
 ghost use Rattle.std.specs.Prelude.{◌≡◌, IfOk, map};
 ghost use Rattle.bsv_tree.specs.carrying.Values as spec;
 
-use bsv_bits::Word;
 use crate::statics::Static;
 use crate::steps::Atom;
 use crate::values::{Constant, Value};
+use bsv_bits::Word;
 use sqlite_items::Items;
 use std::alloc::{AllocError, Global};
 

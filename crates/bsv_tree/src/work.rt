@@ -6,11 +6,11 @@ ghost use Rattle.bsv_tree.specs.declared.values.Value.TheVariants as value;
 
 use crate::count::fresh;
 use crate::fault::Got;
+use crate::steps::{Atom, Compute, Step};
 use crate::value::{atom_of, constant_word};
+use crate::values::{Constant, Count, Value, Work};
 use bsv_bits::{Operator, Word};
 use bsv_design::{between as word_between, extended, joined, picked, sign_extended, sliced};
-use crate::steps::{Atom, Compute, Step};
-use crate::values::{Constant, Count, Value, Work};
 use sqlite_items::Items;
 use std::alloc::{AllocError, Global};
 

@@ -48,70 +48,87 @@ module _ (arms : List Pending) (last : List Local) (Y : Variables) (all : List L
   joins [] [] [] at fit long found e given c ts g d h =
       let it = same_ok (found, given, c) (ts, g, d) h in
       record {
-        rest = []; more = [];
+        rest = [];
+        more = [];
         variables = ap (λ (o : List Local × List ℕ × Count). o.0) (sym it) ∙ sym (append-nil found);
         numbers = ap (λ (o : List Local × List ℕ × Count). o.1) (sym it) ∙ sym (append-nil given);
         slots = ap (λ (o : List Local × List ℕ × Count). o.2.slots) (sym it) ∙ omega arith;
-        plain = tt; kept = tt; holds = λ W i j. tt;
+        plain = tt;
+        kept = tt;
+        holds = λ W i j. tt;
       }
   joins (v ∷ vs) (u ∷ us) (y ∷ ys) at fit long found e given c ts g d h =
       let shorter : length vs ≡ length us = cc in
       by (carried.assigned arms last (length found)) v.integer refl refl h
       (λ x gs b i. joins vs us ys (suc at) fit.1 shorter (found ++ x ∷ []) (one_longer found x at e) gs b ts g d i) where
-    IH : Type 0
-    IH = (x : Local) (gs : List ℕ) (b : Count) → joined_from arms last (found ++ x ∷ []) gs vs b ≡ Ok (ts, g, d) → Joins vs us ys (found ++ x ∷ []) gs b ts g d
-    Goal : Type 0
-    Goal = Joins (v ∷ vs) (u ∷ us) (y ∷ ys) found given c ts g d
-    new : Local
-    new = joined_as v c.slots
-    after : Bool → Variable
-    after b = if b then record { value = varied y.value; assigned = true } else u
-    by : (b i : Bool) → carried.assigned arms last (length found) ≡ b → v.integer ≡ i
-        → (if b then (if i then joined_from arms last (found ++ new ∷ []) given vs c else (fresh c 1 >>= λ next. joined_from arms last (found ++ new ∷ []) (given ++ length found ∷ []) vs next)) else joined_from arms last (found ++ v ∷ []) given vs c) ≡ Ok (ts, g, d) → IH → Goal
-    by true true p q i ih =
-        let R = ih new given c i in
-        let is : new ≡ record { value = v.value; integer = true; lost = true; touched = true } = ap (λ (o : Bool). if o then (let a : Local = record { value = v.value; integer = true; lost = true; touched = true } in a) else record { value = value.Open (atom.Slot c.slots); integer = false; lost = false; touched = true }) q in
-        let flag : true ≡ y.assigned = sym p ∙ ap (carried.assigned arms last) e ∙ fit.0.0 in
-        record {
-          rest = new ∷ R.rest; more = R.more;
-          variables = R.variables ∙ append_assoc found (new ∷ []) R.rest;
-          numbers = R.numbers; slots = R.slots; plain = R.plain;
-          kept = (ap (λ (a : Local). a.integer) is ∙ sym q, R.kept);
-          holds = λ W hold stand.
-              (subst (λ (a : Local). Holds W a (after y.assigned)) (sym is) (subst (λ b. Holds W (record { value = v.value; integer = true; lost = true; touched = true }) (after b)) flag
-              (record { shows = λ j. absurd cc; lost = λ j. absurd cc; assigned = refl })), R.holds W hold.1 stand);
-        }
-    by true false p q i ih =
-        let n = got (fresh c 1) (λ next. joined_from arms last (found ++ new ∷ []) (given ++ length found ∷ []) vs next) (ts, g, d) i in
-        let R = ih new (given ++ length found ∷ []) n.0 n.2 in
-        let up : n.0.slots ≡ c.slots + 1 = fresh_is c 1 n.0 n.1 in
-        let is : new ≡ record { value = value.Open (atom.Slot c.slots); integer = false; lost = false; touched = true } = ap (λ (o : Bool). if o then (let a : Local = record { value = v.value; integer = true; lost = true; touched = true } in a) else record { value = value.Open (atom.Slot c.slots); integer = false; lost = false; touched = true }) q in
-        let flag : true ≡ y.assigned = sym p ∙ ap (carried.assigned arms last) e ∙ fit.0.0 in
-        record {
-          rest = new ∷ R.rest; more = length found ∷ R.more;
-          variables = R.variables ∙ append_assoc found (new ∷ []) R.rest;
-          numbers = R.numbers ∙ append_assoc given (length found ∷ []) R.more;
-          slots = R.slots ∙ ap (λ o. o + length R.more) up ∙ omega arith;
-          plain = ((v, ap (slice_get all) e ∙ fit.0.2, q), R.plain);
-          kept = (ap (λ (a : Local). a.integer) is ∙ sym q, R.kept);
-          holds = λ W hold stand.
-              let same : stand.0.0 ≡ y = some_same (sym stand.0.1 ∙ ap (slice_get Y) e ∙ fit.0.1) in
-              (subst (λ (a : Local). Holds W a (after y.assigned)) (sym is) (subst (λ b. Holds W (record { value = value.Open (atom.Slot c.slots); integer = false; lost = false; touched = true }) (after b)) flag
-              (record { shows = λ j. (word_of y.value, stand.0.2 ∙ ap (λ (o : Variable). Some (word_of o.value)) same, refl); lost = λ j. refl; assigned = refl })),
-              R.holds W hold.1 (subst (λ o. Stand W Y o R.more) (sym up) stand.1));
-        } where
-      some_same : {A : Type 0} {a b : A} → Some a ≡ Some b → a ≡ b
-      some_same j = cc
-    by false j p q i ih =
-        let R = ih v given c i in
-        let flag : false ≡ y.assigned = sym p ∙ ap (carried.assigned arms last) e ∙ fit.0.0 in
-        record {
-          rest = v ∷ R.rest; more = R.more;
-          variables = R.variables ∙ append_assoc found (v ∷ []) R.rest;
-          numbers = R.numbers; slots = R.slots; plain = R.plain;
-          kept = (refl, R.kept);
-          holds = λ W hold stand. (subst (λ b. Holds W v (after b)) flag hold.0, R.holds W hold.1 stand);
-        }
+        IH : Type 0
+        IH = (x : Local) (gs : List ℕ) (b : Count) → joined_from arms last (found ++ x ∷ []) gs vs b ≡ Ok (ts, g, d) → Joins vs us ys (found ++ x ∷ []) gs b ts g d
+
+        Goal : Type 0
+        Goal = Joins (v ∷ vs) (u ∷ us) (y ∷ ys) found given c ts g d
+
+        new : Local
+        new = joined_as v c.slots
+
+        after : Bool → Variable
+        after b = if b then record { value = varied y.value; assigned = true } else u
+
+        by : (b i : Bool) → carried.assigned arms last (length found) ≡ b → v.integer ≡ i
+            → (if b then (if i then joined_from arms last (found ++ new ∷ []) given vs c else (fresh c 1 >>= λ next. joined_from arms last (found ++ new ∷ []) (given ++ length found ∷ []) vs next)) else joined_from arms last (found ++ v ∷ []) given vs c) ≡ Ok (ts, g, d) → IH → Goal
+        by true true p q i ih =
+            let R = ih new given c i in
+            let is : new ≡ record { value = v.value; integer = true; lost = true; touched = true } = ap (λ (o : Bool). if o then (let a : Local = record { value = v.value; integer = true; lost = true; touched = true } in a) else record { value = value.Open (atom.Slot c.slots); integer = false; lost = false; touched = true }) q in
+            let flag : true ≡ y.assigned = sym p ∙ ap (carried.assigned arms last) e ∙ fit.0.0 in
+            record {
+              rest = new ∷ R.rest;
+              more = R.more;
+              variables = R.variables ∙ append_assoc found (new ∷ []) R.rest;
+              numbers = R.numbers;
+              slots = R.slots;
+              plain = R.plain;
+              kept = (ap (λ (a : Local). a.integer) is ∙ sym q, R.kept);
+              holds = λ W hold stand. (
+                subst (λ (a : Local). Holds W a (after y.assigned)) (sym is) (subst (λ b. Holds W (record { value = v.value; integer = true; lost = true; touched = true }) (after b)) flag
+                    (record { shows = λ j. absurd cc; lost = λ j. absurd cc; assigned = refl })),
+                R.holds W hold.1 stand,
+              );
+            }
+        by true false p q i ih =
+            let n = got (fresh c 1) (λ next. joined_from arms last (found ++ new ∷ []) (given ++ length found ∷ []) vs next) (ts, g, d) i in
+            let R = ih new (given ++ length found ∷ []) n.0 n.2 in
+            let up : n.0.slots ≡ c.slots + 1 = fresh_is c 1 n.0 n.1 in
+            let is : new ≡ record { value = value.Open (atom.Slot c.slots); integer = false; lost = false; touched = true } = ap (λ (o : Bool). if o then (let a : Local = record { value = v.value; integer = true; lost = true; touched = true } in a) else record { value = value.Open (atom.Slot c.slots); integer = false; lost = false; touched = true }) q in
+            let flag : true ≡ y.assigned = sym p ∙ ap (carried.assigned arms last) e ∙ fit.0.0 in
+            record {
+              rest = new ∷ R.rest;
+              more = length found ∷ R.more;
+              variables = R.variables ∙ append_assoc found (new ∷ []) R.rest;
+              numbers = R.numbers ∙ append_assoc given (length found ∷ []) R.more;
+              slots = R.slots ∙ ap (λ o. o + length R.more) up ∙ omega arith;
+              plain = ((v, ap (slice_get all) e ∙ fit.0.2, q), R.plain);
+              kept = (ap (λ (a : Local). a.integer) is ∙ sym q, R.kept);
+              holds = λ W hold stand.
+                  let same : stand.0.0 ≡ y = some_same (sym stand.0.1 ∙ ap (slice_get Y) e ∙ fit.0.1) in (
+                    subst (λ (a : Local). Holds W a (after y.assigned)) (sym is) (subst (λ b. Holds W (record { value = value.Open (atom.Slot c.slots); integer = false; lost = false; touched = true }) (after b)) flag
+                        (record { shows = λ j. (word_of y.value, stand.0.2 ∙ ap (λ (o : Variable). Some (word_of o.value)) same, refl); lost = λ j. refl; assigned = refl })),
+                    R.holds W hold.1 (subst (λ o. Stand W Y o R.more) (sym up) stand.1),
+                  );
+            } where
+              some_same : {A : Type 0} {a b : A} → Some a ≡ Some b → a ≡ b
+              some_same j = cc
+        by false j p q i ih =
+            let R = ih v given c i in
+            let flag : false ≡ y.assigned = sym p ∙ ap (carried.assigned arms last) e ∙ fit.0.0 in
+            record {
+              rest = v ∷ R.rest;
+              more = R.more;
+              variables = R.variables ∙ append_assoc found (v ∷ []) R.rest;
+              numbers = R.numbers;
+              slots = R.slots;
+              plain = R.plain;
+              kept = (refl, R.kept);
+              holds = λ W hold stand. (subst (λ b. Holds W v (after b)) flag hold.0, R.holds W hold.1 stand);
+            }
   joins [] (u ∷ us) ys at fit long found e given c ts g d h = absurd cc
   joins (v ∷ vs) [] ys at fit long found e given c ts g d h = absurd cc
   joins [] [] (y ∷ ys) at fit long found e given c ts g d h = absurd fit
@@ -130,10 +147,11 @@ got_after (v ∷ V) W w = got_after V W w
 stands : (V ws : List Bits) (Y : Variables) (more : List ℕ) → AllAt Y more ws → Stand (V ++ ws) Y (length V) more
 unfolding Stand AllAt
 stands V [] Y [] h = tt
-stands V (w ∷ ws) Y (at ∷ more) h =
-    ((h.0.0, h.0.1, got_after V ws w ∙ ap Some (sym h.0.2)),
-    subst (λ (o : List Bits). Stand o Y (length V + 1) more) (append_assoc V (w ∷ []) ws)
-    (subst (λ i. Stand ((V ++ w ∷ []) ++ ws) Y i more) (length-append V (w ∷ [])) (stands (V ++ w ∷ []) ws Y more h.1)))
+stands V (w ∷ ws) Y (at ∷ more) h = (
+  (h.0.0, h.0.1, got_after V ws w ∙ ap Some (sym h.0.2)),
+  subst (λ (o : List Bits). Stand o Y (length V + 1) more) (append_assoc V (w ∷ []) ws)
+      (subst (λ i. Stand ((V ++ w ∷ []) ++ ws) Y i more) (length-append V (w ∷ [])) (stands (V ++ w ∷ []) ws Y more h.1)),
+)
 stands V [] Y (at ∷ more) h = absurd h
 stands V (w ∷ ws) Y [] h = absurd h
 
@@ -160,13 +178,16 @@ module _ (arms : List Pending) (last : List Local) where
   unfolding Fit
   fits Y all flags us [] xs [] e f g h = tt
   fits Y all flags us (v ∷ vs) xs (y ∷ ys) e f g h =
-      let shorter : length vs ≡ length ys = cc in
-      ((flags (length xs) ∙ ap (λ o. flag_at o (length xs)) f ∙ flag_in xs ys y,
-      ap (λ o. slice_get o (length xs)) f ∙ there_in xs ys y,
-      ap₂ (λ (o : List Local) i. slice_get o i) e (sym g) ∙ there_in us vs v),
-      subst (λ i. Fit arms last Y all i vs ys) (length-append xs (y ∷ []) ∙ omega arith)
-      (fits Y all flags (us ++ v ∷ []) vs (xs ++ y ∷ []) ys (e ∙ sym (append_assoc us (v ∷ []) vs)) (f ∙ sym (append_assoc xs (y ∷ []) ys))
-      (length-append us (v ∷ []) ∙ ap (λ i. i + 1) g ∙ sym (length-append xs (y ∷ []))) shorter))
+      let shorter : length vs ≡ length ys = cc in (
+        (
+          flags (length xs) ∙ ap (λ o. flag_at o (length xs)) f ∙ flag_in xs ys y,
+          ap (λ o. slice_get o (length xs)) f ∙ there_in xs ys y,
+          ap₂ (λ (o : List Local) i. slice_get o i) e (sym g) ∙ there_in us vs v,
+        ),
+        subst (λ i. Fit arms last Y all i vs ys) (length-append xs (y ∷ []) ∙ omega arith)
+            (fits Y all flags (us ++ v ∷ []) vs (xs ++ y ∷ []) ys (e ∙ sym (append_assoc us (v ∷ []) vs)) (f ∙ sym (append_assoc xs (y ∷ []) ys))
+            (length-append us (v ∷ []) ∙ ap (λ i. i + 1) g ∙ sym (length-append xs (y ∷ []))) shorter),
+      )
   fits Y all flags us [] xs (y ∷ ys) e f g h = absurd cc
   fits Y all flags us (v ∷ vs) xs [] e f g h = absurd cc
 
@@ -175,10 +196,13 @@ module _ (arms : List Pending) (last : List Local) where
       → (c : Count) (ts : List Local) (g : List ℕ) (d : Count) → joined_from arms last [] [] vs c ≡ Ok (ts, g, d)
       → AllPlain vs g × Kept vs ts × ((V ws : List Bits) → length V ≡ c.slots → AllHold (V ++ ws) vs us → AllAt Y g ws → AllHold (V ++ ws) ts (restored us Y) × (length (V ++ ws) ≡ d.slots))
   after_choice vs us Y flags long same c ts g d e =
-      let J = joins arms last Y vs vs us Y 0 (fits Y vs flags [] vs [] Y refl refl refl (long ∙ sym same)) long [] refl [] c ts g d e in
-      (subst (AllPlain vs) (sym J.numbers) J.plain, subst (Kept vs) (sym J.variables) J.kept,
-      λ V ws at hold words.
-          let mine : AllAt Y J.more ws = subst (λ o. AllAt Y o ws) J.numbers words in
-          (subst (λ o. AllHold (V ++ ws) o (restored us Y)) (sym J.variables)
-          (J.holds (V ++ ws) hold (subst (λ i. Stand (V ++ ws) Y i J.more) at (stands V ws Y J.more mine))),
-          length-append V ws ∙ ap₂ (λ i j. i + j) at (as_many Y J.more ws mine) ∙ sym J.slots))
+      let J = joins arms last Y vs vs us Y 0 (fits Y vs flags [] vs [] Y refl refl refl (long ∙ sym same)) long [] refl [] c ts g d e in (
+        subst (AllPlain vs) (sym J.numbers) J.plain,
+        subst (Kept vs) (sym J.variables) J.kept,
+        λ V ws at hold words.
+            let mine : AllAt Y J.more ws = subst (λ o. AllAt Y o ws) J.numbers words in (
+              subst (λ o. AllHold (V ++ ws) o (restored us Y)) (sym J.variables)
+                  (J.holds (V ++ ws) hold (subst (λ i. Stand (V ++ ws) Y i J.more) at (stands V ws Y J.more mine))),
+              length-append V ws ∙ ap₂ (λ i j. i + j) at (as_many Y J.more ws mine) ∙ sym J.slots,
+            ),
+      )

@@ -204,7 +204,7 @@ module _ (r : Results) (p : Standing) (ws : List Bits) (n k : ℕ) where
     applied_is os t u w long (x ∷ xs) (a ∷ cs) i z v h =
         either_is (builds os) (built.all_together (built.set_from 0 (carried.fields s f t) os (x ∷ xs)) w) (built.applied_to s f t u os x xs w) w z v _ _
         (λ e. subst (λ ds. Is r p ws n k z w v (means.built s (means.set_from s 0 ds os (a ∷ cs)))) (same_fields s f t)
-            (built_is w long (built.set_from 0 (carried.fields s f t) os (x ∷ xs)) (means.set_from s 0 (carried.fields s f t) os (a ∷ cs)) (set_from_shows (V r p ws n k w) 0 (carried.fields s f t) os (x ∷ xs) (a ∷ cs) i) z v e))
+        (built_is w long (built.set_from 0 (carried.fields s f t) os (x ∷ xs)) (means.set_from s 0 (carried.fields s f t) os (a ∷ cs)) (set_from_shows (V r p ws n k w) 0 (carried.fields s f t) os (x ∷ xs) (a ∷ cs) i) z v e))
         (λ e. applied_to_is os t u w long x a xs cs i.0 i.1 z v e) h
     applied_is os t u w long [] (a ∷ cs) i z v h = absurd i
     applied_is os t u w long (x ∷ xs) [] i z v h = absurd i

@@ -89,12 +89,14 @@ module _ (r : Results) (call : Caller) (calling : Calling) (calls_same : CallsSa
         let g = got (carrying.all cs vs (no_steps c)) _ o e in
         let h = got (calls.or_fault (static_fault site) (part_method q kd number)) _ o g.2 in
         let it = same_ok (record { instance = instance; method = h.0 }, map atom_of g.0.0, g.0.1) o h.2 in
-        let last : g.0.1 ≡ o.2 = ap (λ (a : MethodPlace × List Atom × Work). a.2) it in
-        (h.0, g.0.0, or_fault_is (static_fault site) (part_method q kd number) h.0 h.1,
-        sym it ∙ ap (λ (a : Work). let b : MethodPlace × List Atom × Work = (record { instance = instance; method = h.0 }, map atom_of g.0.0, a) in b) last,
-        subst (λ (a : Work). Same r p (V r p ws n k w) (ran r p ws n k w).choices ((ran r p ws n k w).sites + 1) (λ W ys. AllShow W g.0.0 ys) (no_steps c) a (inner_at p ws n k w ms us)) last
-        (inner_is c same g.0.0 g.0.1 g.1))
-
+        let last : g.0.1 ≡ o.2 = ap (λ (a : MethodPlace × List Atom × Work). a.2) it in (
+          h.0,
+          g.0.0,
+          or_fault_is (static_fault site) (part_method q kd number) h.0 h.1,
+          sym it ∙ ap (λ (a : Work). let b : MethodPlace × List Atom × Work = (record { instance = instance; method = h.0 }, map atom_of g.0.0, a) in b) last,
+          subst (λ (a : Work). Same r p (V r p ws n k w) (ran r p ws n k w).choices ((ran r p ws n k w).sites + 1) (λ W ys. AllShow W g.0.0 ys) (no_steps c) a (inner_at p ws n k w ms us)) last
+              (inner_is c same g.0.0 g.0.1 g.1),
+        )
 
     site_of : Bool → MethodPlace → List Bits → SiteCall
     site_of action m args = record { method = m; action = action; taken = p.taken; branches = p.branches; arguments = args }
@@ -114,13 +116,14 @@ module _ (r : Results) (call : Caller) (calling : Calling) (calls_same : CallsSa
         let args : words_of inner.words (map atom_of xs) ≡ map word_of asked.gives = all_show_words inner.words xs asked.gives same.gives in
         let d = here r p ws n k w (called r false m (meaning.all ms us)) in
         let b = r K m (words_of inner.words (map atom_of xs)) in
-        let it = pushed r p ws n k (at_count w i.count) inner.words same.adds.within same.long (step.Read m (map atom_of xs) i.steps) x v e b d
-            (ap (λ o. varying (r K m o)) (sym args),
-            ap (λ (f : running.Run). f r p W N K) (read_is m (map atom_of xs) i.steps)
-            ∙ call_happens (inner.words ++ b ∷ []) inner.choices asked.choices inner.sites asked.sites
-                (site_of false m (words_of inner.words (map atom_of xs))) (site_of false m (map word_of asked.gives))
-                inner.calls asked.calls inner.needs asked.needs
-                same.adds.choices same.adds.sites (ap (site_of false m) args) same.adds.calls same.adds.needs) in
+        let it = pushed r p ws n k (at_count w i.count) inner.words same.adds.within same.long (step.Read m (map atom_of xs) i.steps) x v e b d (
+          ap (λ o. varying (r K m o)) (sym args),
+          ap (λ (f : running.Run). f r p W N K) (read_is m (map atom_of xs) i.steps)
+              ∙ call_happens (inner.words ++ b ∷ []) inner.choices asked.choices inner.sites asked.sites
+              (site_of false m (words_of inner.words (map atom_of xs))) (site_of false m (map word_of asked.gives))
+              inner.calls asked.calls inner.needs asked.needs
+              same.adds.choices same.adds.sites (ap (site_of false m) args) same.adds.calls same.adds.needs,
+        ) in
         record { adds = it.adds; long = it.long; gives = it.gives }
 
     pub act_called : (m : MethodPlace) (c : Count) → (xs : List Value) (i : Work)
@@ -137,12 +140,12 @@ module _ (r : Results) (call : Caller) (calling : Calling) (calls_same : CallsSa
         let d = here r p ws n k w (called r true m (meaning.all ms us)) in
         let end : Happening = record { words = inner.words ++ []; choices = d.choices; sites = d.sites; calls = (ran r p ws n k w).calls ++ d.calls; needs = (ran r p ws n k w).needs ++ d.needs } in
         let it : ran r p ws n k (with_step w (step.Act m (map atom_of xs) i.steps) i.count) ≡ end =
-            ran_more r p ws n k w (step.Act m (map atom_of xs) i.steps) i.count
-            ∙ ap (running.followed (ran r p ws n k w)) (ap (λ (f : running.Run). f r p W N K) (act_is m (map atom_of xs) i.steps)
-            ∙ call_happens (inner.words ++ []) inner.choices asked.choices inner.sites asked.sites
-                (site_of true m (words_of inner.words (map atom_of xs))) (site_of true m (map word_of asked.gives))
-                inner.calls asked.calls inner.needs asked.needs
-                same.adds.choices same.adds.sites (ap (site_of true m) args) same.adds.calls same.adds.needs) in
+        ran_more r p ws n k w (step.Act m (map atom_of xs) i.steps) i.count
+        ∙ ap (running.followed (ran r p ws n k w)) (ap (λ (f : running.Run). f r p W N K) (act_is m (map atom_of xs) i.steps)
+        ∙ call_happens (inner.words ++ []) inner.choices asked.choices inner.sites asked.sites
+        (site_of true m (words_of inner.words (map atom_of xs))) (site_of true m (map word_of asked.gives))
+        inner.calls asked.calls inner.needs asked.needs
+        same.adds.choices same.adds.sites (ap (site_of true m) args) same.adds.calls same.adds.needs) in
         record {
           adds = record {
             within = λ j x g. ap (λ (o : Happening). slice_get o.words j) it ∙ ap (λ o. slice_get o j) (append-nil inner.words) ∙ same.adds.within j x g;

@@ -70,7 +70,6 @@ module _ (r : Results) where
     pub carry : Carry
     pub means : Means
     pub carries : Carries r carry means
-    pub still : (vs : List Local) (w : Work) (x : Value) (v : Work) → carry vs w ≡ Ok (x, v) → values.is_static x ≡ true → v.count.slots ≡ w.count.slots
     pub asks : b.asks ≡ (λ vs c. carry vs (no_steps c) >>= λ o. (let t : Test = (o.0, None, o.1) in Ok t))
     pub asked : m.asks ≡ (λ us. test (means us))
     pub arm : Exactly (carrying.inside b.arm) (λ us. control.scoped m.arm [] us)
@@ -95,7 +94,9 @@ module _ (r : Results) where
     last_tail w p ps a m h c ts v e =
         let g = got (a (frames.untouched vs) (no_steps c)) (λ o. carried.close vs w (p ∷ ps) o.0 o.1) (ts, v) e in
         record {
-          more = []; locals = g.0.0; last = g.0.1;
+          more = [];
+          locals = g.0.0;
+          last = g.0.1;
           made = subst (λ o. carried.close vs w o g.0.0 g.0.1 ≡ Ok (ts, v)) (sym (append-nil (p ∷ ps))) g.2;
           finishes = λ given plain number arm left.
               last_finishes r vs us given plain a m h.does c g.0.0 g.0.1 g.1 (h.exact (frames.untouched vs) (no_steps c) g.0.0 g.0.1 g.1) number arm left;
@@ -104,7 +105,10 @@ module _ (r : Results) where
     retold : (w : Work) (ps : List Pending) (s s' : ℕ) (m m' : ℕ → ℕ → Bool → Evaluation Variables) (ts : List Local) (v : Work) → s ≡ s'
         → ((number arm : ℕ) (left : Bool) (q : Standing) (W : List Bits) (n k : ℕ) → length W ≡ s' → AllHold W vs us → m number arm left q n k ≡ m' number arm left q n k) → Tail w ps s m ts v → Tail w ps s' m' ts v
     retold w ps s s' m m' ts v e f t = record {
-      more = t.more; locals = t.locals; last = t.last; made = t.made;
+      more = t.more;
+      locals = t.locals;
+      last = t.last;
+      made = t.made;
       finishes = λ given plain number arm left q W n k long hold.
           subst (λ d. Ends r vs us given plain (carried.assigned t.more t.locals) (arms_run (map run t.last.steps) (map (carried.given_by t.locals) given) (map alternative (map (carried.arm_of given) t.more)) number arm (q.taken && left) r q W n k) d) (f number arm left q W n k long hold) (t.finishes given plain number arm left q W n k (long ∙ sym e) hold);
     }
@@ -114,7 +118,7 @@ module _ (r : Results) where
     From b bs last number arm left t =
         if is_static t.0 then (if is_true t.0 then within number arm left (control.scoped b.arm t.1 (begun us)) else control.arms number arm left bs last us)
         else evaluation.◌>>=◌ (within number arm (left && is_true t.0) (control.scoped b.arm t.1 (begun us)))
-          (λ xs. evaluation.◌>>=◌ (control.arms number (arm + 1) (left && not (is_true t.0)) bs last us) (λ ys. yields (joined (is_true t.0) xs ys)))
+        (λ xs. evaluation.◌>>=◌ (control.arms number (arm + 1) (left && not (is_true t.0)) bs last us) (λ ys. yields (joined (is_true t.0) xs ys)))
 
     -- what is told of a branch is told from its condition on
     from_is : (b : Branched) (m : control.Branched) → (h : Tests b m) → (ms : List control.Branched) (last : control.Acts) (number arm : ℕ) (left : Bool) (q : Standing) (n k : ℕ)
@@ -141,12 +145,12 @@ module _ (r : Results) where
         let d = h.means us q n k in
         let u = first.gives.0 in
         let it = open_finishes r vs us given plain (carrying.inside b.arm) (λ us. control.scoped m.arm [] us) h.arm.does a a at tw lv lw e' (h.arm.exact (frames.untouched vs) (no_steps tw.count) lv lw e')
-            more ll lvs number arm left (λ l. control.arms number (arm + 1) l ms last us) finishes q W n k d u hold first.adds.within first.long
-            (shows_word (in_turn (map run tw.steps) r q W n k).words (value.Open at) d.gives first.gives ∙ ap word_of first.gives.2) first.adds.choices first.adds.sites first.adds.calls first.adds.needs in
+        more ll lvs number arm left (λ l. control.arms number (arm + 1) l ms last us) finishes q W n k d u hold first.adds.within first.long
+        (shows_word (in_turn (map run tw.steps) r q W n k).words (value.Open at) d.gives first.gives ∙ ap word_of first.gives.2) first.adds.choices first.adds.sites first.adds.calls first.adds.needs in
         let told : in_order d (From m ms last number arm left (varying u, []) q d.choices d.sites) ≡ control.arms number arm left (m ∷ ms) last us q n k =
-            sym (open_tested (h.means us) (From m ms last number arm left) q n k u first.gives.2) ∙ from_is b m h ms last number arm left q n k in
+        sym (open_tested (h.means us) (From m ms last number arm left) q n k u first.gives.2) ∙ from_is b m h ms last number arm left q n k in
         subst (λ o. Ends r vs us given plain (carried.assigned (carrying.pending (value.Open at) tw (lv, lw) ∷ more) lvs)
-            (arms_run (map run ll) (map (carried.given_by lvs) given) (map alternative (map (carried.arm_of given) (carrying.pending (value.Open at) tw (lv, lw) ∷ more))) number arm (q.taken && left) r q W n k) o) told it
+        (arms_run (map run ll) (map (carried.given_by lvs) given) (map alternative (map (carried.arm_of given) (carrying.pending (value.Open at) tw (lv, lw) ∷ more))) number arm (q.taken && left) r q W n k) o) told it
 
     -- ---- all arms
 
@@ -164,43 +168,49 @@ module _ (r : Results) where
         let g = got (b.asks vs c) _ (ts, v) e in
         let t = asked_of b m h.0 c g.0 g.1 in
         by t.0 t.1 t.2 (subst After (sym t.3) g.2) (λ o u f. tails bs ms h.1 last mlast k w p o u ts v f) where
-      After : Test → Type 0
-      After t = (if values.is_true t.0 then carrying.last_arm w (p ∷ ps) (carrying.branch_arm b.arm t.1) vs t.2.count
-          else (carrying.kept (p ∷ ps) t b.arm vs >>= λ o. carrying.chain_from w o.0 bs last vs o.1)) ≡ Ok (ts, v)
-      Goal : Type 0
-      Goal = Tail w (p ∷ ps) c.slots (λ number arm left. control.arms number arm left (m ∷ ms) mlast us) ts v
-      Others : Type 0
-      Others = (o : List Pending) (u : Count) → carrying.chain_from w (p ∷ o) bs last vs u ≡ Ok (ts, v) → Tail w (p ∷ o) u.slots (λ number arm left. control.arms number arm left ms mlast us) ts v
-      by_static : (i : Constant) (tw : Work) → h.0.carry vs (no_steps c) ≡ Ok (value.Static i, tw) → (is : Bool) → values.is_true (value.Static i) ≡ is
-          → (if is then carrying.last_arm w (p ∷ ps) (carrying.inside b.arm) vs tw.count else carrying.chain_from w (p ∷ ps) bs last vs tw.count) ≡ Ok (ts, v) → Others → Goal
-      by_static i tw f true j q o =
-          retold w (p ∷ ps) tw.count.slots c.slots (λ number arm left. within number arm left (control.scoped m.arm [] (begun us))) (λ number arm left. control.arms number arm left (m ∷ ms) mlast us) ts v
-          (h.0.still vs (no_steps c) (value.Static i) tw f refl)
-          (λ number arm left q W n l long hold.
+          After : Test → Type 0
+          After t = (if values.is_true t.0 then carrying.last_arm w (p ∷ ps) (carrying.branch_arm b.arm t.1) vs (carrying.after_arm c t.2.count)
+              else (carrying.kept (p ∷ ps) c t b.arm vs >>= λ o. carrying.chain_from w o.0 bs last vs o.1)) ≡ Ok (ts, v)
+
+          Goal : Type 0
+          Goal = Tail w (p ∷ ps) c.slots (λ number arm left. control.arms number arm left (m ∷ ms) mlast us) ts v
+
+          Others : Type 0
+          Others = (o : List Pending) (u : Count) → carrying.chain_from w (p ∷ o) bs last vs u ≡ Ok (ts, v) → Tail w (p ∷ o) u.slots (λ number arm left. control.arms number arm left ms mlast us) ts v
+
+          by_static : (i : Constant) (tw : Work) → h.0.carry vs (no_steps c) ≡ Ok (value.Static i, tw) → (is : Bool) → values.is_true (value.Static i) ≡ is
+              → (if is then carrying.last_arm w (p ∷ ps) (carrying.inside b.arm) vs (carrying.after_arm c tw.count) else carrying.chain_from w (p ∷ ps) bs last vs (carrying.after_arm c tw.count)) ≡ Ok (ts, v) → Others → Goal
+          by_static i tw f true j q o =
+              retold w (p ∷ ps) c.slots c.slots (λ number arm left. within number arm left (control.scoped m.arm [] (begun us))) (λ number arm left. control.arms number arm left (m ∷ ms) mlast us) ts v
+              refl
+              (λ number arm left q W n l long hold.
               ap (λ (is : Bool). (if is then within number arm left (control.scoped m.arm [] (begun us)) else control.arms number arm left ms mlast us) q n l) (sym j)
               ∙ static_told b m h.0 ms mlast c i tw f number arm left q W n l long hold)
-          (last_tail w p ps (carrying.inside b.arm) (λ us. control.scoped m.arm [] us) h.0.arm tw.count ts v q)
-      by_static i tw f false j q o =
-          retold w (p ∷ ps) tw.count.slots c.slots (λ number arm left. control.arms number arm left ms mlast us) (λ number arm left. control.arms number arm left (m ∷ ms) mlast us) ts v
-          (h.0.still vs (no_steps c) (value.Static i) tw f refl)
-          (λ number arm left q W n l long hold.
+              (last_tail w p ps (carrying.inside b.arm) (λ us. control.scoped m.arm [] us) h.0.arm (carrying.after_arm c tw.count) ts v q)
+          by_static i tw f false j q o =
+              retold w (p ∷ ps) c.slots c.slots (λ number arm left. control.arms number arm left ms mlast us) (λ number arm left. control.arms number arm left (m ∷ ms) mlast us) ts v
+              refl
+              (λ number arm left q W n l long hold.
               ap (λ (is : Bool). (if is then within number arm left (control.scoped m.arm [] (begun us)) else control.arms number arm left ms mlast us) q n l) (sym j)
               ∙ static_told b m h.0 ms mlast c i tw f number arm left q W n l long hold)
-          (o ps tw.count q)
-      by : (x : Value) (u : Work) → h.0.carry vs (no_steps c) ≡ Ok (x, u) → After (x, None, u) → Others → Goal
-      by (value.Static i) u f q o = by_static i u f (values.is_true (value.Static i)) refl q o
-      by (value.Open at) u f q o =
-          let g = got (carrying.kept (p ∷ ps) (value.Open at, None, u) b.arm vs) (λ n. carrying.chain_from w n.0 bs last vs n.1) (ts, v) q in
-          let l = got (carrying.inside b.arm (frames.untouched vs) (no_steps u.count)) _ g.0 g.1 in
-          let new = carrying.pending (value.Open at) u l.0 in
-          let T = o (ps ++ new ∷ []) (carrying.after_arm u.count l.0.1.count)
+              (o ps (carrying.after_arm c tw.count) q)
+
+          by : (x : Value) (u : Work) → h.0.carry vs (no_steps c) ≡ Ok (x, u) → After (x, None, u) → Others → Goal
+          by (value.Static i) u f q o = by_static i u f (values.is_true (value.Static i)) refl q o
+          by (value.Open at) u f q o =
+              let g = got (carrying.kept (p ∷ ps) c (value.Open at, None, u) b.arm vs) (λ n. carrying.chain_from w n.0 bs last vs n.1) (ts, v) q in
+              let l = got (carrying.inside b.arm (frames.untouched vs) (no_steps u.count)) _ g.0 g.1 in
+              let new = carrying.pending (value.Open at) u l.0 in
+              let T = o (ps ++ new ∷ []) (carrying.after_arm u.count l.0.1.count)
               (subst (λ (n : List Pending × Count). carrying.chain_from w n.0 bs last vs n.1 ≡ Ok (ts, v)) (sym (same_ok ((p ∷ ps) ++ new ∷ [], carrying.after_arm u.count l.0.1.count) g.0 l.2)) g.2) in
-          record {
-            more = new ∷ T.more; locals = T.locals; last = T.last;
-            made = subst (λ (n : List Pending). carried.close vs w n T.locals T.last ≡ Ok (ts, v)) (append_assoc (p ∷ ps) (new ∷ []) T.more) T.made;
-            finishes = λ given plain number arm left. open_told b m h.0 ms mlast c at u f l.0.0 l.0.1 l.1 T.more T.last.steps T.locals given plain number arm
-                (λ n. T.finishes given plain number (arm + 1) n) left;
-          }
+              record {
+                more = new ∷ T.more;
+                locals = T.locals;
+                last = T.last;
+                made = subst (λ (n : List Pending). carried.close vs w n T.locals T.last ≡ Ok (ts, v)) (append_assoc (p ∷ ps) (new ∷ []) T.more) T.made;
+                finishes = λ given plain number arm left. open_told b m h.0 ms mlast c at u f l.0.0 l.0.1 l.1 T.more T.last.steps T.locals given plain number arm
+                    (λ n. T.finishes given plain number (arm + 1) n) left;
+              }
     tails [] (m ∷ ms) h last mlast k w p ps c ts v e = absurd h
     tails (b ∷ bs) [] h last mlast k w p ps c ts v e = absurd h
 
@@ -235,9 +245,9 @@ module _ (r : Results) where
           let s = carried.choice_of false as' lw.steps gives in
           let h = arms_run (map run lw.steps) gives (map alternative as') N 0 (p.taken && true) r p W (N + 1) K in
           let run_is : run s r p W N K ≡ record h { words = W ++ h.words } =
-              ap (λ (o : Run). o r p W N K) (choose_is (roll-Choice (record { nested = false; arms = as'; last = lw.steps; gives = gives })))
-              ∙ ap (λ (o : Run). step_run (Step-F.Choose o) r p W N K) (choice_is false as' lw.steps gives)
-              ∙ ap (λ (t : Bool). let o = arms_run (map run lw.steps) gives (map alternative as') N 0 t r p W (N + 1) K in record o { words = W ++ o.words }) (sym (and_true p.taken)) in
+          ap (λ (o : Run). o r p W N K) (choose_is (roll-Choice (record { nested = false; arms = as'; last = lw.steps; gives = gives })))
+          ∙ ap (λ (o : Run). step_run (Step-F.Choose o) r p W N K) (choice_is false as' lw.steps gives)
+          ∙ ap (λ (t : Bool). let o = arms_run (map run lw.steps) gives (map alternative as') N 0 t r p W (N + 1) K in record o { words = W ++ o.words }) (sym (and_true p.taken)) in
           let it : ran r p ws n k (with_step w s g.0.2) ≡ followed (ran r p ws n k w) (record h { words = W ++ h.words }) = ran_more r p ws n k w s g.0.2 ∙ ap (followed (ran r p ws n k w)) run_is in
           let after_it = B.2 W h.words long (all_hold_within W (W ++ h.words) (within_append W h.words) vs us hold) second.words in
           subst (λ (o : List Local × Work). Vars o.0 o.1 (evaluation.◌>>=◌ (evaluation.choice λ i. M i 0 true) (λ xs. yields (restored us xs)))) (same_ok (g.0.0, with_step w s g.0.2) (ts, v) g.2)
@@ -265,9 +275,9 @@ module _ (r : Results) where
       first_is b m h f q i j =
           ap (λ (a : Variables → Evaluation (Val × Variables)). f (a us q i j).gives q i j) h.asked
           ∙ ap (λ x. f (x, []) q i j) (by (is_static (h.means us q i j).gives)) where
-        by : (b : Bool) → (if b then yields (h.means us q i j).gives q i j else h.means us q i j).gives ≡ (h.means us q i j).gives
-        by true = refl
-        by false = refl
+            by : (b : Bool) → (if b then yields (h.means us q i j).gives q i j else h.means us q i j).gives ≡ (h.means us q i j).gives
+            by true = refl
+            by false = refl
 
       pub chain_from_is : (bs : List Branched) (ms : List control.Branched) → AllTest bs ms → (last : Acts) (mlast : control.Acts) → Exactly last mlast
           → (c : Count) → c.slots ≡ w.count.slots → (ts : List Local) (v : Work) → carrying.chain_from w [] bs last vs c ≡ Ok (ts, v) → Vars ts v (control.chain ms mlast us)
@@ -277,45 +287,51 @@ module _ (r : Results) where
           let g = got (b.asks vs c) _ (ts, v) e in
           let t = asked_of b m h.0 c g.0 g.1 in
           by t.0 t.1 t.2 (subst After (sym t.3) g.2) (λ u f q. chain_from_is bs ms h.1 last mlast x u f ts v q) where
-        After : Test → Type 0
-        After t = (if values.is_true t.0 then carrying.last_arm w [] (carrying.branch_arm b.arm t.1) vs t.2.count
-            else (carrying.kept [] t b.arm vs >>= λ o. carrying.chain_from w o.0 bs last vs o.1)) ≡ Ok (ts, v)
-        Others : Type 0
-        Others = (u : Count) → u.slots ≡ w.count.slots → carrying.chain_from w [] bs last vs u ≡ Ok (ts, v) → Vars ts v (control.chain ms mlast us)
-        Rest : Val × Variables → Evaluation Variables
-        Rest t = if is_static t.0 then (if is_true t.0 then control.scoped m.arm t.1 us else control.chain ms mlast us) else control.choose (m ∷ ms) mlast us
-        Goal : Type 0
-        Goal = Vars ts v (evaluation.◌>>=◌ (evaluation.decided (m.asks us)) Rest)
-        told : (y : Val) → (h.0.means us p (ran r p ws n k w).choices (ran r p ws n k w).sites).gives ≡ y
-            → Same r p ws n k (λ W xs. AllHold W ts xs) w v (here r p ws n k w (Rest (y, []))) → Goal
-        told y f i =
-            subst (λ d. Same r p ws n k (λ W xs. AllHold W ts xs) w v d)
-            (ap (λ o. Rest (o, []) p (ran r p ws n k w).choices (ran r p ws n k w).sites) (sym f) ∙ sym (first_is b m h.0 Rest p (ran r p ws n k w).choices (ran r p ws n k w).sites)) i
-        by_static : (i : Constant) (tw : Work) → h.0.carry vs (no_steps c) ≡ Ok (value.Static i, tw) → (is : Bool) → values.is_true (value.Static i) ≡ is
-            → (if is then carrying.inside b.arm vs (at_count w tw.count) else carrying.chain_from w [] bs last vs tw.count) ≡ Ok (ts, v) → Others → Goal
-        by_static i tw f true j q o =
-            told (static i) (h.0.carries p (V r p ws n k w) (ran r p ws n k w).choices (ran r p ws n k w).sites vs us (no_steps c) (long ∙ sym s) hold (value.Static i) tw f).gives
-            (subst (λ (is : Bool). Vars ts v (if is then control.scoped m.arm [] us else control.chain ms mlast us)) (sym j)
-            (alone_is (carrying.inside b.arm) (λ us. control.scoped m.arm [] us) h.0.arm.does tw.count (h.0.still vs (no_steps c) (value.Static i) tw f refl ∙ s) ts v q))
-        by_static i tw f false j q o =
-            told (static i) (h.0.carries p (V r p ws n k w) (ran r p ws n k w).choices (ran r p ws n k w).sites vs us (no_steps c) (long ∙ sym s) hold (value.Static i) tw f).gives
-            (subst (λ (is : Bool). Vars ts v (if is then control.scoped m.arm [] us else control.chain ms mlast us)) (sym j)
-            (o tw.count (h.0.still vs (no_steps c) (value.Static i) tw f refl ∙ s) q))
-        by : (y : Value) (u : Work) → h.0.carry vs (no_steps c) ≡ Ok (y, u) → After (y, None, u) → Others → Goal
-        by (value.Static i) u f q o = by_static i u f (values.is_true (value.Static i)) refl q o
-        by (value.Open at) u f q o =
-            let g = got (carrying.kept [] (value.Open at, None, u) b.arm vs) (λ i. carrying.chain_from w i.0 bs last vs i.1) (ts, v) q in
-            let l = got (carrying.inside b.arm (frames.untouched vs) (no_steps u.count)) _ g.0 g.1 in
-            let new = carrying.pending (value.Open at) u l.0 in
-            let T = tails bs ms h.1 last mlast x w new [] (carrying.after_arm u.count l.0.1.count) ts v
+            After : Test → Type 0
+            After t = (if values.is_true t.0 then carrying.last_arm w [] (carrying.branch_arm b.arm t.1) vs (carrying.after_arm c t.2.count)
+                else (carrying.kept [] c t b.arm vs >>= λ o. carrying.chain_from w o.0 bs last vs o.1)) ≡ Ok (ts, v)
+
+            Others : Type 0
+            Others = (u : Count) → u.slots ≡ w.count.slots → carrying.chain_from w [] bs last vs u ≡ Ok (ts, v) → Vars ts v (control.chain ms mlast us)
+
+            Rest : Val × Variables → Evaluation Variables
+            Rest t = if is_static t.0 then (if is_true t.0 then control.scoped m.arm t.1 us else control.chain ms mlast us) else control.choose (m ∷ ms) mlast us
+
+            Goal : Type 0
+            Goal = Vars ts v (evaluation.◌>>=◌ (evaluation.decided (m.asks us)) Rest)
+
+            told : (y : Val) → (h.0.means us p (ran r p ws n k w).choices (ran r p ws n k w).sites).gives ≡ y
+                → Same r p ws n k (λ W xs. AllHold W ts xs) w v (here r p ws n k w (Rest (y, []))) → Goal
+            told y f i =
+                subst (λ d. Same r p ws n k (λ W xs. AllHold W ts xs) w v d)
+                (ap (λ o. Rest (o, []) p (ran r p ws n k w).choices (ran r p ws n k w).sites) (sym f) ∙ sym (first_is b m h.0 Rest p (ran r p ws n k w).choices (ran r p ws n k w).sites)) i
+
+            by_static : (i : Constant) (tw : Work) → h.0.carry vs (no_steps c) ≡ Ok (value.Static i, tw) → (is : Bool) → values.is_true (value.Static i) ≡ is
+                → (if is then carrying.inside b.arm vs (at_count w (carrying.after_arm c tw.count)) else carrying.chain_from w [] bs last vs (carrying.after_arm c tw.count)) ≡ Ok (ts, v) → Others → Goal
+            by_static i tw f true j q o =
+                told (static i) (h.0.carries p (V r p ws n k w) (ran r p ws n k w).choices (ran r p ws n k w).sites vs us (no_steps c) (long ∙ sym s) hold (value.Static i) tw f).gives
+                (subst (λ (is : Bool). Vars ts v (if is then control.scoped m.arm [] us else control.chain ms mlast us)) (sym j)
+                (alone_is (carrying.inside b.arm) (λ us. control.scoped m.arm [] us) h.0.arm.does (carrying.after_arm c tw.count) s ts v q))
+            by_static i tw f false j q o =
+                told (static i) (h.0.carries p (V r p ws n k w) (ran r p ws n k w).choices (ran r p ws n k w).sites vs us (no_steps c) (long ∙ sym s) hold (value.Static i) tw f).gives
+                (subst (λ (is : Bool). Vars ts v (if is then control.scoped m.arm [] us else control.chain ms mlast us)) (sym j)
+                (o (carrying.after_arm c tw.count) s q))
+
+            by : (y : Value) (u : Work) → h.0.carry vs (no_steps c) ≡ Ok (y, u) → After (y, None, u) → Others → Goal
+            by (value.Static i) u f q o = by_static i u f (values.is_true (value.Static i)) refl q o
+            by (value.Open at) u f q o =
+                let g = got (carrying.kept [] c (value.Open at, None, u) b.arm vs) (λ i. carrying.chain_from w i.0 bs last vs i.1) (ts, v) q in
+                let l = got (carrying.inside b.arm (frames.untouched vs) (no_steps u.count)) _ g.0 g.1 in
+                let new = carrying.pending (value.Open at) u l.0 in
+                let T = tails bs ms h.1 last mlast x w new [] (carrying.after_arm u.count l.0.1.count) ts v
                 (subst (λ (i : List Pending × Count). carrying.chain_from w i.0 bs last vs i.1 ≡ Ok (ts, v)) (sym (same_ok (new ∷ [], carrying.after_arm u.count l.0.1.count) g.0 l.2)) g.2) in
-            let first = h.0.carries p (V r p ws n k w) (ran r p ws n k w).choices (ran r p ws n k w).sites vs us (no_steps c) (long ∙ sym s) hold (value.Open at) u f in
-            told (varying first.gives.0) first.gives.2
-            (closed_is new T.more T.locals T.last (λ number arm left. control.arms number arm left (m ∷ ms) mlast us)
-            (λ given plain number arm left. at_slots given plain (new ∷ T.more) T.last.steps T.locals number arm left (control.arms number arm left (m ∷ ms) mlast us)
+                let first = h.0.carries p (V r p ws n k w) (ran r p ws n k w).choices (ran r p ws n k w).sites vs us (no_steps c) (long ∙ sym s) hold (value.Open at) u f in
+                told (varying first.gives.0) first.gives.2
+                (closed_is new T.more T.locals T.last (λ number arm left. control.arms number arm left (m ∷ ms) mlast us)
+                (λ given plain number arm left. at_slots given plain (new ∷ T.more) T.last.steps T.locals number arm left (control.arms number arm left (m ∷ ms) mlast us)
                 (open_told b m h.0 ms mlast c at u f l.0.0 l.0.1 l.1 T.more T.last.steps T.locals given plain number arm (λ i. T.finishes given plain number (arm + 1) i) left)) ts v T.made) where
-          at_slots : (given : List ℕ) (plain : AllPlain vs given) (more : List Pending) (last : List Step) (lv : List Local) (number arm : ℕ) (left : Bool) (M : Evaluation Variables)
-              → Finishes r vs us given plain c.slots more last lv number arm left M → Finishes r vs us given plain w.count.slots more last lv number arm left M
-          at_slots given plain more last lv number arm left M f = subst (λ i. Finishes r vs us given plain i more last lv number arm left M) s f
+                  at_slots : (given : List ℕ) (plain : AllPlain vs given) (more : List Pending) (last : List Step) (lv : List Local) (number arm : ℕ) (left : Bool) (M : Evaluation Variables)
+                      → Finishes r vs us given plain c.slots more last lv number arm left M → Finishes r vs us given plain w.count.slots more last lv number arm left M
+                  at_slots given plain more last lv number arm left M f = subst (λ i. Finishes r vs us given plain i more last lv number arm left M) s f
       chain_from_is [] (m ∷ ms) h last mlast x c s ts v e = absurd h
       chain_from_is (b ∷ bs) [] h last mlast x c s ts v e = absurd h

@@ -42,19 +42,22 @@ module _ (ps : List Pending) (last : List Local) where
       record { rest = []; is = ap (λ (o : List Local × List ℕ × Count). o.0) (sym (same_ok (found, given, c) (ts, g, d) e)) ∙ sym (append-nil found); kept = tt; long = refl }
   joins_stay (v ∷ vs) found given c ts g d e =
       by (carried.assigned ps last (length found)) v.integer e (λ x gs b i. joins_stay vs (found ++ x ∷ []) gs b ts g d i) where
-    new : Local
-    new = joined_as v c.slots
-    IH : Type 0
-    IH = (x : Local) (gs : List ℕ) (b : Count) → joined_from ps last (found ++ x ∷ []) gs vs b ≡ Ok (ts, g, d) → Stay vs (found ++ x ∷ []) ts
-    more : (x : Local) → x.integer ≡ v.integer → Stay vs (found ++ x ∷ []) ts → Stay (v ∷ vs) found ts
-    more x e R = record { rest = x ∷ R.rest; is = R.is ∙ append_assoc found (x ∷ []) R.rest; kept = (e, R.kept); long = ap suc R.long }
-    by : (b i : Bool) → (if b then (if i then joined_from ps last (found ++ new ∷ []) given vs c else (fresh c 1 >>= λ next. joined_from ps last (found ++ new ∷ []) (given ++ length found ∷ []) vs next)) else joined_from ps last (found ++ v ∷ []) given vs c) ≡ Ok (ts, g, d)
-        → IH → Stay (v ∷ vs) found ts
-    by true true i ih = more new (joined_integer v c.slots) (ih new given c i)
-    by true false i ih =
-        let n = got (fresh c 1) (λ next. joined_from ps last (found ++ new ∷ []) (given ++ length found ∷ []) vs next) (ts, g, d) i in
-        more new (joined_integer v c.slots) (ih new (given ++ length found ∷ []) n.0 n.2)
-    by false j i ih = more v refl (ih v given c i)
+        new : Local
+        new = joined_as v c.slots
+
+        IH : Type 0
+        IH = (x : Local) (gs : List ℕ) (b : Count) → joined_from ps last (found ++ x ∷ []) gs vs b ≡ Ok (ts, g, d) → Stay vs (found ++ x ∷ []) ts
+
+        more : (x : Local) → x.integer ≡ v.integer → Stay vs (found ++ x ∷ []) ts → Stay (v ∷ vs) found ts
+        more x e R = record { rest = x ∷ R.rest; is = R.is ∙ append_assoc found (x ∷ []) R.rest; kept = (e, R.kept); long = ap suc R.long }
+
+        by : (b i : Bool) → (if b then (if i then joined_from ps last (found ++ new ∷ []) given vs c else (fresh c 1 >>= λ next. joined_from ps last (found ++ new ∷ []) (given ++ length found ∷ []) vs next)) else joined_from ps last (found ++ v ∷ []) given vs c) ≡ Ok (ts, g, d)
+            → IH → Stay (v ∷ vs) found ts
+        by true true i ih = more new (joined_integer v c.slots) (ih new given c i)
+        by true false i ih =
+            let n = got (fresh c 1) (λ next. joined_from ps last (found ++ new ∷ []) (given ++ length found ∷ []) vs next) (ts, g, d) i in
+            more new (joined_integer v c.slots) (ih new (given ++ length found ∷ []) n.0 n.2)
+        by false j i ih = more v refl (ih v given c i)
 
 close_stays : (vs : List Local) (w : Work) (ps : List Pending) (lv : List Local) (lw : Work) (ts : List Local) (v : Work) → carried.close vs w ps lv lw ≡ Ok (ts, v) → Kept vs ts × (length ts ≡ length vs)
 unfolding carried.close
@@ -83,13 +86,14 @@ module _ (r : Results) (vs : List Local) where
       let g = got (b.asks vs c) _ (ts, v) e in
       let l = got (h.0.carry vs (no_steps c)) _ g.0 (sym (ap (λ (a : carrying.Asked). a vs c) h.0.asks) ∙ g.1) in
       by l.0.0 l.0.1 (subst After (sym (same_ok (l.0.0, None, l.0.1) g.0 l.2)) g.2) (λ qs u i. chain_stays bs ms h.1 last mlast x w qs u ts v i) where
-    After : Test → Type 0
-    After t = (if values.is_true t.0 then carrying.last_arm w ps (carrying.branch_arm b.arm t.1) vs t.2.count else (carrying.kept ps t b.arm vs >>= λ o. carrying.chain_from w o.0 bs last vs o.1)) ≡ Ok (ts, v)
-    by : (y : Value) (u : Work) → After (y, None, u) → ((qs : List Pending) (u : Count) → carrying.chain_from w qs bs last vs u ≡ Ok (ts, v) → Stays ts) → Stays ts
-    by y u q ih = split (values.is_true y) q where
-      split : (is : Bool) → (if is then carrying.last_arm w ps (carrying.inside b.arm) vs u.count else (carrying.kept ps (y, None, u) b.arm vs >>= λ o. carrying.chain_from w o.0 bs last vs o.1)) ≡ Ok (ts, v) → Stays ts
-      split true f = last_stays w ps (carrying.inside b.arm) (λ us. control.scoped m.arm [] us) h.0.arm u.count ts v f
-      split false f = let k = got (carrying.kept ps (y, None, u) b.arm vs) (λ o. carrying.chain_from w o.0 bs last vs o.1) (ts, v) f in ih k.0.0 k.0.1 k.2
+        After : Test → Type 0
+        After t = (if values.is_true t.0 then carrying.last_arm w ps (carrying.branch_arm b.arm t.1) vs (carrying.after_arm c t.2.count) else (carrying.kept ps c t b.arm vs >>= λ o. carrying.chain_from w o.0 bs last vs o.1)) ≡ Ok (ts, v)
+
+        by : (y : Value) (u : Work) → After (y, None, u) → ((qs : List Pending) (u : Count) → carrying.chain_from w qs bs last vs u ≡ Ok (ts, v) → Stays ts) → Stays ts
+        by y u q ih = split (values.is_true y) q where
+          split : (is : Bool) → (if is then carrying.last_arm w ps (carrying.inside b.arm) vs (carrying.after_arm c u.count) else (carrying.kept ps c (y, None, u) b.arm vs >>= λ o. carrying.chain_from w o.0 bs last vs o.1)) ≡ Ok (ts, v) → Stays ts
+          split true f = last_stays w ps (carrying.inside b.arm) (λ us. control.scoped m.arm [] us) h.0.arm (carrying.after_arm c u.count) ts v f
+          split false f = let k = got (carrying.kept ps c (y, None, u) b.arm vs) (λ o. carrying.chain_from w o.0 bs last vs o.1) (ts, v) f in ih k.0.0 k.0.1 k.2
   chain_stays [] (m ∷ ms) h last mlast x w ps c ts v e = absurd h
   chain_stays (b ∷ bs) [] h last mlast x w ps c ts v e = absurd h
 

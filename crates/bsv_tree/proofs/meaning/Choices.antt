@@ -45,7 +45,7 @@ pub static_asked : (m : Evaluation Val) (f : Behind) (p : Standing) (n k : ℕ) 
 static_asked m f p n k c e =
     let a = m p n k in
     let it : asked m p n k ≡ yields (static c) p n k =
-        subst (λ (x : Val). (if is_static x then yields x p n k else record a { gives = x }) ≡ yields (static c) p n k) (sym e) refl in
+    subst (λ (x : Val). (if is_static x then yields x p n k else record a { gives = x }) ≡ yields (static c) p n k) (sym e) refl in
     ap (λ (b : Evaluated Val). in_order b (f b.gives p b.choices b.sites)) it
 
 -- any other tells all that it meets
@@ -145,10 +145,10 @@ module _ (r : Results) where
           let B = rest other A.choices A.sites in
           let fourth : Closes R B = subst (λ i. Closes R (rest other i A.sites)) second.adds.choices (subst (λ j. Closes R (rest other body.choices j)) second.adds.sites third) in
           let E : Bits → Happening = λ w.
-              running.either_run h (is_one w) (in_turn (map run xw.steps) r (running.inside q (q.taken && is_one w) N 0) h.words (N + 1) K) (atom_of xv ∷ [])
-              (nested_run (map run last) (g ∷ []) (map alternative more) r (running.inside q (q.taken && not (is_one w)) N 1) h.words
-              (in_turn (map run xw.steps) r (running.inside q (q.taken && is_one w) N 0) h.words (N + 1) K).choices
-              (in_turn (map run xw.steps) r (running.inside q (q.taken && is_one w) N 0) h.words (N + 1) K).sites) in
+          running.either_run h (is_one w) (in_turn (map run xw.steps) r (running.inside q (q.taken && is_one w) N 0) h.words (N + 1) K) (atom_of xv ∷ [])
+          (nested_run (map run last) (g ∷ []) (map alternative more) r (running.inside q (q.taken && not (is_one w)) N 1) h.words
+          (in_turn (map run xw.steps) r (running.inside q (q.taken && is_one w) N 0) h.words (N + 1) K).choices
+          (in_turn (map run xw.steps) r (running.inside q (q.taken && is_one w) N 0) h.words (N + 1) K).sites) in
           let D : Val → ℕ → ℕ → Evaluated Val = λ o i j. in_order d (Branches (z.means us) rest o q i j) in
           let whole : Closes (E b) (D (varying b) N K) = record {
             words = ap₂ (λ (u : Bits) (o : List Bits). running.picked t (u ∷ []) o) (shows_word body.words xv A.gives second.gives) fourth.words
@@ -159,12 +159,12 @@ module _ (r : Results) where
             needs = ap₂ (λ (o u : List Need). o ++ u) first.adds.needs (ap₂ (λ (o u : List Need). o ++ u) second.adds.needs (fourth.needs ∙ sym (append-nil B.needs)));
           } in
           let run_is : nested_run (map run last) (g ∷ []) (map alternative (arm ∷ more)) r q W n k ≡ E b =
-              ap (λ o. nested_run (map run last) (g ∷ []) (o ∷ map alternative more) r q W n k) (alternative_is tw.steps at xw.steps (atom_of xv ∷ []))
-              ∙ ap E (shows_word h.words (value.Open at) d.gives first.gives ∙ ap word_of first.gives.2) in
+          ap (λ o. nested_run (map run last) (g ∷ []) (o ∷ map alternative more) r q W n k) (alternative_is tw.steps at xw.steps (atom_of xv ∷ []))
+          ∙ ap E (shows_word h.words (value.Open at) d.gives first.gives ∙ ap word_of first.gives.2) in
           let told_is : (evaluation.◌>>=◌ (asked (m.means us)) (Branches (z.means us) rest)) q n k ≡ D (varying b) N K =
-              ap (λ (o : Evaluated Val). in_order o (Branches (z.means us) rest o.gives q o.choices o.sites)) (open_asked (m.means us) q n k b first.gives.2)
-              ∙ ap (λ o. D o d.choices d.sites) first.gives.2
-              ∙ ap₂ (λ i j. D (varying b) i j) (sym first.adds.choices) (sym first.adds.sites) in
+          ap (λ (o : Evaluated Val). in_order o (Branches (z.means us) rest o.gives q o.choices o.sites)) (open_asked (m.means us) q n k b first.gives.2)
+          ∙ ap (λ o. D o d.choices d.sites) first.gives.2
+          ∙ ap₂ (λ i j. D (varying b) i j) (sym first.adds.choices) (sym first.adds.sites) in
           subst (λ o. Closes o ((evaluation.◌>>=◌ (asked (m.means us)) (Branches (z.means us) rest)) q n k)) (sym run_is)
           (subst (λ o. Closes (E b) o) (sym told_is) whole)
 
@@ -176,7 +176,12 @@ module _ (r : Results) where
     retold : (w : Work) (arms : List Arm) (s s' : ℕ) (m m' : Evaluation Val) (x : Value) (v : Work) → s ≡ s'
         → ((q : Standing) (W : List Bits) (n k : ℕ) → length W ≡ s' → AllHold W vs us → m q n k ≡ m' q n k) → Tail w arms s m x v → Tail w arms s' m' x v
     retold w arms s s' m m' x v e f t = record {
-      more = t.more; last = t.last; gives = t.gives; count = t.count; same = t.same; made = t.made;
+      more = t.more;
+      last = t.last;
+      gives = t.gives;
+      count = t.count;
+      same = t.same;
+      made = t.made;
       closes = λ q W n k long hold. subst (λ d. Closes (nested_run (map run t.last) (t.gives ∷ []) (map alternative t.more) r q W n k) d) (f q W n k long hold) (t.closes q W n k (long ∙ sym e) hold);
     }
 
@@ -187,9 +192,6 @@ module _ (r : Results) where
     decided_told c m h a k tw e f q W n i long hold =
         sym (static_asked (m.means us) f q n i k (h.carries q W n i vs us (no_steps a) long hold (value.Static k) tw e).gives)
 
-    still_slots : (c : Carried) (m : Meant) → Matches r c m → (a b : Count) → b.slots ≡ a.slots → (k : Constant) (tw : Work) → c.carry vs (no_steps b) ≡ Ok (value.Static k, tw) → tw.count.slots ≡ a.slots
-    still_slots c m h a b s k tw e = h.still vs (no_steps b) (value.Static k) tw e refl ∙ s
-
     tails : (ts xs : List Carried) (ms zs : List Meant) → AllMatch r ts ms → AllMatch r xs zs → (f : Fault) (w : Work) (a : Arm) (as' : List Arm) (c : Count) (x : Value) (v : Work)
         → carrying.choice_from f w (a ∷ as') ts xs vs c ≡ Ok (x, v) → Tail w (a ∷ as') c.slots (chosen (means_of ms) (means_of zs) us) x v
     unfolding carrying.choice_from carrying.value_asked carrying.value_kept chosen means_of arm
@@ -198,38 +200,47 @@ module _ (r : Results) where
         let g = got (tick c 1 >>= λ b. t.carry vs (no_steps b)) _ (x, v) e in
         let k = got (tick c 1) (λ b. t.carry vs (no_steps b)) g.0 g.1 in
         by g.0.0 g.0.1 k.0 (tick_is c 1 k.0 k.1) k.2 g.2 (λ o u s n q. tails ts xs ms zs h.1 h'.1 f w a o u s n q) where
-      Goal : Type 0
-      Goal = Tail w (a ∷ as') c.slots (chosen (means_of (m ∷ ms)) (means_of (z ∷ zs)) us) x v
-      After : Value → Work → Type 0
-      After tv tw = (if values.is_true tv then carrying.last_value w (a ∷ as') y vs tw.count
-          else (carrying.value_kept (a ∷ as') (tv, tw) y vs >>= λ o. carrying.choice_from f w o.0 ts xs vs o.1)) ≡ Ok (x, v)
-      Others : Type 0
-      Others = (o : List Arm) (u : Count) (s : Value) (n : Work) → carrying.choice_from f w (a ∷ o) ts xs vs u ≡ Ok (s, n) → Tail w (a ∷ o) u.slots (chosen (means_of ms) (means_of zs) us) s n
-      rest : Evaluation Val
-      rest = chosen (means_of ms) (means_of zs) us
-      by_static : (k : Constant) (tw : Work) (b : Count) → b.slots ≡ c.slots → t.carry vs (no_steps b) ≡ Ok (value.Static k, tw) → (is : Bool) → values.is_true (value.Static k) ≡ is
-          → (if is then carrying.last_value w (a ∷ as') y vs tw.count else carrying.choice_from f w (a ∷ as') ts xs vs tw.count) ≡ Ok (x, v) → Others → Goal
-      by_static k tw b s i true j q o =
-          retold w (a ∷ as') tw.count.slots c.slots (z.means us) (evaluation.◌>>=◌ (asked (m.means us)) (Branches (z.means us) rest)) x v (still_slots t m h.0 c b s k tw i)
-          (λ p W n l long hold. ap (λ (is : Bool). (if is then z.means us else rest) p n l) (sym j) ∙ decided_told t m h.0 b k tw i (Branches (z.means us) rest) p W n l (long ∙ sym s) hold)
-          (last_tail w a as' y z h'.0 tw.count x v q)
-      by_static k tw b s i false j q o =
-          retold w (a ∷ as') tw.count.slots c.slots rest (evaluation.◌>>=◌ (asked (m.means us)) (Branches (z.means us) rest)) x v (still_slots t m h.0 c b s k tw i)
-          (λ p W n l long hold. ap (λ (is : Bool). (if is then z.means us else rest) p n l) (sym j) ∙ decided_told t m h.0 b k tw i (Branches (z.means us) rest) p W n l (long ∙ sym s) hold)
-          (o as' tw.count x v q)
-      by : (tv : Value) (tw : Work) (b : Count) → b.slots ≡ c.slots → t.carry vs (no_steps b) ≡ Ok (tv, tw) → After tv tw → Others → Goal
-      by (value.Static k) tw b s i q o = by_static k tw b s i (values.is_true (value.Static k)) refl q o
-      by (value.Open at) tw b s i q o =
-          let g = got (carrying.value_kept (a ∷ as') (value.Open at, tw) y vs) (λ n. carrying.choice_from f w n.0 ts xs vs n.1) (x, v) q in
-          let l = got (y.carry vs (no_steps tw.count)) _ g.0 g.1 in
-          let new = carrying.value_arm (value.Open at, tw) l.0 in
-          let T = o (as' ++ new ∷ []) (carrying.after_arm tw.count l.0.1.count) x v
+          Goal : Type 0
+          Goal = Tail w (a ∷ as') c.slots (chosen (means_of (m ∷ ms)) (means_of (z ∷ zs)) us) x v
+
+          After : Value → Work → Type 0
+          After tv tw = (if values.is_true tv then carrying.last_value w (a ∷ as') y vs (carrying.after_arm c tw.count)
+              else (carrying.value_kept (a ∷ as') c (tv, tw) y vs >>= λ o. carrying.choice_from f w o.0 ts xs vs o.1)) ≡ Ok (x, v)
+
+          Others : Type 0
+          Others = (o : List Arm) (u : Count) (s : Value) (n : Work) → carrying.choice_from f w (a ∷ o) ts xs vs u ≡ Ok (s, n) → Tail w (a ∷ o) u.slots (chosen (means_of ms) (means_of zs) us) s n
+
+          rest : Evaluation Val
+          rest = chosen (means_of ms) (means_of zs) us
+
+          by_static : (k : Constant) (tw : Work) (b : Count) → b.slots ≡ c.slots → t.carry vs (no_steps b) ≡ Ok (value.Static k, tw) → (is : Bool) → values.is_true (value.Static k) ≡ is
+              → (if is then carrying.last_value w (a ∷ as') y vs (carrying.after_arm c tw.count) else carrying.choice_from f w (a ∷ as') ts xs vs (carrying.after_arm c tw.count)) ≡ Ok (x, v) → Others → Goal
+          by_static k tw b s i true j q o =
+              retold w (a ∷ as') c.slots c.slots (z.means us) (evaluation.◌>>=◌ (asked (m.means us)) (Branches (z.means us) rest)) x v refl
+              (λ p W n l long hold. ap (λ (is : Bool). (if is then z.means us else rest) p n l) (sym j) ∙ decided_told t m h.0 b k tw i (Branches (z.means us) rest) p W n l (long ∙ sym s) hold)
+              (last_tail w a as' y z h'.0 (carrying.after_arm c tw.count) x v q)
+          by_static k tw b s i false j q o =
+              retold w (a ∷ as') c.slots c.slots rest (evaluation.◌>>=◌ (asked (m.means us)) (Branches (z.means us) rest)) x v refl
+              (λ p W n l long hold. ap (λ (is : Bool). (if is then z.means us else rest) p n l) (sym j) ∙ decided_told t m h.0 b k tw i (Branches (z.means us) rest) p W n l (long ∙ sym s) hold)
+              (o as' (carrying.after_arm c tw.count) x v q)
+
+          by : (tv : Value) (tw : Work) (b : Count) → b.slots ≡ c.slots → t.carry vs (no_steps b) ≡ Ok (tv, tw) → After tv tw → Others → Goal
+          by (value.Static k) tw b s i q o = by_static k tw b s i (values.is_true (value.Static k)) refl q o
+          by (value.Open at) tw b s i q o =
+              let g = got (carrying.value_kept (a ∷ as') c (value.Open at, tw) y vs) (λ n. carrying.choice_from f w n.0 ts xs vs n.1) (x, v) q in
+              let l = got (y.carry vs (no_steps tw.count)) _ g.0 g.1 in
+              let new = carrying.value_arm (value.Open at, tw) l.0 in
+              let T = o (as' ++ new ∷ []) (carrying.after_arm tw.count l.0.1.count) x v
               (subst (λ (n : List Arm × Count). carrying.choice_from f w n.0 ts xs vs n.1 ≡ Ok (x, v)) (sym (same_ok ((a ∷ as') ++ new ∷ [], carrying.after_arm tw.count l.0.1.count) g.0 l.2)) g.2) in
-          record {
-            more = new ∷ T.more; last = T.last; gives = T.gives; count = T.count; same = T.same;
-            made = subst (λ (n : List Arm). give (at_count w T.count) (choice_of true n T.last (T.gives ∷ [])) ≡ Ok (x, v)) (append_assoc (a ∷ as') (new ∷ []) T.more) T.made;
-            closes = λ p W n j long hold. open_closes t m h.0 y z h'.0 b at tw i l.0.0 l.0.1 l.1 T.more T.last T.gives rest T.closes p W n j (long ∙ sym s) hold;
-          }
+              record {
+                more = new ∷ T.more;
+                last = T.last;
+                gives = T.gives;
+                count = T.count;
+                same = T.same;
+                made = subst (λ (n : List Arm). give (at_count w T.count) (choice_of true n T.last (T.gives ∷ [])) ≡ Ok (x, v)) (append_assoc (a ∷ as') (new ∷ []) T.more) T.made;
+                closes = λ p W n j long hold. open_closes t m h.0 y z h'.0 b at tw i l.0.0 l.0.1 l.1 T.more T.last T.gives rest T.closes p W n j (long ∙ sym s) hold;
+              }
     tails ts [] ms zs h h' f w a as' c x v e = absurd cc
     tails [] (y ∷ xs) ms [] h h' f w a as' c x v e = absurd h'
     tails [] (y ∷ xs) (m ∷ ms) (z ∷ zs) h h' f w a as' c x v e = absurd h
@@ -245,8 +256,8 @@ module _ (r : Results) where
         let first = h.carries q W n k vs us (no_steps a) long hold (value.Open at) tw e in
         let d = m.means us q n k in
         let told_is : (evaluation.◌>>=◌ (asked (m.means us)) (Branches one rest)) q n k ≡ in_order d (Branches one rest (varying first.gives.0) q d.choices d.sites) =
-            ap (λ (o : Evaluated Val). in_order o (Branches one rest o.gives q o.choices o.sites)) (open_asked (m.means us) q n k first.gives.0 first.gives.2)
-            ∙ ap (λ o. in_order d (Branches one rest o q d.choices d.sites)) first.gives.2 in
+        ap (λ (o : Evaluated Val). in_order o (Branches one rest o.gives q o.choices o.sites)) (open_asked (m.means us) q n k first.gives.0 first.gives.2)
+        ∙ ap (λ o. in_order d (Branches one rest o q d.choices d.sites)) first.gives.2 in
         subst (λ (o : Evaluated Val). o.gives ≡ varying (word_of o.gives)) (sym told_is) refl
 
     module _ (p : Standing) (ws : List Bits) (n k : ℕ) (w : Work) (long : IsLong r p ws n k w) (hold : AllHold (V r p ws n k w) vs us) where
@@ -272,12 +283,12 @@ module _ (r : Results) where
           let d = here r p ws n k w m in
           let h = nested_run (map run last) (g ∷ []) (map alternative (a ∷ as')) r p W N K in
           let run_is : run (choice_of true (a ∷ as') last (g ∷ [])) r p W N K ≡ record h { words = W ++ h.words } =
-              ap (λ (o : Run). o r p W N K) (choose_is (roll-Choice (record { nested = true; arms = a ∷ as'; last = last; gives = g ∷ [] })))
-              ∙ ap (λ (o : Run). running.step_run (Step-F.Choose o) r p W N K) (choice_is true (a ∷ as') last (g ∷ [])) in
+          ap (λ (o : Run). o r p W N K) (choose_is (roll-Choice (record { nested = true; arms = a ∷ as'; last = last; gives = g ∷ [] })))
+          ∙ ap (λ (o : Run). running.step_run (Step-F.Choose o) r p W N K) (choice_is true (a ∷ as') last (g ∷ [])) in
           let told_is : ◌≡◌ {A = Happening} (record h { words = W ++ h.words }) (record { words = W ++ word_of d.gives ∷ []; choices = d.choices; sites = d.sites; calls = d.calls; needs = d.needs }) =
-              ap (λ (o : List Bits). let u : Happening = record h { words = W ++ o } in u) closes.words
-              ∙ ap₂ (λ (i j : ℕ). let u : Happening = record { words = W ++ word_of d.gives ∷ []; choices = i; sites = j; calls = h.calls; needs = h.needs } in u) closes.choices closes.sites
-              ∙ ap₂ (λ (i : List SiteCall) (j : List Need). let u : Happening = record { words = W ++ word_of d.gives ∷ []; choices = d.choices; sites = d.sites; calls = i; needs = j } in u) closes.calls closes.needs in
+          ap (λ (o : List Bits). let u : Happening = record h { words = W ++ o } in u) closes.words
+          ∙ ap₂ (λ (i j : ℕ). let u : Happening = record { words = W ++ word_of d.gives ∷ []; choices = i; sites = j; calls = h.calls; needs = h.needs } in u) closes.choices closes.sites
+          ∙ ap₂ (λ (i : List SiteCall) (j : List Need). let u : Happening = record { words = W ++ word_of d.gives ∷ []; choices = d.choices; sites = d.sites; calls = i; needs = j } in u) closes.calls closes.needs in
           let it = pushed r p ws n k (at_count w b) W (λ i y j. j) (long ∙ sym s) (choice_of true (a ∷ as') last (g ∷ [])) x v e (word_of d.gives) d (varies, run_is ∙ told_is) in
           record { adds = it.adds; long = it.long; gives = it.gives }
 
@@ -289,36 +300,40 @@ module _ (r : Results) where
           let g = got (tick c 1 >>= λ b. t.carry vs (no_steps b)) _ (x, v) e in
           let l = got (tick c 1) (λ b. t.carry vs (no_steps b)) g.0 g.1 in
           by g.0.0 g.0.1 l.0 (tick_is c 1 l.0 l.1 ∙ s) l.2 g.2 (λ u i q. choice_from_is ts xs ms zs h.1 h'.1 f u i x v q) where
-        rest : Evaluation Val
-        rest = chosen (means_of ms) (means_of zs) us
-        whole : Evaluation Val
-        whole = evaluation.◌>>=◌ (asked (m.means us)) (Branches (z.means us) rest)
-        Others : Type 0
-        Others = (u : Count) → u.slots ≡ w.count.slots → carrying.choice_from f w [] ts xs vs u ≡ Ok (x, v) → One x v rest
-        by_static : (i : Constant) (tw : Work) (b : Count) → b.slots ≡ w.count.slots → t.carry vs (no_steps b) ≡ Ok (value.Static i, tw) → (is : Bool) → values.is_true (value.Static i) ≡ is
-            → (if is then y.carry vs (at_count w tw.count) else carrying.choice_from f w [] ts xs vs tw.count) ≡ Ok (x, v) → Others → One x v whole
-        by_static i tw b same q true j e' o =
-            subst (λ d. Same r p ws n k (λ W y. Shows W x y) w v d)
-            (ap (λ (is : Bool). (if is then z.means us else rest) p (ran r p ws n k w).choices (ran r p ws n k w).sites) (sym j)
-            ∙ decided_told t m h.0 b i tw q (Branches (z.means us) rest) p (V r p ws n k w) (ran r p ws n k w).choices (ran r p ws n k w).sites (long ∙ sym same) hold)
-            (alone_is y z h'.0 tw.count (still_slots t m h.0 w.count b same i tw q) x v e')
-        by_static i tw b same q false j e' o =
-            subst (λ d. Same r p ws n k (λ W y. Shows W x y) w v d)
-            (ap (λ (is : Bool). (if is then z.means us else rest) p (ran r p ws n k w).choices (ran r p ws n k w).sites) (sym j)
-            ∙ decided_told t m h.0 b i tw q (Branches (z.means us) rest) p (V r p ws n k w) (ran r p ws n k w).choices (ran r p ws n k w).sites (long ∙ sym same) hold)
-            (o tw.count (still_slots t m h.0 w.count b same i tw q) e')
-        by : (tv : Value) (tw : Work) (b : Count) → b.slots ≡ w.count.slots → t.carry vs (no_steps b) ≡ Ok (tv, tw)
-            → (if values.is_true tv then y.carry vs (at_count w tw.count) else (carrying.value_kept [] (tv, tw) y vs >>= λ o. carrying.choice_from f w o.0 ts xs vs o.1)) ≡ Ok (x, v) → Others → One x v whole
-        by (value.Static i) tw b same q e' o = by_static i tw b same q (values.is_true (value.Static i)) refl e' o
-        by (value.Open at) tw b same q e' o =
-            let g = got (carrying.value_kept [] (value.Open at, tw) y vs) (λ i. carrying.choice_from f w i.0 ts xs vs i.1) (x, v) e' in
-            let l = got (y.carry vs (no_steps tw.count)) _ g.0 g.1 in
-            let new = carrying.value_arm (value.Open at, tw) l.0 in
-            let T = tails ts xs ms zs h.1 h'.1 f w new [] (carrying.after_arm tw.count l.0.1.count) x v
+            rest : Evaluation Val
+            rest = chosen (means_of ms) (means_of zs) us
+
+            whole : Evaluation Val
+            whole = evaluation.◌>>=◌ (asked (m.means us)) (Branches (z.means us) rest)
+
+            Others : Type 0
+            Others = (u : Count) → u.slots ≡ w.count.slots → carrying.choice_from f w [] ts xs vs u ≡ Ok (x, v) → One x v rest
+
+            by_static : (i : Constant) (tw : Work) (b : Count) → b.slots ≡ w.count.slots → t.carry vs (no_steps b) ≡ Ok (value.Static i, tw) → (is : Bool) → values.is_true (value.Static i) ≡ is
+                → (if is then y.carry vs (at_count w (carrying.after_arm c tw.count)) else carrying.choice_from f w [] ts xs vs (carrying.after_arm c tw.count)) ≡ Ok (x, v) → Others → One x v whole
+            by_static i tw b same q true j e' o =
+                subst (λ d. Same r p ws n k (λ W y. Shows W x y) w v d)
+                (ap (λ (is : Bool). (if is then z.means us else rest) p (ran r p ws n k w).choices (ran r p ws n k w).sites) (sym j)
+                ∙ decided_told t m h.0 b i tw q (Branches (z.means us) rest) p (V r p ws n k w) (ran r p ws n k w).choices (ran r p ws n k w).sites (long ∙ sym same) hold)
+                (alone_is y z h'.0 (carrying.after_arm c tw.count) s x v e')
+            by_static i tw b same q false j e' o =
+                subst (λ d. Same r p ws n k (λ W y. Shows W x y) w v d)
+                (ap (λ (is : Bool). (if is then z.means us else rest) p (ran r p ws n k w).choices (ran r p ws n k w).sites) (sym j)
+                ∙ decided_told t m h.0 b i tw q (Branches (z.means us) rest) p (V r p ws n k w) (ran r p ws n k w).choices (ran r p ws n k w).sites (long ∙ sym same) hold)
+                (o (carrying.after_arm c tw.count) s e')
+
+            by : (tv : Value) (tw : Work) (b : Count) → b.slots ≡ w.count.slots → t.carry vs (no_steps b) ≡ Ok (tv, tw)
+                → (if values.is_true tv then y.carry vs (at_count w (carrying.after_arm c tw.count)) else (carrying.value_kept [] c (tv, tw) y vs >>= λ o. carrying.choice_from f w o.0 ts xs vs o.1)) ≡ Ok (x, v) → Others → One x v whole
+            by (value.Static i) tw b same q e' o = by_static i tw b same q (values.is_true (value.Static i)) refl e' o
+            by (value.Open at) tw b same q e' o =
+                let g = got (carrying.value_kept [] c (value.Open at, tw) y vs) (λ i. carrying.choice_from f w i.0 ts xs vs i.1) (x, v) e' in
+                let l = got (y.carry vs (no_steps tw.count)) _ g.0 g.1 in
+                let new = carrying.value_arm (value.Open at, tw) l.0 in
+                let T = tails ts xs ms zs h.1 h'.1 f w new [] (carrying.after_arm tw.count l.0.1.count) x v
                 (subst (λ (i : List Arm × Count). carrying.choice_from f w i.0 ts xs vs i.1 ≡ Ok (x, v)) (sym (same_ok (new ∷ [], carrying.after_arm tw.count l.0.1.count) g.0 l.2)) g.2) in
-            chosen_is new T.more T.last T.gives T.count T.same x v T.made whole
-            (open_varies t m h.0 b at tw q (z.means us) rest p (V r p ws n k w) (ran r p ws n k w).choices (ran r p ws n k w).sites (long ∙ sym same) hold)
-            (open_closes t m h.0 y z h'.0 b at tw q l.0.0 l.0.1 l.1 T.more T.last T.gives rest T.closes p (V r p ws n k w) (ran r p ws n k w).choices (ran r p ws n k w).sites (long ∙ sym same) hold)
+                chosen_is new T.more T.last T.gives T.count T.same x v T.made whole
+                (open_varies t m h.0 b at tw q (z.means us) rest p (V r p ws n k w) (ran r p ws n k w).choices (ran r p ws n k w).sites (long ∙ sym same) hold)
+                (open_closes t m h.0 y z h'.0 b at tw q l.0.0 l.0.1 l.1 T.more T.last T.gives rest T.closes p (V r p ws n k w) (ran r p ws n k w).choices (ran r p ws n k w).sites (long ∙ sym same) hold)
       choice_from_is ts [] ms zs h h' f c s x v e = absurd cc
       choice_from_is [] (y ∷ xs) ms [] h h' f c s x v e = absurd h'
       choice_from_is [] (y ∷ xs) (m ∷ ms) (z ∷ zs) h h' f c s x v e = absurd h

@@ -1,4 +1,4 @@
--- The whole: rules and methods of the top do what they mean, where each statement does, and what is static leaves no values.
+-- The whole: rules and methods of the top do what they mean, where each statement does.
 use Rattle.std.proofs.Common.{◌≡◌, ℕ, zero, suc, Bool, true, false, ◌&&◌, List, [], ◌∷◌, ◌++◌, length, map, Option, Some, None, Ok, Err, refl, sym, ap, ap₂, ◌∙◌, subst, append_assoc, append-nil, length-append, ◌+◌}
 use Rattle.std.specs.Prelude.{slice_get, if◌then◌else◌}
 use Rattle.bsv_fail.specs.Given.{◌>>=◌}
@@ -41,7 +41,7 @@ use Rattle.bsv_tree.proofs.meaning.Pieces.{bound, given, nothing_more, ran_more,
 use Rattle.bsv_tree.proofs.meaning.Operating.{V}
 use Rattle.bsv_tree.proofs.meaning.Nodes.{need_is}
 use Rattle.bsv_tree.proofs.meaning.Expressions.{Carries, CallsSame, held_at}
-use Rattle.bsv_tree.proofs.meaning.Trees.{IsStill, ExprSame, expr_same}
+use Rattle.bsv_tree.proofs.meaning.Trees.{ExprSame, expr_same}
 use Rattle.bsv_tree.proofs.meaning.Statements.{Does, AllDo, run_does, hold_new}
 
 -- ---- the variables of a body as it begins
@@ -60,7 +60,7 @@ arguments_hold W (x ∷ xs) [] s = absurd s
 begins : (W : List Bits) (b : Bool) (xs : List Value) (ys : List Val) → AllShow W xs ys → AllHold W (carrying.arguments b xs) (meaning.arguments ys)
 begins W b xs ys s = (hold_new W (values.truth false) nothing b refl, arguments_hold W xs ys s)
 
-module _ (r : Results) (call : Caller) (calling : Calling) (calls_same : CallsSame r call calling) (site : Context) (still : IsStill call site)
+module _ (r : Results) (call : Caller) (calling : Calling) (calls_same : CallsSame r call calling) (site : Context)
     (stmts : (s : Stmt) → Does r (carrying.stmt call site s) (meaning.stmt r calling site s)) where
   -- ---- conditions
 
@@ -83,13 +83,13 @@ module _ (r : Results) (call : Caller) (calling : Calling) (calls_same : CallsSa
         let need : Need = record { name = name; truth = is_true a.gives; taken = p.taken } in
         let end : Happening = record { words = inner.words; choices = a.choices; sites = a.sites; calls = (ran r p ws n k w).calls ++ a.calls; needs = (ran r p ws n k w).needs ++ need ∷ a.needs } in
         let told : needed name m p N K ≡ record a { needs = need ∷ a.needs } =
-            ap (λ (b : Bool). if b then yields a.gives p N K else record a { needs = need ∷ a.needs }) no_static in
+        ap (λ (b : Bool). if b then yields a.gives p N K else record a { needs = need ∷ a.needs }) no_static in
         let it : ran r p ws n k (with_step w (step.Need name (atom_of x) u.steps) u.count) ≡ end =
-            ran_more r p ws n k w (step.Need name (atom_of x) u.steps) u.count
-            ∙ ap (followed (ran r p ws n k w)) (ap (λ (f : Run). f r p W N K) (need_is name (atom_of x) u.steps)
-            ∙ ap (λ (o : Bits). let h : Happening = record inner { needs = record { name = name; truth = is_one o; taken = p.taken } ∷ inner.needs } in h) (shows_word inner.words x a.gives same.gives)
-            ∙ ap₂ (λ (i j : ℕ). let h : Happening = record { words = inner.words; choices = i; sites = j; calls = inner.calls; needs = need ∷ inner.needs } in h) same.adds.choices same.adds.sites
-            ∙ ap₂ (λ (i : List SiteCall) (j : List Need). let h : Happening = record { words = inner.words; choices = a.choices; sites = a.sites; calls = i; needs = need ∷ j } in h) same.adds.calls same.adds.needs) in
+        ran_more r p ws n k w (step.Need name (atom_of x) u.steps) u.count
+        ∙ ap (followed (ran r p ws n k w)) (ap (λ (f : Run). f r p W N K) (need_is name (atom_of x) u.steps)
+        ∙ ap (λ (o : Bits). let h : Happening = record inner { needs = record { name = name; truth = is_one o; taken = p.taken } ∷ inner.needs } in h) (shows_word inner.words x a.gives same.gives)
+        ∙ ap₂ (λ (i j : ℕ). let h : Happening = record { words = inner.words; choices = i; sites = j; calls = inner.calls; needs = need ∷ inner.needs } in h) same.adds.choices same.adds.sites
+        ∙ ap₂ (λ (i : List SiteCall) (j : List Need). let h : Happening = record { words = inner.words; choices = a.choices; sites = a.sites; calls = i; needs = need ∷ j } in h) same.adds.calls same.adds.needs) in
         subst (λ d. Same r p ws n k (λ W y. Unit {0}) w (with_step w (step.Need name (atom_of x) u.steps) u.count) d) (sym told)
         (record {
           adds = record {
@@ -104,36 +104,40 @@ module _ (r : Results) (call : Caller) (calling : Calling) (calls_same : CallsSa
         })
 
     asking_is : (name : Option MethodPlace) (c : Option Expr) (v : Work) → carrying.asking call site name c w ≡ Ok v → Evaluates_to v (meaning.holds r calling site name c)
-    unfolding carrying.asking meaning.holds ExprSame Carries in_turn IsStill
+    unfolding carrying.asking meaning.holds ExprSame Carries in_turn
     asking_is name None v e =
         subst (λ u. Evaluates_to u (yields (static (constant.Bits (bit true))))) (same_ok w v e) (nothing_more r p ws n k (λ W y. Unit {0}) w long _ tt)
     asking_is name (Some c) v e =
         let g = got (carrying.expr call site c (frames.no_variables false) (no_steps w.count)) (λ o. Ok (carrying.needed name w o)) v e in
         let W = V r p ws n k w in
-        let first = (expr_same r call calling calls_same site still c).carries p W (ran r p ws n k w).choices (ran r p ws n k w).sites (frames.no_variables false) (meaning.arguments []) (no_steps w.count) long
-            (begins W false [] [] tt) g.0.0 g.0.1 g.1 in
+        let first = (expr_same r call calling calls_same site c).carries p W (ran r p ws n k w).choices (ran r p ws n k w).sites (frames.no_variables false) (meaning.arguments []) (no_steps w.count) long
+        (begins W false [] [] tt) g.0.0 g.0.1 g.1 in
         subst (λ u. Evaluates_to u (needed name (meaning.expr r calling site c (meaning.arguments [])))) (same_ok (carrying.needed name w g.0) v g.2)
         (by g.0.0 g.0.1 first g.1) where
-      m : Evaluation Val
-      m = meaning.expr r calling site c (meaning.arguments [])
-      y : Val
-      y = (m p (ran r p ws n k w).choices (ran r p ws n k w).sites).gives
-      Base : Value → Work → Type 0
-      Base x u = Same r p (V r p ws n k w) (ran r p ws n k w).choices (ran r p ws n k w).sites (λ W y. Shows W x y) (no_steps w.count) u (m p (ran r p ws n k w).choices (ran r p ws n k w).sites)
-      static_by : (i : Constant) (u : Work) → Base (value.Static i) u → carrying.expr call site c (frames.no_variables false) (no_steps w.count) ≡ Ok (value.Static i, u)
-          → (is : Bool) → values.is_true (value.Static i) ≡ is
-          → Evaluates_to (if is then at_count w u.count else carrying.with_need name w (value.Static i, u)) (needed name m)
-      static_by i u same f true j =
-          let on : IsLong r p ws n k (at_count w u.count) = long ∙ sym (still c (frames.no_variables false) (no_steps w.count) (value.Static i) u f refl) in
-          let it = nothing_more r p ws n k (λ W y. Unit {0}) (at_count w u.count) on y tt in
-          let told : needed name m p (ran r p ws n k w).choices (ran r p ws n k w).sites ≡ yields y p (ran r p ws n k w).choices (ran r p ws n k w).sites =
+          m : Evaluation Val
+          m = meaning.expr r calling site c (meaning.arguments [])
+
+          y : Val
+          y = (m p (ran r p ws n k w).choices (ran r p ws n k w).sites).gives
+
+          Base : Value → Work → Type 0
+          Base x u = Same r p (V r p ws n k w) (ran r p ws n k w).choices (ran r p ws n k w).sites (λ W y. Shows W x y) (no_steps w.count) u (m p (ran r p ws n k w).choices (ran r p ws n k w).sites)
+
+          static_by : (i : Constant) (u : Work) → Base (value.Static i) u → carrying.expr call site c (frames.no_variables false) (no_steps w.count) ≡ Ok (value.Static i, u)
+              → (is : Bool) → values.is_true (value.Static i) ≡ is
+              → Evaluates_to (if is then at_count w (carrying.after_arm w.count u.count) else carrying.with_need name w (value.Static i, u)) (needed name m)
+          static_by i u same f true j =
+              let on : IsLong r p ws n k (at_count w (carrying.after_arm w.count u.count)) = long in
+              let it = nothing_more r p ws n k (λ W y. Unit {0}) (at_count w (carrying.after_arm w.count u.count)) on y tt in
+              let told : needed name m p (ran r p ws n k w).choices (ran r p ws n k w).sites ≡ yields y p (ran r p ws n k w).choices (ran r p ws n k w).sites =
               ap (λ (b : Bool). if b then yields y p (ran r p ws n k w).choices (ran r p ws n k w).sites else record (m p (ran r p ws n k w).choices (ran r p ws n k w).sites) { needs = record { name = name; truth = is_true y; taken = p.taken } ∷ (m p (ran r p ws n k w).choices (ran r p ws n k w).sites).needs })
               (ap (λ o. is_static o && is_true o) same.gives ∙ j) in
-          subst (λ d. Same r p ws n k (λ W y. Unit {0}) w (at_count w u.count) d) (sym told) (record { adds = it.adds; long = it.long; gives = tt })
-      static_by i u same f false j = need_told name m (value.Static i) u same (ap (λ o. is_static o && is_true o) same.gives ∙ j)
-      by : (x : Value) (u : Work) → Base x u → carrying.expr call site c (frames.no_variables false) (no_steps w.count) ≡ Ok (x, u) → Evaluates_to (carrying.needed name w (x, u)) (needed name m)
-      by (value.Static i) u same f = static_by i u same f (values.is_true (value.Static i)) refl
-      by (value.Open at) u same f = need_told name m (value.Open at) u same (ap (λ o. is_static o && is_true o) same.gives.2)
+              subst (λ d. Same r p ws n k (λ W y. Unit {0}) w (at_count w (carrying.after_arm w.count u.count)) d) (sym told) (record { adds = it.adds; long = it.long; gives = tt })
+          static_by i u same f false j = need_told name m (value.Static i) u same (ap (λ o. is_static o && is_true o) same.gives ∙ j)
+
+          by : (x : Value) (u : Work) → Base x u → carrying.expr call site c (frames.no_variables false) (no_steps w.count) ≡ Ok (x, u) → Evaluates_to (carrying.needed name w (x, u)) (needed name m)
+          by (value.Static i) u same f = static_by i u same f (values.is_true (value.Static i)) refl
+          by (value.Open at) u same f = need_told name m (value.Open at) u same (ap (λ o. is_static o && is_true o) same.gives.2)
 
     -- ---- bodies
 
@@ -147,9 +151,9 @@ module _ (r : Results) (call : Caller) (calling : Calling) (calls_same : CallsSa
         let it = held_at W ts us h 0 t e in
         let l = by t.lost f in
         (ap (λ (o : Value × Work). o.1) l.1, subst (λ o. Shows W x (meaning.value_in o)) (sym it.1) (subst (λ z. Shows W z it.0.value) (ap (λ (o : Value × Work). o.0) l.1) (it.2.shows l.0))) where
-      by : (b : Bool) → ◌≡◌ {A = Valued} (if b then Err (static_fault site) else (let q : Valued = Ok (t.value, u) in q)) (Ok (x, v)) → (b ≡ false) × ◌≡◌ {A = Value × Work} (t.value, u) (x, v)
-      by true q = absurd cc
-      by false q = (refl, same_ok (t.value, u) (x, v) q)
+          by : (b : Bool) → ◌≡◌ {A = Valued} (if b then Err (static_fault site) else (let q : Valued = Ok (t.value, u) in q)) (Ok (x, v)) → (b ≡ false) × ◌≡◌ {A = Value × Work} (t.value, u) (x, v)
+          by true q = absurd cc
+          by false q = (refl, same_ok (t.value, u) (x, v) q)
 
     all_do : (ss : List Stmt) → AllDo r (map (carrying.stmt call site) ss) (map (meaning.stmt r calling site) ss)
     all_do [] = tt
@@ -159,7 +163,7 @@ module _ (r : Results) (call : Caller) (calling : Calling) (calls_same : CallsSa
         → carrying.giving call site b is_number xs w ≡ Ok (x, v) → One x v (meaning.body_of r calling site b ys)
     unfolding carrying.giving meaning.body_of ExprSame Carries
     giving_is (body.Value c) is_number xs ys s x v e =
-        (expr_same r call calling calls_same site still c).carries p ws n k (carrying.arguments is_number xs) (meaning.arguments ys) w long (begins (V r p ws n k w) is_number xs ys s) x v e
+        (expr_same r call calling calls_same site c).carries p ws n k (carrying.arguments is_number xs) (meaning.arguments ys) w long (begins (V r p ws n k w) is_number xs ys s) x v e
     giving_is (body.Statements ss) is_number xs ys s x v e =
         let g = got (carrying.run (map (carrying.stmt call site) ss) (carrying.arguments is_number xs) w) _ (x, v) e in
         let m = control.in_turn (map (meaning.stmt r calling site) ss) (meaning.arguments ys) in
@@ -187,29 +191,28 @@ module _ (r : Results) (call : Caller) (calling : Calling) (calls_same : CallsSa
       let m = control.in_turn (map (meaning.stmt r calling site) ss) (meaning.arguments []) in
       let second = (run_does r _ _ (all_do p ws n k g.0 first.long ss)).does p ws n k (frames.no_variables false) (meaning.arguments []) g.0 first.long (begins (V r p ws n k g.0) false [] [] tt) l.0.0 l.0.1 l.1 in
       let last : Same r p ws n k (λ W y. Unit {0}) g.0 v (here r p ws n k g.0 m) =
-          subst (λ u. Same r p ws n k (λ W y. Unit {0}) g.0 u (here r p ws n k g.0 m)) (same_ok l.0.1 v l.2) (record { adds = second.adds; long = second.long; gives = tt }) in
+      subst (λ u. Same r p ws n k (λ W y. Unit {0}) g.0 u (here r p ws n k g.0 m)) (same_ok l.0.1 v l.2) (record { adds = second.adds; long = second.long; gives = tt }) in
       bound r p ws n k (λ W y. Unit {0}) (λ W y. Unit {0}) w g.0 v (meaning.holds r calling site None c) (λ x. m) first last
 
 -- ---- calls in calls, and elements
 
--- what is left to be proved: of each depth of calls, that what is static leaves no values, and each statement
+-- what is left to be proved: of each depth of calls, each statement
 pub record Rest (r : Results) : Type 0 where
-  pub still : (d : ℕ) (site : Context) → IsStill (carrying.call_at d) site
   pub stmts : (d : ℕ) → CallsSame r (carrying.call_at d) (meaning.call_at r d) → (site : Context) (s : Stmt) → Does r (carrying.stmt (carrying.call_at d) site s) (meaning.stmt r (meaning.call_at r d) site s)
 
 pub calls_same_at : (r : Results) → Rest r → (d : ℕ) → CallsSame r (carrying.call_at d) (meaning.call_at r d)
 unfolding CallsSame carrying.call_at meaning.call_at
 calls_same_at r h zero p ws n k site c xs ys w long s x v e = absurd cc
 calls_same_at r h (suc d) p ws n k site c xs ys w long s x v e =
-    called_is r (carrying.call_at d) (meaning.call_at r d) (calls_same_at r h d) site (h.still d site) (h.stmts d (calls_same_at r h d) site) p ws n k c xs ys w long s x v e
+    called_is r (carrying.call_at d) (meaning.call_at r d) (calls_same_at r h d) site (h.stmts d (calls_same_at r h d) site) p ws n k c xs ys w long s x v e
 
 -- a rule's steps, run, do what the rule means: the same calls, and the same needs
 pub rule_means : (r : Results) → Rest r → (site : Context) (c : Option Expr) (ss : List Stmt) (w : Work) → carrying.rule site c ss (no_steps (record { weight = 0; slots = 0 })) ≡ Ok w
     → (let h = happening w.steps r [] in let m = meaning.rule r site c ss (record { taken = true; branches = [] }) 0 0 in (h.calls ≡ m.calls) × (h.needs ≡ m.needs))
 unfolding carrying.rule meaning.rule happening in_turn carrying.most_calls
 rule_means r h site c ss w e =
-    let it = rule_is r (carrying.call_at 64) (meaning.call_at r 64) (calls_same_at r h 64) site (h.still 64 site) (h.stmts 64 (calls_same_at r h 64) site) (record { taken = true; branches = [] }) [] 0 0 c ss
-        (no_steps (record { weight = 0; slots = 0 })) refl w e in
+    let it = rule_is r (carrying.call_at 64) (meaning.call_at r 64) (calls_same_at r h 64) site (h.stmts 64 (calls_same_at r h 64) site) (record { taken = true; branches = [] }) [] 0 0 c ss
+    (no_steps (record { weight = 0; slots = 0 })) refl w e in
     (it.adds.calls, it.adds.needs)
 
 -- ---- methods of the top: their arguments are the first words
@@ -230,8 +233,8 @@ parameters_are (p ∷ ps) W V (w ∷ ws) e l xs ys s c at o f =
     let g = got (fresh c 1) (λ next. carrying.parameters_from (xs ++ value.Open (atom.Slot c.slots) ∷ []) ps next) o f in
     let there : slice_get W c.slots ≡ Some w = ap₂ (λ (q : List Bits) i. slice_get q i) e at ∙ got_next V ws w in
     let it = parameters_are ps W (V ++ w ∷ []) ws (e ∙ sym (append_assoc V (w ∷ []) ws)) shorter (xs ++ value.Open (atom.Slot c.slots) ∷ []) (ys ++ varying w ∷ [])
-        (all_show_append W xs (value.Open (atom.Slot c.slots) ∷ []) ys (varying w ∷ []) s ((w, there, refl), tt)) g.0
-        (fresh_is c 1 g.0 g.1 ∙ ap (λ i. i + 1) at ∙ sym (length-append V (w ∷ []))) o g.2 in
+    (all_show_append W xs (value.Open (atom.Slot c.slots) ∷ []) ys (varying w ∷ []) s ((w, there, refl), tt)) g.0
+    (fresh_is c 1 g.0 g.1 ∙ ap (λ i. i + 1) at ∙ sym (length-append V (w ∷ []))) o g.2 in
     (subst (AllShow W o.0) (append_assoc ys (varying w ∷ []) (map varying ws)) it.0, it.1)
 parameters_are [] W V (w ∷ ws) e l xs ys s c at o f = absurd cc
 parameters_are (p ∷ ps) W V [] e l xs ys s c at o f = absurd cc
@@ -251,8 +254,8 @@ method_means r h site m weight x v e ws long =
     let same = calls_same_at r h 64 in
     let w = no_steps g.0.1 in
     let l = got (carrying.asking call site None m.condition w) _ (x, v) g.2 in
-    let first = asking_is r call calling same site (h.still 64 site) (h.stmts 64 same site) here' ws 0 0 w args.1 None m.condition l.0 l.1 in
-    let second = giving_is r call calling same site (h.still 64 site) (h.stmts 64 same site) here' ws 0 0 l.0 first.long m.body false g.0.0 (map varying ws)
-        (all_show_within ws (V r here' ws 0 0 l.0) first.adds.within g.0.0 (map varying ws) args.0) x v l.2 in
+    let first = asking_is r call calling same site (h.stmts 64 same site) here' ws 0 0 w args.1 None m.condition l.0 l.1 in
+    let second = giving_is r call calling same site (h.stmts 64 same site) here' ws 0 0 l.0 first.long m.body false g.0.0 (map varying ws)
+    (all_show_within ws (V r here' ws 0 0 l.0) first.adds.within g.0.0 (map varying ws) args.0) x v l.2 in
     let it = bound r here' ws 0 0 (λ W y. Unit {0}) (λ W y. Shows W x y) w l.0 v (meaning.holds r calling site None m.condition) (λ y. meaning.body_of r calling site m.body (map varying ws)) first second in
     (it.adds.calls, it.adds.needs, shows_word (ran r here' ws 0 0 v).words x _ it.gives)

@@ -48,8 +48,6 @@ module _ (r : Results) where
 
   pub record Matches (c : Carried) (m : Meant) : Type 0 where
     pub sort : c.sort ≡ m.sort
-    -- what is static leaves no values
-    pub still : (vs : List Local) (w : Work) (x : Value) (v : Work) → c.carry vs w ≡ Ok (x, v) → values.is_static x ≡ true → v.count.slots ≡ w.count.slots
     pub carries : Carries c.carry m.means
 
   abbrev pub AllMatch : List Carried → List Meant → Type 0
@@ -149,7 +147,7 @@ module _ (r : Results) where
       let a = (here r p ws n k w (m.means us)).gives in
       let on = first.adds.within in
       let others = all_from_is cs ms h.1 p ws n k vs us u first.long (all_hold_within (V r p ws n k w) (V r p ws n k u) on vs us hold)
-          (xs ++ x ∷ []) (zs ++ a ∷ []) (all_show_append (V r p ws n k u) xs (x ∷ []) zs (a ∷ []) (all_show_within (V r p ws n k w) (V r p ws n k u) on xs zs s) (first.gives, tt)) ys v g.2 in
+      (xs ++ x ∷ []) (zs ++ a ∷ []) (all_show_append (V r p ws n k u) xs (x ∷ []) zs (a ∷ []) (all_show_within (V r p ws n k w) (V r p ws n k u) on xs zs s) (first.gives, tt)) ys v g.2 in
       bound r p ws n k (λ W y. Shows W x y) (λ W bs. AllShow W ys (zs ++ bs)) w u v (m.means us) (λ y. evaluation.◌>>=◌ (meaning.all ms us) (λ qs. yields (y ∷ qs))) first
       (given r p ws n k (λ W bs. AllShow W ys ((zs ++ a ∷ []) ++ bs)) (λ W bs. AllShow W ys (zs ++ bs)) u v (meaning.all ms us) (λ qs. a ∷ qs) others
       (subst (AllShow (V r p ws n k v) ys) (append_assoc zs (a ∷ []) _) others.gives))

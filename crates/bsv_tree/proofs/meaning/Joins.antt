@@ -218,8 +218,8 @@ module _ (r : Results) (vs : List Local) (us : Variables) (given : List ℕ) (pl
         → (let h = in_turn (map run tw.steps) r q W n k in
         Within W h.words → length h.words ≡ tw.count.slots → running.word_of h.words at ≡ u → h.choices ≡ d.choices → h.sites ≡ d.sites → h.calls ≡ d.calls → h.needs ≡ d.needs
         → Ends (carried.assigned (pend ∷ more) last_vs)
-            (arms_run (map run last) (map (given_by last_vs) given) (map alternative (map (arm_of given) (pend ∷ more))) number arm (q.taken && left) r q W n k)
-            (in_order d (Both number arm left m rest (varying u) q d.choices d.sites)))
+        (arms_run (map run last) (map (given_by last_vs) given) (map alternative (map (arm_of given) (pend ∷ more))) number arm (q.taken && left) r q W n k)
+        (in_order d (Both number arm left m rest (varying u) q d.choices d.sites)))
     unfolding arms_run pend
     open_finishes q W n k d u hold within' long word choices sites calls needs =
         let h = in_turn (map run tw.steps) r q W n k in
@@ -239,9 +239,9 @@ module _ (r : Results) (vs : List Local) (us : Variables) (given : List ℕ) (pl
         let F : ℕ → Bool = carried.assigned more last_vs in
         let fourth : Ends F R B = subst (λ i. Ends F R (rest (left && not t) q i A.sites)) second.choices (subst (λ j. Ends F R (rest (left && not t) q body.choices j)) second.sites third) in
         let E : Bits → Bool → Bool → Happening = λ w i j.
-            running.either_run h (is_one w) (in_turn (map run lw.steps) r (running.inside q i number arm) h.words N K) g
-            (arms_run (map run last) (map (given_by last_vs) given) (map alternative (map (arm_of given) more)) number (arm + 1) j r q h.words
-            (in_turn (map run lw.steps) r (running.inside q i number arm) h.words N K).choices (in_turn (map run lw.steps) r (running.inside q i number arm) h.words N K).sites) in
+        running.either_run h (is_one w) (in_turn (map run lw.steps) r (running.inside q i number arm) h.words N K) g
+        (arms_run (map run last) (map (given_by last_vs) given) (map alternative (map (arm_of given) more)) number (arm + 1) j r q h.words
+        (in_turn (map run lw.steps) r (running.inside q i number arm) h.words N K).choices (in_turn (map run lw.steps) r (running.inside q i number arm) h.words N K).sites) in
         let D : ℕ → ℕ → Evaluated Variables = λ i j. in_order d (Both number arm left m rest (varying u) q i j) in
         let G : ℕ → Bool = carried.assigned (pend ∷ more) last_vs in
         let same_long : length A.gives ≡ length B.gives = second.sized ∙ sym fourth.sized in
@@ -255,8 +255,8 @@ module _ (r : Results) (vs : List Local) (us : Variables) (given : List ℕ) (pl
           needs = ap₂ (λ (o p : List Need). o ++ p) needs (ap₂ (λ (o p : List Need). o ++ p) second.needs (fourth.needs ∙ sym (append-nil B.needs)));
         } in
         let run_is : arms_run (map run last) (map (given_by last_vs) given) (map alternative (map (arm_of given) (pend ∷ more))) number arm (q.taken && left) r q W n k ≡ E u l (q.taken && (left && not t)) =
-            ap (λ o. arms_run (map run last) (map (given_by last_vs) given) (o ∷ map alternative (map (arm_of given) more)) number arm (q.taken && left) r q W n k) (alternative_is tw.steps at lw.steps g)
-            ∙ ap (λ w. E w ((q.taken && left) && is_one w) ((q.taken && left) && not (is_one w))) word
-            ∙ ap₂ (λ i j. E u i j) (and_assoc q.taken left t) (and_assoc q.taken left (not t)) in
+        ap (λ o. arms_run (map run last) (map (given_by last_vs) given) (o ∷ map alternative (map (arm_of given) more)) number arm (q.taken && left) r q W n k) (alternative_is tw.steps at lw.steps g)
+        ∙ ap (λ w. E w ((q.taken && left) && is_one w) ((q.taken && left) && not (is_one w))) word
+        ∙ ap₂ (λ i j. E u i j) (and_assoc q.taken left t) (and_assoc q.taken left (not t)) in
         subst (λ o. Ends G o (in_order d (Both number arm left m rest (varying u) q d.choices d.sites))) (sym run_is)
         (subst (λ i. Ends G (E u l (q.taken && (left && not t))) (D i d.sites)) choices (subst (λ j. Ends G (E u l (q.taken && (left && not t))) (D N j)) sites whole))

@@ -76,8 +76,8 @@ module _ (r : Results) (call : Caller) (calling : Calling) (calls_same : CallsSa
           let f : List Val → Evaluation Val = λ zs. meaning.method r calling site instance b number (slice_get (meaning.methods_of (slice_get site.modules b.«module»)) number) (slice_get b.methods number) zs in
           let one = method_in_is instance b number (slice_get site.modules b.«module») g.0.0 ys g.0.1 all.long all.gives h.0.0 h.0.1 h.1 in
           let it = bound r p ws n k (λ W zs. AllShow W g.0.0 zs) (λ W y. Shows W (values.opened h.0.0) y) w g.0.1 h.0.1 (meaning.all ms us) (λ zs. evaluation.◌>>=◌ (f zs) (λ y. yields (varied y))) all
-              (given r p ws n k (λ W y. Shows W h.0.0 y) (λ W y. Shows W (values.opened h.0.0) y) g.0.1 h.0.1 (f ys) varied one
-              (opened_shows (V r p ws n k h.0.1) h.0.0 _ one.gives)) in
+          (given r p ws n k (λ W y. Shows W h.0.0 y) (λ W y. Shows W (values.opened h.0.0) y) g.0.1 h.0.1 (f ys) varied one
+          (opened_shows (V r p ws n k h.0.1) h.0.0 _ one.gives)) in
           subst (λ (o : Value × Work). One o.0 w o.1 (meaning.method_call r calling site action instance (Some (made.Module b)) number (meaning.all ms us))) (same_ok (values.opened h.0.0, h.0.1) (x, v) h.2) it
 
       pub value_is : (w : Work) → IsLong r p ws n k w → AllHold (V r p ws n k w) vs us → (instance : ℕ) (o : Option Made) (number : ℕ)
@@ -91,7 +91,7 @@ module _ (r : Results) (call : Caller) (calling : Calling) (calls_same : CallsSa
           let t = primitive_is r call calling calls_same site p ws n k cs ms match vs us w long hold instance q kd number w.count refl g.0 g.1 in
           let place : MethodPlace = record { instance = instance; method = t.0 } in
           let h : give (at_count w g.0.2.count) (step.Read place (map atom_of t.1) g.0.2.steps) ≡ Ok (x, v)
-              = subst (λ (o : MethodPlace × List Atom × Work). give (at_count w o.2.count) (step.Read o.0 o.1 o.2.steps) ≡ Ok (x, v)) t.3 g.2 in
+          = subst (λ (o : MethodPlace × List Atom × Work). give (at_count w o.2.count) (step.Read o.0 o.1 o.2.steps) ≡ Ok (x, v)) t.3 g.2 in
           subst (λ o. One x w v (meaning.part_call r calling site false instance o (meaning.all ms us))) (sym t.2)
           (read_called r call calling calls_same site p ws n k cs ms match vs us w long hold place w.count t.1 g.0.2 t.4 x v h)
 
@@ -106,7 +106,7 @@ module _ (r : Results) (call : Caller) (calling : Calling) (calls_same : CallsSa
           let t = primitive_is r call calling calls_same site p ws n k cs ms match vs us w long hold instance q kd number w.count refl g.0 g.1 in
           let place : MethodPlace = record { instance = instance; method = t.0 } in
           let h : ◌≡◌ {A = Valued} (Ok (values.truth false, with_step w (step.Act place (map atom_of t.1) g.0.2.steps) g.0.2.count)) (Ok (x, v))
-              = subst (λ (o : MethodPlace × List Atom × Work). ◌≡◌ {A = Valued} (Ok (values.truth false, with_step w (step.Act o.0 o.1 o.2.steps) o.2.count)) (Ok (x, v))) t.3 g.2 in
+          = subst (λ (o : MethodPlace × List Atom × Work). ◌≡◌ {A = Valued} (Ok (values.truth false, with_step w (step.Act o.0 o.1 o.2.steps) o.2.count)) (Ok (x, v))) t.3 g.2 in
           subst (λ o. One x w v (meaning.part_call r calling site true instance o (meaning.all ms us))) (sym t.2)
           (subst (λ (o : Value × Work). One o.0 w o.1 (called r true place (meaning.all ms us))) (same_ok (values.truth false, with_step w (step.Act place (map atom_of t.1) g.0.2.steps) g.0.2.count) (x, v) h)
           (act_called r call calling calls_same site p ws n k cs ms match vs us w long hold place w.count t.1 g.0.2 t.4))

@@ -141,7 +141,7 @@ one_more r p ws n k (x ∷ xs) y =
     let b = y r p c.words c.choices c.sites in
     ap (followed a) (one_more r p a.words a.choices a.sites xs y)
     ∙ ap₂ (λ cs ns. let h : Happening = record { words = b.words; choices = b.choices; sites = b.sites; calls = cs; needs = ns } in h)
-      (sym (append_assoc a.calls c.calls b.calls)) (sym (append_assoc a.needs c.needs b.needs))
+    (sym (append_assoc a.calls c.calls b.calls)) (sym (append_assoc a.needs c.needs b.needs))
 
 -- ---- answers that are there
 

@@ -43,14 +43,10 @@ use Rattle.bsv_tree.proofs.meaning.Called.{loosened_shows}
 use Rattle.bsv_tree.proofs.meaning.Methods.{function_is, method_is}
 use Rattle.bsv_tree.proofs.meaning.Choices.{choice_from_is, means_of}
 
--- what is static leaves no values, wherever it is carried out
-unfoldable pub IsStill : Caller → Context → Type 0
-IsStill call site = (e : Expr) (vs : List Local) (w : Work) (x : Value) (v : Work) → (carrying.expression call site e).carry vs w ≡ Ok (x, v) → values.is_static x ≡ true → v.count.slots ≡ w.count.slots
-
-placed_is : (f : Fault) (o : Option Binding) (m : ℕ) → calls.placed f o ≡ Ok m → meaning.instance o ≡ m
+placed_is : (f : Fault) (o : Option Binding) (m : ℕ) → calls.placed f o ≡ Ok m → meaning.instance o 0 ≡ m
 placed_is f None m e = absurd cc
 placed_is f (Some b) m e = by b.value e where
-  by : (x : Static) → calls.placed f (Some (record b { value = x })) ≡ Ok m → meaning.instance (Some (record b { value = x })) ≡ m
+  by : (x : Static) → calls.placed f (Some (record b { value = x })) ≡ Ok m → meaning.instance (Some (record b { value = x })) 0 ≡ m
   by (bound_to.Place k) e = same_ok k m e
   by (bound_to.Places k) e = absurd cc
   by (bound_to.Number k) e = absurd cc
@@ -62,17 +58,17 @@ set_is f None m e = absurd cc
 set_is f (Some None) m e = absurd cc
 set_is f (Some (Some n)) m e = same_ok n m e
 
-placed_at_is : (f : Fault) (o : Option Binding) (at m : ℕ) → calls.placed_at f o at ≡ Ok m → meaning.instance_at o at ≡ m
+placed_at_is : (f : Fault) (o : Option Binding) (at m : ℕ) → calls.placed_at f o at ≡ Ok m → meaning.instance o at ≡ m
 placed_at_is f None at m e = absurd cc
 placed_at_is f (Some b) at m e = by b.value e where
-  by : (x : Static) → calls.placed_at f (Some (record b { value = x })) at ≡ Ok m → meaning.instance_at (Some (record b { value = x })) at ≡ m
+  by : (x : Static) → calls.placed_at f (Some (record b { value = x })) at ≡ Ok m → meaning.instance (Some (record b { value = x })) at ≡ m
   by (bound_to.Places ks) e = set_is f (slice_get ks at) m e
   by (bound_to.Place k) e = absurd cc
   by (bound_to.Number k) e = absurd cc
   by (bound_to.Bits k) e = absurd cc
   by (bound_to.Truth k) e = absurd cc
 
-module _ (r : Results) (call : Caller) (calling : Calling) (calls_same : CallsSame r call calling) (site : Context) (still : IsStill call site) where
+module _ (r : Results) (call : Caller) (calling : Calling) (calls_same : CallsSame r call calling) (site : Context) where
   -- ---- nodes
 
   settled_carries : (c : Carry) (m : Means) (t : Sort) → Carries r c m → Carries r (λ vs w. c vs w >>= carrying.as_static call site t) m
@@ -197,7 +193,7 @@ module _ (r : Results) (call : Caller) (calling : Calling) (calls_same : CallsSa
   one_place_is level p W n k vs us a long hold i b e =
       let g = got (calls.placed (static_fault site) (slice_get site.bindings level)) (λ m. Ok (m, a)) (i, b) e in
       let it = same_ok (g.0, a) (i, b) g.2 in
-      let at : meaning.instance (slice_get site.bindings level) ≡ i = placed_is (static_fault site) (slice_get site.bindings level) g.0 g.1 ∙ ap (λ (o : ℕ × Count). o.0) it in
+      let at : meaning.instance (slice_get site.bindings level) 0 ≡ i = placed_is (static_fault site) (slice_get site.bindings level) g.0 g.1 ∙ ap (λ (o : ℕ × Count). o.0) it in
       (ap (λ (o : ℕ × Count). o.1.slots) (sym it), ap (λ m. let o : Evaluated ℕ = record { gives = m; choices = n; sites = k; calls = []; needs = [] } in o) at)
 
   array_place_is : (level : ℕ) (c : Carried) (m : Meant) → Matches r c m → Places r (carrying.place_of call site level (Some c)) (meaning.place_of r calling site level (Some m))
@@ -205,21 +201,22 @@ module _ (r : Results) (call : Caller) (calling : Calling) (calls_same : CallsSa
   array_place_is level c m h p W n k vs us a long hold i b e =
       let g = got (c.carry vs (no_steps a)) _ (i, b) e in
       let l = got (carrying.index_of call site g.0.0) _ (i, b) g.2 in
-      let o = got (calls.placed_at (static_fault site) (slice_get site.bindings level) l.0) (λ m. Ok (m, g.0.1.count)) (i, b) l.2 in
-      let it = same_ok (o.0, g.0.1.count) (i, b) o.2 in
+      let o = got (calls.placed_at (static_fault site) (slice_get site.bindings level) l.0) (λ m. Ok (m, carrying.after_arm a g.0.1.count)) (i, b) l.2 in
+      let it = same_ok (o.0, carrying.after_arm a g.0.1.count) (i, b) o.2 in
       let index = static_index g.0.0 l.0 l.1 in
       let first = h.carries p W n k vs us (no_steps a) long hold g.0.0 g.0.1 g.1 in
-      let at : meaning.instance_at (slice_get site.bindings level) (meaning.index_of r calling site (m.means us p n k).gives) ≡ i =
-          ap (meaning.instance_at (slice_get site.bindings level)) (index.1 _ _ first.gives)
-          ∙ placed_at_is (static_fault site) (slice_get site.bindings level) l.0 o.0 o.1 ∙ ap (λ (o : ℕ × Count). o.0) it in
-      (ap (λ (o : ℕ × Count). o.1.slots) (sym it) ∙ h.still vs (no_steps a) g.0.0 g.0.1 g.1 index.0,
-      ap (λ m. let o : Evaluated ℕ = record { gives = m; choices = n; sites = k; calls = []; needs = [] } in o) at)
+      let at : meaning.instance (slice_get site.bindings level) (meaning.index_of r calling site (m.means us p n k).gives) ≡ i =
+      ap (meaning.instance (slice_get site.bindings level)) (index.1 _ _ first.gives)
+      ∙ placed_at_is (static_fault site) (slice_get site.bindings level) l.0 o.0 o.1 ∙ ap (λ (o : ℕ × Count). o.0) it in (
+        ap (λ (o : ℕ × Count). o.1.slots) (sym it),
+        ap (λ m. let o : Evaluated ℕ = record { gives = m; choices = n; sites = k; calls = []; needs = [] } in o) at,
+      )
 
   -- ---- the trees
 
   same_node : (e : Expr) → (let c = carrying.expression call site e in let m = meaning.expression r calling site e in (c.sort ≡ m.sort) × Carries r c.carry m.means) → ExprSame e
-  unfolding ExprSame IsStill
-  same_node e h = record { sort = h.0; still = still e; carries = h.1 }
+  unfolding ExprSame
+  same_node e h = record { sort = h.0; carries = h.1 }
 
   expr_rolled : (y : Expr-F Expr Place) → Layer y → ExprSame (roll-Expr y)
   unfolding carrying.expression carrying.place meaning.expression meaning.place

@@ -69,4 +69,4 @@ unfoldable pub turns : ℕ → Means → Means → ℕ → Acts → Acts
 turns zero test next at a vs = yields vs
 turns (suc n) test next at a vs = do
   t ← decided (test vs)
-  if is_true t then (do us ← scoped a [] vs ; x ← next us ; turns n test next at a (assign us at x)) else yields vs
+  if is_true t then (do us ← scoped a [] vs; x ← next us; turns n test next at a (assign us at x)) else yields vs

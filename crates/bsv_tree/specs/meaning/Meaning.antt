@@ -68,7 +68,7 @@ pub record Meant : Type 0 where
 
 unfoldable pub all : List Meant → Variables → Evaluation (List Value)
 all [] vs = yields []
-all (c ∷ cs) vs = do x ← c.means vs ; xs ← all cs vs ; yields (x ∷ xs)
+all (c ∷ cs) vs = do x ← c.means vs; xs ← all cs vs; yields (x ∷ xs)
 
 abbrev pub first_sort : Kind → List Meant → Kind
 first_sort t [] = t
@@ -152,8 +152,8 @@ module _ (look : Results) (call : Calling) (site : Context) where
   abbrev pub expr_case : Expr-F Meant (Variables → Evaluation ℕ) → Means
   expr_case (Expr-F.Literal t number) vs = yields (literal site.shapes (kind t) number)
   expr_case (Expr-F.Variable t level) vs = yields (variable_of level (slice_get site.bindings level) vs)
-  expr_case (Expr-F.Apply t os cs) vs = do xs ← all cs vs ; yields (applied site.shapes (kind t) (first_sort (kind t) cs) os xs)
-  expr_case (Expr-F.Call t number cs) vs = do xs ← all cs vs ; x ← function (slice_get site.functions number) xs ; yields (loosened xs x)
+  expr_case (Expr-F.Apply t os cs) vs = do xs ← all cs vs; yields (applied site.shapes (kind t) (first_sort (kind t) cs) os xs)
+  expr_case (Expr-F.Call t number cs) vs = do xs ← all cs vs; x ← function (slice_get site.functions number) xs; yields (loosened xs x)
   expr_case (Expr-F.Method t place number cs) vs = calls false place number cs vs
   expr_case (Expr-F.Choice t cs xs) vs = chosen (map (λ c. c.means) cs) (map (λ c. c.means) xs) vs
 
@@ -166,7 +166,7 @@ module _ (look : Results) (call : Calling) (site : Context) where
 
   abbrev pub place_of : ℕ → Option Meant → Variables → Evaluation ℕ
   place_of level None vs = yields (instance (slice_get site.bindings level) 0)
-  place_of level (Some i) vs = do x ← decided (i.means vs) ; yields (instance (slice_get site.bindings level) (index_of x))
+  place_of level (Some i) vs = do x ← decided (i.means vs); yields (instance (slice_get site.bindings level) (index_of x))
 
   abbrev pub place_step : Place-F Meant (Variables → Evaluation ℕ) → Variables → Evaluation ℕ
   place_step p = place_of p.level p.index
@@ -184,10 +184,10 @@ module _ (look : Results) (call : Calling) (site : Context) where
 
   -- `matches` asks for the tag, and binds the payload
   abbrev pub asks : Condition → Variables → Evaluation (Value × Variables)
-  asks (condition.Test e) vs = do x ← asked (expr e vs) ; yields (x, [])
+  asks (condition.Test e) vs = do x ← asked (expr e vs); yields (x, [])
   asks (condition.Matches e) vs =
       let payload = width site.shapes (kind (expr_type e)) - 1 in
-      do x ← asked (expr e vs) ; yields (sliced x payload payload, variable (sliced x (payload - 1) 0) ∷ [])
+      do x ← asked (expr e vs); yields (sliced x payload payload, variable (sliced x (payload - 1) 0) ∷ [])
 
   abbrev pub loop : Head → Acts → Acts
   loop h a vs = do
@@ -253,7 +253,7 @@ module _ (look : Results) (call : Calling) (site : Context) where
 
   unfoldable pub body_of : Body → List Value → Evaluation Value
   body_of (body.Value e) xs = expr e (arguments xs)
-  body_of (body.Statements ss) xs = do us ← in_turn (map stmt ss) (arguments xs) ; yields (value_in (slice_get us 0))
+  body_of (body.Statements ss) xs = do us ← in_turn (map stmt ss) (arguments xs); yields (value_in (slice_get us 0))
 
   unfoldable pub callee : Callee → List Value → Evaluation Value
   callee c xs = holds c.name c.condition >>= λ x. body_of c.body xs
