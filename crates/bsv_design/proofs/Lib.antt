@@ -1,4 +1,3 @@
-mod Numbered
 pub mod Asked
 pub mod Named
 pub mod Dotted

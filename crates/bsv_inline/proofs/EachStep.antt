@@ -9,7 +9,7 @@ use Rattle.bsv_tree.specs.declared.steps.MethodPlace.{MethodPlace}
 use Rattle.bsv_tree.specs.declared.steps.Step.{Step, fold-roll-Step, ind-Step, roll-Step, map-Step}
 use Rattle.bsv_tree.specs.declared.steps.Step.TheOpen.{Step-F, Choice-F, Arm-F}
 use Rattle.bsv_tree.specs.carrying.Running.{Run, Alternative, run, step_run, choice_run, arm_run, nested_run, arms_run}
-use Rattle.bsv_tree.specs.carrying.Uses.{Methods, all_methods, step_methods, step_uses, choice_uses, arm_uses}
+use Rattle.bsv_inline.proofs.Uses.{Methods, all_methods, step_methods, step_uses, choice_uses, arm_uses}
 
 abbrev run_arm : Arm → Alternative
 run_arm = fold-Arm Run Alternative Run step_run arm_run choice_run

@@ -1,7 +1,7 @@
 pub mod PartNumbers
 pub mod SameTrace
 pub mod EachStep
-pub mod StepUses
+mod Uses
 pub mod StepPlaces
 pub mod StepsExclusive
 pub mod StepsDecided

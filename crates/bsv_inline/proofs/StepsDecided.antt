@@ -17,7 +17,7 @@ use Rattle.bsv_design.specs.scheme.Traces.{Site}
 use Rattle.bsv_tree.specs.carrying.Sources.{step_trace}
 use Rattle.bsv_tree.specs.meaning.Elements.{site_of, demand_of}
 use Rattle.bsv_tree.specs.tree.Elements.{target_of, place_name}
-use Rattle.bsv_tree.specs.carrying.Uses.{Methods}
+use Rattle.bsv_inline.proofs.Uses.{Methods}
 use Rattle.bsv_inline.proofs.EachStep.{AllKeep, AllArms, IsKept, all_keep}
 use Rattle.bsv_inline.proofs.StepPlaces.{AreSameCalls, AreSameNeeds, same_calls, same_needs}
 

@@ -18,7 +18,7 @@ use Rattle.bsv_design.specs.scheme.Traces.{Site}
 use Rattle.bsv_tree.specs.carrying.Sources.{step_trace}
 use Rattle.bsv_tree.specs.meaning.Elements.{site_of}
 use Rattle.bsv_tree.specs.tree.Elements.{target_of}
-use Rattle.bsv_tree.specs.carrying.Uses.{Methods}
+use Rattle.bsv_inline.proofs.Uses.{Methods}
 use Rattle.bsv_inline.proofs.EachStep.{AllKeep, AllArms, IsKept, all_keep}
 
 -- ---- a way: which arm is taken at each choice

@@ -1,3 +1,4 @@
 mod Fronts
 mod Meeting
+mod Numbered
 mod meaning

@@ -105,7 +105,7 @@ fn closed(alloc: Global, arms: Items<Pending>, numbers: &[usize]) -> Result<Item
 
 /// The variables after the arms, the numbers of those that the arms give values, and the count after
 /// these.
-#[tactic(auto, unfolding(bsv_tree::specs::carrying::Arms::joined_from))]
+#[tactic(auto, unfolding(crate::specs::carrying::Arms::joined_from))]
 fn joined(
     alloc: Global,
     arms: &[Pending],
@@ -139,7 +139,7 @@ fn joined(
 
 /// The choice of the arms, one or more, with the last one; after it each variable that one of them
 /// assigned has a value of its own.
-#[tactic(auto, unfolding(bsv_tree::specs::carrying::Arms::close))]
+#[tactic(auto, unfolding(crate::specs::carrying::Arms::close))]
 pub fn close(
     alloc: Global,
     locals: &[Local],

@@ -87,7 +87,7 @@ pub fn arguments(alloc: Global, integer: bool, values: &[Value]) -> Result<Local
 }
 
 /// The first values, which are those of parameters.
-#[tactic(auto, unfolding(bsv_tree::specs::carrying::Carrying::parameters_from))]
+#[tactic(auto, unfolding(crate::specs::carrying::Carrying::parameters_from))]
 pub fn parameters(alloc: Global, params: &[Param], count: Count) -> Counted<Items<Value>>
     ensures { Gives result (carrying.parameters_from [] params.now count) }
 {

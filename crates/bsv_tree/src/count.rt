@@ -9,7 +9,7 @@ use bsv_fail::Fail;
 const MOST_WEIGHT: u64 = 2_000_000;
 
 /// So much weight more.
-#[tactic(auto, unfolding(bsv_tree::specs::carrying::Working::tick))]
+#[tactic(auto, unfolding(crate::specs::carrying::Working::tick))]
 pub fn tick(count: Count, more: usize) -> Got<Count>
     ensures { Gives result (spec.tick count more) }
 {
@@ -24,7 +24,7 @@ pub fn tick(count: Count, more: usize) -> Got<Count>
 }
 
 /// Room for so many more values.
-#[tactic(auto, unfolding(bsv_tree::specs::carrying::Working::fresh))]
+#[tactic(auto, unfolding(crate::specs::carrying::Working::fresh))]
 pub(crate) fn fresh(count: Count, more: u32) -> Got<Count>
     ensures { Gives result (spec.fresh count more) }
 {
@@ -38,7 +38,7 @@ pub(crate) fn fresh(count: Count, more: u32) -> Got<Count>
 }
 
 /// The work with so much weight more.
-#[tactic(auto, unfolding(bsv_tree::specs::carrying::Working::counted))]
+#[tactic(auto, unfolding(crate::specs::carrying::Working::counted))]
 pub fn counted(work: Work, more: usize) -> Got<Work>
     ensures { Gives result (spec.counted work more) }
 {

@@ -49,7 +49,7 @@ pub fn with_variable(locals: Locals, value: Value, integer: bool) -> Result<Loca
 }
 
 /// The variable with its next value.
-#[tactic(auto, unfolding(bsv_tree::specs::carrying::Frames::assign))]
+#[tactic(auto, unfolding(crate::specs::carrying::Frames::assign))]
 pub fn assign(locals: Locals, at: usize, value: Value) -> Locals
     ensures { result ≡ spec.assign locals at value }
 {

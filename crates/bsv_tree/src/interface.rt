@@ -107,7 +107,7 @@ fn number_named(kind: Kind, name: &str) -> Option<u32>
 }
 
 /// The number that the kind has for a method of an interface: the two have one name.
-#[tactic(auto, unfolding(crate::specs::carrying::Calls::part_method))]
+#[tactic(auto, unfolding(crate::specs::tree::Methods::part_method))]
 fn same_named(part: PartTy, kind: Kind, number: u32) -> Option<u32>
     ensures { result ≡ part_method part kind number }
 {

@@ -1,5 +1,6 @@
 ghost use Rattle.std.specs.Prelude.{◌≡◌, IfOk, map};
 ghost use Rattle.bsv_tree.specs.carrying.Values as spec;
+ghost use Rattle.bsv_tree.specs.meaning.Values.{constant_word as word_of_constant};
 
 use crate::statics::Static;
 use crate::steps::Atom;
@@ -9,7 +10,7 @@ use sqlite_items::Items;
 use std::alloc::{AllocError, Global};
 
 pub(crate) fn constant_word(constant: Constant) -> Word
-    ensures { result ≡ spec.constant_word constant }
+    ensures { result ≡ word_of_constant constant }
 {
     match constant {
         Constant::Number(_) => Word::bit(false),

@@ -47,7 +47,7 @@ pub fn with_step(work: Work, step: Step, count: Count) -> Result<Work, AllocErro
 }
 
 /// A step that gives one value.
-#[tactic(auto, unfolding(bsv_tree::specs::carrying::Working::give))]
+#[tactic(auto, unfolding(crate::specs::carrying::Working::give))]
 pub fn give(work: Work, step: Step) -> Valued
     ensures { Gives result (spec.give work step) }
 {
@@ -64,7 +64,7 @@ fn settled(word: Word, work: Work) -> (Value, Work)
     (Value::Static(Constant::Bits(word)), work)
 }
 
-#[tactic(auto, unfolding(bsv_tree::specs::carrying::Working::inverted))]
+#[tactic(auto, unfolding(crate::specs::carrying::Working::inverted))]
 pub fn inverted(work: Work, value: Value) -> Valued
     ensures { Gives result (spec.inverted work value) }
 {
@@ -74,7 +74,7 @@ pub fn inverted(work: Work, value: Value) -> Valued
     }
 }
 
-#[tactic(auto, unfolding(bsv_tree::specs::carrying::Working::between))]
+#[tactic(auto, unfolding(crate::specs::carrying::Working::between))]
 pub fn between(work: Work, operator: Operator, one: Value, other: Value) -> Valued
     ensures { Gives result (spec.between work operator one other) }
 {
@@ -91,7 +91,7 @@ pub fn between(work: Work, operator: Operator, one: Value, other: Value) -> Valu
 }
 
 /// The second value where the test is 1, else the third one.
-#[tactic(auto, unfolding(bsv_tree::specs::carrying::Working::picked))]
+#[tactic(auto, unfolding(crate::specs::carrying::Working::picked))]
 pub fn pick(work: Work, test: Value, one: Value, other: Value) -> Valued
     ensures { Gives result (spec.picked work test one other) }
 {
@@ -112,7 +112,7 @@ pub fn pick(work: Work, test: Value, one: Value, other: Value) -> Valued
 }
 
 /// The bits of the first value above those of the second one.
-#[tactic(auto, unfolding(bsv_tree::specs::carrying::Working::joined))]
+#[tactic(auto, unfolding(crate::specs::carrying::Working::joined))]
 pub fn join(work: Work, high: Value, low: Value) -> Valued
     ensures { Gives result (spec.joined work high low) }
 {
@@ -126,7 +126,7 @@ pub fn join(work: Work, high: Value, low: Value) -> Valued
 }
 
 /// The bits from low to high.
-#[tactic(auto, unfolding(bsv_tree::specs::carrying::Working::sliced))]
+#[tactic(auto, unfolding(crate::specs::carrying::Working::sliced))]
 pub fn slice(work: Work, whole: &Value, high: u32, low: u32) -> Valued
     ensures { Gives result (spec.sliced work whole.now high low) }
 {
@@ -139,7 +139,7 @@ pub fn slice(work: Work, whole: &Value, high: u32, low: u32) -> Valued
     }
 }
 
-#[tactic(auto, unfolding(bsv_tree::specs::carrying::Working::extended))]
+#[tactic(auto, unfolding(crate::specs::carrying::Working::extended))]
 pub fn extend(work: Work, value: Value, width: u32) -> Valued
     ensures { Gives result (spec.extended work value width) }
 {
@@ -149,7 +149,7 @@ pub fn extend(work: Work, value: Value, width: u32) -> Valued
     }
 }
 
-#[tactic(auto, unfolding(bsv_tree::specs::carrying::Working::sign_extended))]
+#[tactic(auto, unfolding(crate::specs::carrying::Working::sign_extended))]
 pub fn sign_extend(work: Work, value: Value, width: u32) -> Valued
     ensures { Gives result (spec.sign_extended work value width) }
 {

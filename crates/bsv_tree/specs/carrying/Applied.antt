@@ -18,6 +18,8 @@ use Rattle.bsv_tree.specs.declared.values.Fault.{Fault}
 use Rattle.bsv_design.specs.design.Computing.{word}
 use Rattle.bsv_tree.specs.meaning.Integers.{number_between, fitted}
 use Rattle.bsv_tree.specs.carrying.Working.{Valued, inverted, between, picked, sliced, joined, extended, sign_extended}
+use Rattle.bsv_tree.specs.tree.Widths.{width}
+use Rattle.bsv_tree.specs.meaning.Operators.{less, right}
 
 abbrev pub constant_of : ℕ → ℕ → Value
 constant_of bits number = value.Static (constant.Bits (word bits number))

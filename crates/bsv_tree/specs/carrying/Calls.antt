@@ -16,6 +16,7 @@ use Rattle.bsv_tree.specs.declared.values.Fault.{Fault}
 use Rattle.bsv_tree.specs.declared.values.Fault.TheVariants as fault
 use Rattle.bsv_tree.specs.carrying.Values.{held}
 use Rattle.bsv_tree.specs.carrying.Working.{Valued}
+use Rattle.bsv_tree.specs.tree.Contexts.{Context, Callee, place_in_body, is_integer}
 
 abbrev pub static_fault : Context → Fault
 static_fault site = fault.Static site.within

@@ -14,6 +14,7 @@ use Rattle.bsv_tree.specs.carrying.Values.{truth}
 use Rattle.bsv_tree.specs.carrying.Working.{Valued, sliced}
 use Rattle.bsv_tree.specs.tree.Widths.{or_width, width}
 use Rattle.bsv_tree.specs.carrying.Applied.{constant_of, together, two_operands, chained, one_operand, fields, number_below}
+use Rattle.bsv_tree.specs.meaning.Operators.{sets, builds, is_suffix}
 
 -- ---- the construction of a struct
 

@@ -11,6 +11,8 @@ use Rattle.bsv_tree.specs.declared.steps.MethodPlace.{MethodPlace}
 use Rattle.bsv_tree.specs.declared.steps.Step.{Step, fold-Step}
 use Rattle.bsv_tree.specs.declared.steps.Step.TheOpen.{Step-F, Choice-F, Arm-F}
 use Rattle.bsv_design.specs.design.Computing as computing
+use Rattle.bsv_design.specs.design.Words.{or_zero, is_one}
+use Rattle.bsv_tree.specs.meaning.Evaluation.{Results, Standing, SiteCall, Need}
 
 -- ---- words
 

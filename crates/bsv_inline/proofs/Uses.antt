@@ -1,5 +1,4 @@
--- What an element that was carried out uses: the methods of primitives at all its call sites, in all branches (Hoe and
--- Arvind 2004, guarded atomic actions).
+-- The methods of primitives at all call sites of steps, in all branches.
 use Rattle.std.specs.Prelude.{List, [], ◌∷◌, ◌++◌, map}
 use Rattle.bsv_tree.specs.declared.steps.MethodPlace.{MethodPlace}
 use Rattle.bsv_tree.specs.declared.steps.Step.{Step, fold-Step}
