@@ -19,7 +19,7 @@ use Rattle.bsv_tree.specs.carrying.Applied as carried
 use Rattle.bsv_tree.specs.tree.Widths.{width}
 use Rattle.bsv_tree.specs.carrying.Applied.{constant_of}
 use Rattle.bsv_tree.specs.carrying.Operated as built
-use Rattle.bsv_tree.specs.carrying.Operated.{Part, bits_at}
+use Rattle.bsv_tree.specs.carrying.Operated.{BitRange, bits_at}
 use Rattle.bsv_tree.specs.meaning.Operators.{sets, builds, is_suffix}
 use Rattle.bsv_tree.specs.meaning.Evaluation.{Results, Standing}
 use Rattle.bsv_tree.specs.carrying.Working as work
@@ -138,14 +138,14 @@ module _ (r : Results) (p : Standing) (ws : List Bits) (n k : ℕ) where
     index_cut : (os : List Op) → Rest os → (many m : ℕ) → (w : Work) → IsLong r p ws n k w → (x : Value) (a : Val) (ys : List Value) (bs : List Val)
         → Shows (V r p ws n k w) x a → AllShow (V r p ws n k w) ys bs
         → (z : Value) (v : Work)
-        → ((carried.number_below s f many (value.Static (constant.Number (pos m))) >>= λ l. Ok (bits_at l l, ys)) >>= λ (q : Part × List Value). work.sliced w x q.0.high q.0.low >>= λ g. built.suffixed s f (counted (q.0.high - q.0.low + 1)) q.0.inner os g.0 q.1 g.1) ≡ Ok (z, v)
+        → ((carried.number_below s f many (value.Static (constant.Number (pos m))) >>= λ l. Ok (bits_at l l, ys)) >>= λ (q : BitRange × List Value). work.sliced w x q.0.high q.0.low >>= λ g. built.suffixed s f (counted (q.0.high - q.0.low + 1)) q.0.inner os g.0 q.1 g.1) ≡ Ok (z, v)
         → Is r p ws n k z w v (means.suffixed s [] os (means.sliced a m m) bs)
     index_cut os rest many m w long x a ys bs i j z v h =
         let g = got (carried.number_below s f many (value.Static (constant.Number (pos m))) >>= λ l. Ok (bits_at l l, ys)) _ (z, v) h in
         let c = got (carried.number_below s f many (value.Static (constant.Number (pos m)))) (λ l. Ok (bits_at l l, ys)) g.0 g.1 in
-        let e : g.0 ≡ (bits_at m m, ys) = sym (same_ok (bits_at c.0 c.0, ys) g.0 c.2) ∙ ap (λ (l : ℕ). let o : Part × List Value = (bits_at l l, ys) in o) (sym (index_is many m c.0 c.1)) in
+        let e : g.0 ≡ (bits_at m m, ys) = sym (same_ok (bits_at c.0 c.0, ys) g.0 c.2) ∙ ap (λ (l : ℕ). let o : BitRange × List Value = (bits_at l l, ys) in o) (sym (index_is many m c.0 c.1)) in
         cut_is os rest m m [] [] refl w long x a ys bs i j z v
-        (subst (λ (q : Part × List Value). (work.sliced w x q.0.high q.0.low >>= λ g. built.suffixed s f (counted (q.0.high - q.0.low + 1)) q.0.inner os g.0 q.1 g.1) ≡ Ok (z, v)) e g.2)
+        (subst (λ (q : BitRange × List Value). (work.sliced w x q.0.high q.0.low >>= λ g. built.suffixed s f (counted (q.0.high - q.0.low + 1)) q.0.inner os g.0 q.1 g.1) ≡ Ok (z, v)) e g.2)
 
     suffix_at : (o : Op) (os : List Op) → Rest os → (fs : List Field) (many : ℕ) (w : Work) → IsLong r p ws n k w → (x : Value) (a : Val) (ys : List Value) (bs : List Val)
         → Shows (V r p ws n k w) x a → AllShow (V r p ws n k w) ys bs

@@ -17,7 +17,7 @@ use Rattle.bsv_tree.specs.declared.values.Work.{Work}
 use Rattle.bsv_tree.specs.declared.values.Fault.{Fault}
 use Rattle.bsv_tree.specs.carrying.Arms.{choice_of}
 use Rattle.bsv_tree.specs.carrying.Values as values
-use Rattle.bsv_tree.specs.carrying.Values.{atom_of, constant_word}
+use Rattle.bsv_tree.specs.carrying.Values.{atom_of}
 use Rattle.bsv_tree.specs.carrying.Carrying as carrying
 use Rattle.bsv_tree.specs.carrying.Carrying.{Carried}
 use Rattle.bsv_tree.specs.carrying.Running as running
@@ -25,7 +25,7 @@ use Rattle.bsv_tree.specs.meaning.Evaluation.{Results, Standing, SiteCall, Need}
 use Rattle.bsv_tree.specs.carrying.Running.{Happening, Run, in_turn, run, words_of, nested_run}
 use Rattle.bsv_design.specs.design.Words.{is_one}
 use Rattle.bsv_tree.specs.carrying.Working.{tick, no_steps, at_count, give}
-use Rattle.bsv_tree.specs.meaning.Values.{Value as Val, static, varying, word_of, varied, is_static, is_true, Variables}
+use Rattle.bsv_tree.specs.meaning.Values.{constant_word, Value as Val, static, varying, word_of, varied, is_static, is_true, Variables}
 use Rattle.bsv_tree.specs.meaning.Evaluation as evaluation
 use Rattle.bsv_tree.specs.meaning.Evaluation.{Evaluation, Evaluated, yields, in_order, asked, within}
 use Rattle.bsv_tree.specs.meaning.Control.{chosen}

@@ -15,7 +15,7 @@ use Rattle.bsv_tree.specs.declared.values.Local.{Local}
 use Rattle.bsv_tree.specs.declared.values.Work.{Work}
 use Rattle.bsv_tree.specs.declared.values.Fault.{Fault}
 use Rattle.bsv_tree.specs.carrying.Values as values
-use Rattle.bsv_tree.specs.carrying.Values.{atom_of, constant_word}
+use Rattle.bsv_tree.specs.carrying.Values.{atom_of}
 use Rattle.bsv_tree.specs.tree.Widths.{width}
 use Rattle.bsv_tree.specs.carrying.Applied.{constant_of}
 use Rattle.bsv_tree.specs.carrying.Calls as calls
@@ -25,7 +25,7 @@ use Rattle.bsv_tree.specs.tree.Methods.{part_method}
 use Rattle.bsv_tree.specs.carrying.Carrying as carrying
 use Rattle.bsv_tree.specs.carrying.Carrying.{Carry, Carried, Placing}
 use Rattle.bsv_tree.specs.meaning.Evaluation.{Results, Standing}
-use Rattle.bsv_tree.specs.meaning.Values.{Value as Val, static, truth, Variable, Variables}
+use Rattle.bsv_tree.specs.meaning.Values.{constant_word, Value as Val, static, truth, Variable, Variables}
 use Rattle.bsv_tree.specs.meaning.Evaluation as evaluation
 use Rattle.bsv_tree.specs.meaning.Evaluation.{Evaluation, Evaluated, yields, decided, called}
 use Rattle.bsv_tree.specs.meaning.Control.{Means}

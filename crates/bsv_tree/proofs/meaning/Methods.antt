@@ -35,6 +35,7 @@ use Rattle.bsv_tree.proofs.meaning.Pieces.{counted_is, bound, given, from_alike,
 use Rattle.bsv_tree.proofs.meaning.Operating.{V}
 use Rattle.bsv_tree.proofs.meaning.Expressions.{AllMatch, Places, CallsSame, all_is}
 use Rattle.bsv_tree.proofs.meaning.Called.{opened_shows, primitive_is, read_called, act_called}
+use Rattle.bsv_tree.specs.tree.Trees.{methods_of}
 
 module _ (r : Results) (call : Caller) (calling : Calling) (calls_same : CallsSame r call calling) (site : Context) where
   module _ (p : Standing) (ws : List Bits) (n k : ℕ) where
@@ -53,7 +54,7 @@ module _ (r : Results) (call : Caller) (calling : Calling) (calls_same : CallsSa
 
     method_in_is : (instance : ℕ) (b : Built) (number : ℕ) (o : Option Module) (xs : List Value) (ys : List Val) (w : Work) → IsLong r p ws n k w → AllShow (V r p ws n k w) xs ys
         → (x : Value) (v : Work) → calls.method_in call site instance b number o xs w ≡ Ok (x, v)
-        → One x w v (meaning.method r calling site instance b number (slice_get (meaning.methods_of o) number) (slice_get b.methods number) ys)
+        → One x w v (meaning.method r calling site instance b number (slice_get (methods_of o) number) (slice_get b.methods number) ys)
     method_in_is instance b number None xs ys w long s x v e = absurd cc
     method_in_is instance b number (Some m) xs ys w long s x v e = method_at_is instance b number (slice_get m.methods number) (slice_get b.methods number) xs ys w long s x v e
 
@@ -73,7 +74,7 @@ module _ (r : Results) (call : Caller) (calling : Calling) (calls_same : CallsSa
           let all = all_is r cs ms match p ws n k vs us w long hold g.0.0 g.0.1 g.1 in
           let h = got (calls.user_method call site instance b number g.0.0 g.0.1) (λ q. Ok (values.opened q.0, q.1)) (x, v) g.2 in
           let ys = (here r p ws n k w (meaning.all ms us)).gives in
-          let f : List Val → Evaluation Val = λ zs. meaning.method r calling site instance b number (slice_get (meaning.methods_of (slice_get site.modules b.«module»)) number) (slice_get b.methods number) zs in
+          let f : List Val → Evaluation Val = λ zs. meaning.method r calling site instance b number (slice_get (methods_of (slice_get site.modules b.«module»)) number) (slice_get b.methods number) zs in
           let one = method_in_is instance b number (slice_get site.modules b.«module») g.0.0 ys g.0.1 all.long all.gives h.0.0 h.0.1 h.1 in
           let it = bound r p ws n k (λ W zs. AllShow W g.0.0 zs) (λ W y. Shows W (values.opened h.0.0) y) w g.0.1 h.0.1 (meaning.all ms us) (λ zs. evaluation.◌>>=◌ (f zs) (λ y. yields (varied y))) all
           (given r p ws n k (λ W y. Shows W h.0.0 y) (λ W y. Shows W (values.opened h.0.0) y) g.0.1 h.0.1 (f ys) varied one

@@ -12,12 +12,12 @@ use Rattle.bsv_tree.specs.declared.values.Value.TheVariants as value
 use Rattle.bsv_tree.specs.declared.values.Constant.TheVariants as constant
 use Rattle.bsv_tree.specs.declared.values.Count.{Count}
 use Rattle.bsv_tree.specs.declared.values.Work.{Work}
-use Rattle.bsv_tree.specs.carrying.Values.{atom_of, constant_word, known}
+use Rattle.bsv_tree.specs.carrying.Values.{atom_of, known}
 use Rattle.bsv_tree.specs.carrying.Running as running
 use Rattle.bsv_tree.specs.meaning.Evaluation.{Results, Standing}
 use Rattle.bsv_tree.specs.carrying.Running.{Happening, Run, in_turn, run, followed, quiet, computed}
 use Rattle.bsv_tree.specs.carrying.Working.{Valued, with_step, at_count, fresh, give, settle, of_two, of_three, tick, counted}
-use Rattle.bsv_tree.specs.meaning.Values.{Value as Val, static, varying, word_of, one, two, three}
+use Rattle.bsv_tree.specs.meaning.Values.{constant_word, Value as Val, static, varying, word_of, one, two, three}
 use Rattle.bsv_tree.specs.meaning.Evaluation as evaluation
 use Rattle.bsv_tree.specs.meaning.Evaluation.{Evaluated, Evaluation, yields, in_order}
 use Rattle.bsv_tree.proofs.meaning.Same.{Within, Shows, Adds, ran, IsLong, Same, here, one_more, got, same_ok, within_append, at_end, shows_word}

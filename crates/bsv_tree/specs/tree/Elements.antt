@@ -143,16 +143,16 @@ method_name None = []
 method_name (Some m) = m.name
 
 abbrev pub name_in : List Module → List ℕ → ℕ → Made → List ℕ
-name_in ms path method (made.Module b) = with_dot path (method_name (of (slice_get ms b.«module»))) where
+name_in ms path number (made.Module b) = with_dot path (method_name (of (slice_get ms b.«module»))) where
   of : Option Module → Option Method
   of None = None
-  of (Some m) = slice_get m.methods method
-name_in ms path method (made.Primitive p k) = path
+  of (Some m) = slice_get m.methods number
+name_in ms path number (made.Primitive p k) = path
 
 -- a method of a module, by its path and name
 abbrev pub user_name : List Module → Option Instance → ℕ → List ℕ
-user_name ms None method = []
-user_name ms (Some i) method = name_in ms i.path method i.made
+user_name ms None number = []
+user_name ms (Some i) number = name_in ms i.path number i.made
 
 abbrev pub place_name : List Module → List Instance → MethodPlace → List ℕ
 place_name ms is m = user_name ms (slice_get is m.instance) m.method

@@ -29,6 +29,7 @@ use Rattle.bsv_tree.specs.tree.Contexts.{Context, made_of}
 use Rattle.bsv_tree.specs.tree.Methods.{is_kind_of}
 use Rattle.bsv_tree.specs.carrying.Carrying as carrying
 use Rattle.bsv_tree.specs.carrying.Working.{no_steps}
+use Rattle.bsv_design.specs.design.Paths.{IsPath, IsInside}
 
 -- what a tree is made of
 pub record TreeData : Type 0 where
