@@ -191,8 +191,8 @@ last_value c w arms e = carrying.last_value w arms (expression c e)
 abbrev pub value_asked : Carrier → Expr → List Local → Count → Valued
 value_asked c e = carrying.value_asked (expression c e)
 
-abbrev pub value_kept : Carrier → List Arm → Value × Work → Expr → List Local → Result (List Arm × Count) Fault
-value_kept c arms test e = carrying.value_kept arms test (expression c e)
+abbrev pub value_kept : Carrier → List Arm → Count → Value × Work → Expr → List Local → Result (List Arm × Count) Fault
+value_kept c arms before test e = carrying.value_kept arms before test (expression c e)
 
 abbrev pub choice : Carrier → List Expr → List Expr → Carry
 choice c ts es = carrying.choice (caller c) (site c) (expressions c ts) (expressions c es)
@@ -281,8 +281,8 @@ branch_arm c b = carrying.branch_arm (branch c b).arm
 abbrev pub last_branch : Carrier → Work → List Pending → Branch → Option (Value × ℕ) → List Local → Count → Result (List Local × Work) Fault
 last_branch c w ps b bound = carrying.last_arm w ps (branch_arm c b bound)
 
-abbrev pub kept : Carrier → List Pending → Test → Branch → List Local → Result (List Pending × Count) Fault
-kept c ps test b = carrying.kept ps test (branch c b).arm
+abbrev pub kept : Carrier → List Pending → Count → Test → Branch → List Local → Result (List Pending × Count) Fault
+kept c ps before test b = carrying.kept ps before test (branch c b).arm
 
 abbrev pub chain : Carrier → List Branch → Option Stmt → Acts
 chain c bs o = carrying.chain (branches c bs) (last_of c o)

@@ -68,7 +68,8 @@ impl Carrier<'_> {
     {
         let labels = arm.labels.as_slice();
         let (test, asked) = self.labels(subject, labels, locals.as_slice(), work.count)?;
-        let work = at_count(work, asked.count);
+        let count = after_arm(work.count, asked.count);
+        let work = at_count(work, count);
         if !taken && is_true(&test) {
             let (locals, work) = self.inside(&arm.arm, locals, work)?;
             return Ok((true, locals, work));

@@ -112,6 +112,7 @@ impl Carrier<'_> {
     fn kept(
         self,
         arms: Items<Pending>,
+        before: Count,
         test: Value,
         bound: Bound,
         asked: Work,
@@ -119,11 +120,11 @@ impl Carrier<'_> {
         locals: &[Local],
     ) -> Counted<Items<Pending>>
         ensures { Gives result
-            (spec.kept self.entry arms (test, bound, asked) branch.now locals.now) }
+            (spec.kept self.entry arms before (test, bound, asked) branch.now locals.now) }
     {
         let count = asked.count;
         if is_static(&test) {
-            return Ok((arms, count));
+            return Ok((arms, after_arm(before, count)));
         }
         let inner = untouched(self.alloc, locals)?;
         let (behind, body) = self.branch_arm(branch, bound, inner, no_steps(self.alloc, count))?;
@@ -151,9 +152,18 @@ impl Carrier<'_> {
         while let Some((branch, after)) = rest.split_first() {
             let (test, bound, asked) = self.asked(branch, locals.as_slice(), count)?;
             if is_true(&test) {
-                return self.last_branch(work, arms, branch, bound, locals, asked.count);
+                let count = after_arm(count, asked.count);
+                return self.last_branch(work, arms, branch, bound, locals, count);
             }
-            let (kept, behind) = self.kept(arms, test, bound, asked, branch, locals.as_slice())?;
+            let (kept, behind) = self.kept(
+                arms,
+                count,
+                test,
+                bound,
+                asked,
+                branch,
+                locals.as_slice(),
+            )?;
             arms = kept;
             count = behind;
             rest = after;

@@ -112,17 +112,18 @@ impl Carrier<'_> {
     fn value_kept(
         self,
         arms: Items<Arm>,
+        before: Count,
         test: Value,
         asked: Work,
         value: &Expr,
         locals: &[Local],
     ) -> Counted<Items<Arm>>
         ensures { Gives result
-            (spec.value_kept self.entry arms (test, asked) value.now locals.now) }
+            (spec.value_kept self.entry arms before (test, asked) value.now locals.now) }
     {
         let count = asked.count;
         if is_static(&test) {
-            return Ok((arms, count));
+            return Ok((arms, after_arm(before, count)));
         }
         let (found, body) = self.expr(value, locals, no_steps(self.alloc, count))?;
         let behind = after_arm(count, body.count);
@@ -168,9 +169,10 @@ impl Carrier<'_> {
         ) {
             let (test, asked) = self.value_asked(condition, locals, count)?;
             if is_true(&test) {
-                return self.last_value(work, arms, value, locals, asked.count);
+                let count = after_arm(count, asked.count);
+                return self.last_value(work, arms, value, locals, count);
             }
-            let (kept, behind) = self.value_kept(arms, test, asked, value, locals)?;
+            let (kept, behind) = self.value_kept(arms, count, test, asked, value, locals)?;
             arms = kept;
             count = behind;
             left = more;
@@ -193,7 +195,10 @@ impl Carrier<'_> {
             Some(index) => {
                 let (value, asked) = self.expr(index.get(), locals, no_steps(self.alloc, count))?;
                 let at = self.index_of(value)?;
-                Ok((self.placed_at(place.level, at)?, asked.count))
+                Ok((
+                    self.placed_at(place.level, at)?,
+                    after_arm(count, asked.count),
+                ))
             }
         }
     }

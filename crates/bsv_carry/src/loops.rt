@@ -5,8 +5,8 @@ use crate::carrier::Carrier;
 use crate::statements::Acted;
 use bsv_fail::Fail;
 use bsv_tree::{
-    Count, Counted, Fault, Local, Locals, Work, assign, at_count, decided, front, no_steps,
-    with_variable,
+    Count, Counted, Fault, Local, Locals, Work, after_arm, assign, at_count, decided, front,
+    no_steps, with_variable,
 };
 use bsv_types::{Expr, Head, Stmt};
 
@@ -20,7 +20,7 @@ impl Carrier<'_> {
         let (value, asked) = self.expr(test, locals, no_steps(self.alloc, count))?;
         match decided(value) {
             None => Err(Fail::Fault(self.static_fault())),
-            Some(more) => Ok((more, asked.count)),
+            Some(more) => Ok((more, after_arm(count, asked.count))),
         }
     }
 

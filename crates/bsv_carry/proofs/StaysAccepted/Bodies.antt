@@ -42,7 +42,7 @@ module _ (d : ℕ) (is : List Instance) (call next : Caller) (s : Context) (grow
   asking_into name None w = record { seen = refl }
   asking_into name (Some e) w =
       into_then _ _ ((expr_into d is call next s grows into e).carry (no_variables false) (no_steps w.count))
-      (λ r. record { seen = heavier_by d (is_true r.0) (at_count w r.1.count) (carrying.with_need name w r) })
+      (λ r. record { seen = heavier_by d (is_true r.0) (at_count w (carrying.after_arm w.count r.1.count)) (carrying.with_need name w r) })
 
   returned_into : (v : Option Local) (w : Work) → Into (at_heavier d) (carrying.returned call s v (heavier d w)) (carrying.returned next t v w)
   returned_into None w = record { seen = tt }

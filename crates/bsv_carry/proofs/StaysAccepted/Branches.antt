@@ -50,10 +50,10 @@ module _ (d : ℕ) where
   last_arm_into w [] a b h vs c = h vs (at_count w c)
   last_arm_into w (p ∷ ps) a b h vs c = into_then _ _ (h (untouched vs) (no_steps c)) (λ r. close_over d vs w (p ∷ ps) r.0 r.1)
 
-  kept_into : (ps : List Pending) (test : Test) (a b : Acts) → ActsInto d a b → (vs : List Local)
-      → Into (at_raised d) (carrying.kept ps (both_heavier d test) a vs) (carrying.kept ps test b vs)
+  kept_into : (ps : List Pending) (c : Count) (test : Test) (a b : Acts) → ActsInto d a b → (vs : List Local)
+      → Into (at_raised d) (carrying.kept ps (raised d c) (both_heavier d test) a vs) (carrying.kept ps c test b vs)
   unfolding carrying.kept
-  kept_into ps test a b h vs =
+  kept_into ps c test a b h vs =
       into_if (is_static test.0) (record { seen = refl }) (into_then _ _ (branch_arm_into a b h test.1 (untouched vs) (no_steps test.2.count))
       (λ r. record { seen = refl }))
 
@@ -65,8 +65,8 @@ module _ (d : ℕ) where
   chain_from_into w ps (x ∷ xs) (y ∷ ys) h a b last vs c =
       into_then _ _ (h.0.asks vs c) (λ test. into_if (is_true test.0)
       (last_arm_into w ps (carrying.branch_arm x.arm test.1) (carrying.branch_arm y.arm test.1)
-      (branch_arm_into x.arm y.arm h.0.arm test.1) vs test.2.count)
-      (into_then _ _ (kept_into ps test x.arm y.arm h.0.arm vs) (λ r. chain_from_into w r.0 xs ys h.1 a b last vs r.1)))
+      (branch_arm_into x.arm y.arm h.0.arm test.1) vs (carrying.after_arm c test.2.count))
+      (into_then _ _ (kept_into ps c test x.arm y.arm h.0.arm vs) (λ r. chain_from_into w r.0 xs ys h.1 a b last vs r.1)))
   chain_from_into w ps [] (y ∷ ys) h a b last vs c = absurd h
   chain_from_into w ps (x ∷ xs) [] h a b last vs c = absurd h
 

@@ -43,16 +43,16 @@ module _ (d : ℕ) (is : List Instance) (call next : Caller) (s : Context) where
 
   -- ---- loops
 
-  decided_into : (x : Value) (w : Work) (vs us : List Local) (c e : Count)
-      → Into (at_raised d) (carrying.goes_on call s (λ vs u. Ok (x, heavier d w)) vs c) (carrying.goes_on next t (λ vs u. Ok (x, w)) us e)
+  decided_into : (x : Value) (w : Work) (vs : List Local) (c : Count)
+      → Into (at_raised d) (carrying.goes_on call s (λ vs u. Ok (x, heavier d w)) vs (raised d c)) (carrying.goes_on next t (λ vs u. Ok (x, w)) vs c)
   unfolding carrying.goes_on
-  decided_into (value.Static k) w vs us c e = record { seen = refl }
-  decided_into (value.Open a) w vs us c e = record { seen = tt }
+  decided_into (value.Static k) w vs c = record { seen = refl }
+  decided_into (value.Open a) w vs c = record { seen = tt }
 
   goes_on_into : (x y : Carry) → CarryInto d x y → (vs : List Local) (c : Count)
       → Into (at_raised d) (carrying.goes_on call s x vs (raised d c)) (carrying.goes_on next t y vs c)
   unfolding carrying.goes_on
-  goes_on_into x y h vs c = into_then _ _ (h vs (no_steps c)) (λ r. decided_into r.0 r.1 vs vs c c)
+  goes_on_into x y h vs c = into_then _ _ (h vs (no_steps c)) (λ r. decided_into r.0 r.1 vs c)
 
   turns_into : (n : ℕ) (x y : Carry) → CarryInto d x y → (p q : Carry) → CarryInto d p q → (at : ℕ) (a b : Acts) → ActsInto d a b
       → ActsInto d (carrying.turns call s n x p at a) (carrying.turns next t n y q at b)
@@ -97,7 +97,7 @@ module _ (d : ℕ) (is : List Instance) (call next : Caller) (s : Context) where
   unfolding carrying.static_arm
   static_arm_into x taken a b h vs w =
       into_then _ _ (labels_into x a.labels b.labels h.labels vs w.count) (λ test. into_if (not taken && is_true test.0)
-      (into_then _ _ (inside_into d a.arm b.arm h.arm vs (at_count w test.1.count)) (λ r. record { seen = refl })) (record { seen = refl }))
+      (into_then _ _ (inside_into d a.arm b.arm h.arm vs (at_count w (carrying.after_arm w.count test.1.count))) (λ r. record { seen = refl })) (record { seen = refl }))
 
   static_case_into : (x : Value) (taken : Bool) (xs ys : List Labelled) → EachLabelled d xs ys → (a b : Acts) → ActsInto d a b
       → ActsInto d (carrying.static_case call s x taken xs a) (carrying.static_case next t x taken ys b)

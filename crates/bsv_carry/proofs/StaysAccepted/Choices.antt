@@ -32,10 +32,10 @@ module _ (d : ℕ) where
   unfolding carrying.value_asked
   value_asked_into x y h vs c = into_then _ _ (tick_over d c 1) (λ c. h.carry vs (no_steps c))
 
-  value_kept_into : (arms : List Arm) (test : Value × Work) (x y : Carried) → CarriedInto d x y → (vs : List Local)
-      → Into (at_raised d) (carrying.value_kept arms (at_heavier d test) x vs) (carrying.value_kept arms test y vs)
+  value_kept_into : (arms : List Arm) (c : Count) (test : Value × Work) (x y : Carried) → CarriedInto d x y → (vs : List Local)
+      → Into (at_raised d) (carrying.value_kept arms (raised d c) (at_heavier d test) x vs) (carrying.value_kept arms c test y vs)
   unfolding carrying.value_kept
-  value_kept_into arms test x y h vs =
+  value_kept_into arms c test x y h vs =
       into_if (is_static test.0) (record { seen = refl }) (into_then _ _ (h.carry vs (no_steps test.1.count)) (λ r. record { seen = refl }))
 
   choice_from_into : (f : Fault) (w : Work) (arms : List Arm) (ts us xs ys : List Carried) → EachCarried d ts us → EachCarried d xs ys
@@ -43,8 +43,8 @@ module _ (d : ℕ) where
       → Into (at_heavier d) (carrying.choice_from f (heavier d w) arms ts xs vs (raised d c)) (carrying.choice_from f w arms us ys vs c)
   unfolding carrying.choice_from
   choice_from_into f w arms (t ∷ ts) (u ∷ us) (x ∷ xs) (y ∷ ys) h k vs c =
-      into_then _ _ (value_asked_into t u h.0 vs c) (λ test. into_if (is_true test.0) (last_value_into w arms x y k.0 vs test.1.count)
-      (into_then _ _ (value_kept_into arms test x y k.0 vs) (λ r. choice_from_into f w r.0 ts us xs ys h.1 k.1 vs r.1)))
+      into_then _ _ (value_asked_into t u h.0 vs c) (λ test. into_if (is_true test.0) (last_value_into w arms x y k.0 vs (carrying.after_arm c test.1.count))
+      (into_then _ _ (value_kept_into arms c test x y k.0 vs) (λ r. choice_from_into f w r.0 ts us xs ys h.1 k.1 vs r.1)))
   choice_from_into f w arms [] [] (x ∷ xs) (y ∷ ys) h k vs c = last_value_into w arms x y k.0 vs c
   choice_from_into f w arms [] [] [] [] h k vs c = record { seen = tt }
   choice_from_into f w arms (t ∷ ts) (u ∷ us) [] [] h k vs c = record { seen = tt }
