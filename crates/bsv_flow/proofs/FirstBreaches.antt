@@ -3,15 +3,12 @@ use Rattle.std.proofs.Common.{◌≡◌, ℕ, zero, suc, ◌<◌, ◌≤◌, ltb
 use Rattle.std.specs.List.{slice_get}
 use Rattle.std.proofs.lemmas.Bool.{cases_Bool, cases_lt, cases_order, cond-false, false≢true, le-ltb}
 use Rattle.std.proofs.lemmas.Option.{none-some, same_Some}
-use Rattle.bsv_tree.specs.declared.source.Source.{Source}
 use Rattle.bsv_design.specs.scheme.Relations.{IsBreach, IsFirstBreach, KeepsTheRule, break_the_rule, no_answers, sites_of}
 use Rattle.bsv_design.specs.scheme.Schemes.{Scheme, filled, ports_of}
-use Rattle.bsv_tree.specs.meaning.Schemes.{tree_scheme}
-use Rattle.bsv_tree.specs.carrying.Sources.{carried_trace}
-use Rattle.bsv_tree.specs.carrying.Sources.{element_at, source_at}
-use Rattle.bsv_tree.specs.tree.Elements.{element_count}
 use Rattle.bsv_design.specs.scheme.Traces.{Site}
+use Rattle.bsv_tree.specs.tree.Elements.{Text, element_count, element_text, text_at}
 use Rattle.bsv_tree.specs.tree.Trees.{TreeData}
+use Rattle.bsv_tree.specs.meaning.Schemes.{trace_at, tree_scheme}
 
 -- ---- the first breach is one
 
@@ -226,15 +223,15 @@ module _ (S : Scheme) where
 
 -- ---- of a tree
 
-element_past : (h : TreeData) (n : ℕ) → element_count h ≤ n → element_at h n ≡ None
-element_past h n past = cond-false (ltb n (element_count h)) (source_at h n) None (le-ltb n (element_count h) past)
+text_past : (h : TreeData) (n : ℕ) → element_count h ≤ n → element_text h n ≡ None
+text_past h n past = cond-false (ltb n (element_count h)) (text_at h n) None (le-ltb n (element_count h) past)
 
 sites_past : (h : TreeData) (n : ℕ) → element_count h ≤ n → sites_of (tree_scheme h) n ≡ []
 unfolding tree_scheme
 sites_past h n past =
     ap
-    (λ (o : Option Source). (carried_trace h o no_answers (filled (ports_of (slice_get (tree_scheme h).elements n)) [])).sites)
-    (element_past h n past)
+    (λ (o : Option Text). (trace_at o no_answers (filled (ports_of (slice_get (tree_scheme h).elements n)) [])).sites)
+    (text_past h n past)
 
 -- a tree keeps the rule in each element, or has a first breach
 pub tree_decides : (h : TreeData) → ((n : ℕ) → KeepsTheRule (tree_scheme h) n) ⊎ FirstBreachOf (tree_scheme h)

@@ -16,8 +16,8 @@ use Rattle.bsv_tree.specs.declared.tree.Made.TheVariants as made
 use Rattle.bsv_tree.specs.declared.values.Fault.{Fault}
 use Rattle.bsv_tree.specs.declared.values.Work.{Work}
 use Rattle.bsv_tree.specs.tree.Contexts.{made_of}
-use Rattle.bsv_tree.specs.tree.Elements.{role_of, port_of, PlacedRule, rule_among, rule_here, or_else, rule_at, rule_in, top_methods}
-use Rattle.bsv_tree.specs.carrying.Sources.{method_done, method_source, rule_done, rule_carried, rule_source, top_source, source_at}
+use Rattle.bsv_tree.specs.tree.Elements.{role_of, port_of, PlacedRule, rule_among, rule_here, or_else, rule_at, rule_in, standing_text, top_methods}
+use Rattle.bsv_tree.specs.carrying.Sources.{method_done, method_source, rule_done, carried, rule_source, top_source, source_at}
 use Rattle.bsv_design.specs.design.Paths.{with_dot}
 use Rattle.bsv_tree.specs.tree.Trees.{TreeData, IsTree, shapes}
 use Rattle.bsv_tree.specs.carrying.Working.{Valued}
@@ -153,7 +153,7 @@ stands (i ∷ is) n r e = by (rule_here n i.path i.made) refl (stands is n r) e 
   by (Some q) here more f = stands_first i is n r i.made refl (here ∙ f)
 
 rule_is : (is : List Instance) (n : ℕ) (r : PlacedRule) (x : Result Work Fault) (e : Element) (s : Source) → Shows e s → StandsAt is n r
-    → rule_done r x ≡ Some s → IsRuleOf is n e
+    → rule_done (with_dot r.path r.rule.name) x ≡ Some s → IsRuleOf is n e
 rule_is is n r (Err f) e s shows at done = absurd cc
 rule_is is n r (Ok w) e s shows at done =
     let is = sym (same_Some _ s done) in
@@ -166,7 +166,7 @@ rule_is is n r (Ok w) e s shows at done =
     }
 
 rule_with : (h : TreeData) (n : ℕ) (r : PlacedRule) (text : Option Rule) (e : Element) (s : Source) → Shows e s → StandsAt h.instances n r
-    → rule_carried h r text ≡ Some s → IsRuleOf h.instances n e
+    → carried (standing_text h r text) ≡ Some s → IsRuleOf h.instances n e
 rule_with h n r None e s shows at done = absurd cc
 rule_with h n r (Some text) e s shows at done = rule_is h.instances n r _ e s shows at done
 

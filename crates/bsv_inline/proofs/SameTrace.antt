@@ -28,7 +28,7 @@ use Rattle.bsv_design.specs.design.Words.{or_zero, is_one}
 use Rattle.bsv_tree.specs.carrying.Running.{word_of, happening}
 use Rattle.bsv_design.specs.scheme.Traces.{Site, Demand, Trace, acts, kind_at, site_at, demand_at, body_trace}
 use Rattle.bsv_tree.specs.tree.Elements.{target_of, place_name}
-use Rattle.bsv_tree.specs.meaning.Elements.{site_of, demand_of}
+use Rattle.bsv_tree.specs.meaning.Schemes.{site_of, demand_of}
 use Rattle.bsv_tree.specs.carrying.Sources.{step_trace}
 use Rattle.bsv_body.specs.declared.body.Body.{Body}
 use Rattle.bsv_body.specs.declared.calls.Call.{Call}

@@ -15,7 +15,7 @@ use Rattle.bsv_tree.specs.carrying.Running.{Happening, Run, Alternative, happeni
 use Rattle.bsv_design.specs.design.Words.{is_one}
 use Rattle.bsv_design.specs.scheme.Traces.{Site}
 use Rattle.bsv_tree.specs.carrying.Sources.{step_trace}
-use Rattle.bsv_tree.specs.meaning.Elements.{site_of, demand_of}
+use Rattle.bsv_tree.specs.meaning.Schemes.{site_of, demand_of}
 use Rattle.bsv_tree.specs.tree.Elements.{target_of, place_name}
 use Rattle.bsv_inline.proofs.Uses.{Methods}
 use Rattle.bsv_inline.proofs.EachStep.{AllKeep, AllArms, IsKept, all_keep}

@@ -63,22 +63,22 @@ abbrev pub outlines_below : TreeData → ℕ → List Outline
 outlines_below h zero = []
 outlines_below h (suc n) = outlines_below h n ++ outline_at (element_text h n)
 
-abbrev pub trace_of : Option Text → Answers → List Bits → Trace
-trace_of None r ws = no_trace
-trace_of (Some x) r ws = text_trace x r ws
+abbrev pub trace_at : Option Text → Answers → List Bits → Trace
+trace_at None r ws = no_trace
+trace_at (Some x) r ws = text_trace x r ws
 
 -- All call sites are met under each look, in all branches but those that a static condition rules out: so those that are met
 -- under one look are all
-abbrev pub uses_of : Option Text → List Target
-uses_of None = []
-uses_of (Some x) = map (λ (s : Site). s.target) (text_trace x no_answers (filled (text_outline x).ports [])).sites
+abbrev pub uses_at : Option Text → List Target
+uses_at None = []
+uses_at (Some x) = map (λ (s : Site). s.target) (text_trace x no_answers (filled (text_outline x).ports [])).sites
 
 unfoldable pub tree_scheme : TreeData → Scheme
 tree_scheme h = record {
   kinds = map (λ p. p.kind) (parts_among h.instances);
   elements = outlines_below h (element_count h);
-  uses = λ n. uses_of (element_text h n);
-  trace = λ n. trace_of (element_text h n);
+  uses = λ n. uses_at (element_text h n);
+  trace = λ n. trace_at (element_text h n);
   pairs = h.pairs;
   asserts = h.asserts;
 }
