@@ -14,6 +14,10 @@ mod Joins
 mod AfterChoice
 mod Tails
 mod Closing
+mod Stays
+mod Tests
+mod Chains
+mod ChainsKept
 mod Loops
 mod Elements
 mod Tries
