@@ -18,6 +18,7 @@ mod Stays
 mod Tests
 mod Chains
 mod ChainsKept
+mod Conditions
 mod Loops
 mod Elements
 mod Tries
