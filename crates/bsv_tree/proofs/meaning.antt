@@ -15,5 +15,6 @@ mod AfterChoice
 mod Chains
 mod ChainsKept
 mod Loops
+mod Labels
 mod Elements
 mod Tries
