@@ -16,5 +16,6 @@ mod Chains
 mod ChainsKept
 mod Loops
 mod Labels
+mod StaticCases
 mod Elements
 mod Tries
