@@ -12,8 +12,8 @@ mod Trees
 mod Statements
 mod Joins
 mod AfterChoice
-mod Chains
-mod ChainsKept
+mod Tails
+mod Closing
 mod Loops
 mod Labels
 mod StaticCases
