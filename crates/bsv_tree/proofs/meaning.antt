@@ -14,8 +14,10 @@ mod Joins
 mod AfterChoice
 mod Tails
 mod Closing
+mod Staying
 mod Loops
 mod Labels
 mod StaticCases
+mod OpenCases
 mod Elements
 mod Tries

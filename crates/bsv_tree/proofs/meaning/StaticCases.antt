@@ -22,7 +22,7 @@ use Rattle.bsv_tree.specs.meaning.Meaning as meaning
 use Rattle.bsv_tree.specs.meaning.Meaning.{Meant, Calling}
 use Rattle.bsv_tree.specs.meaning.Values.{Value as Val, static, is_true, Variables}
 use Rattle.bsv_tree.specs.tree.Contexts.{Context}
-use Rattle.bsv_tree.proofs.meaning.Chains.{Exactly}
+use Rattle.bsv_tree.proofs.meaning.Tails.{Exactly}
 use Rattle.bsv_tree.proofs.meaning.Labels.{AllCarry, labels_is, labels_static}
 use Rattle.bsv_tree.proofs.meaning.Operating.{V}
 use Rattle.bsv_tree.proofs.meaning.Pieces.{Alike, to_alike}
