@@ -19,5 +19,6 @@ mod Loops
 mod Labels
 mod StaticCases
 mod OpenCases
+mod Cases
 mod Elements
 mod Tries
