@@ -14,11 +14,17 @@ mod Joins
 mod AfterChoice
 mod Tails
 mod Closing
+mod Staying
 mod Stays
 mod Tests
 mod Chains
 mod ChainsKept
 mod Conditions
 mod Loops
+mod Labels
+mod StaticCases
+mod OpenCases
+mod Cases
+mod Bodies
 mod Elements
 mod Tries

@@ -47,23 +47,23 @@ module _ (r : Results) (P : List Bits → Type 0) (vs : List Local) (us : Variab
     abbrev pub Vars : List Local → Work → Evaluation Variables → Type 0
     Vars ts v m = Same r p ws n k (λ W xs. AllHold W ts xs) w v (here r p ws n k w m)
 
-    -- the step of the choice, and the variables after it
-    pub closed_is : (p0 : Pending) (ps : List Pending) (lv : List Local) (lw : Work) (M : ℕ → ℕ → Bool → Evaluation Variables)
-        → ((given : List ℕ) (plain : AllPlain vs given) (number arm : ℕ) (left : Bool) → Finishes r vs us given plain P w.count.slots (p0 ∷ ps) lw.steps lv number arm left (M number arm left))
-        → (ts : List Local) (v : Work) → carried.close vs w (p0 ∷ ps) lv lw ≡ Ok (ts, v)
+    -- the step of the choice, whose arm may be the last one alone, and the variables after it
+    pub choice_closed_is : (ps : List Pending) (lv : List Local) (lw : Work) (M : ℕ → ℕ → Bool → Evaluation Variables)
+        → ((given : List ℕ) (plain : AllPlain vs given) (number arm : ℕ) (left : Bool) → Finishes r vs us given plain P w.count.slots ps lw.steps lv number arm left (M number arm left))
+        → (ts : List Local) (v : Work) → carried.close vs w ps lv lw ≡ Ok (ts, v)
         → Vars ts v (evaluation.◌>>=◌ (evaluation.choice λ i. M i 0 true) (λ xs. yields (restored us xs)))
     unfolding carried.close AllPlain
-    closed_is p0 ps lv lw M finishes ts v e =
+    choice_closed_is ps lv lw M finishes ts v e =
         let W = V r p ws n k w in
         let N = (ran r p ws n k w).choices in
         let K = (ran r p ws n k w).sites in
         let d = M N 0 true p (N + 1) K in
         let first = finishes [] tt N 0 true p W (N + 1) K long hold on in
         let b : Count = record { weight = lw.count.weight; slots = w.count.slots } in
-        let g = got (carried.joined_from (p0 ∷ ps) lv [] [] vs b) _ (ts, v) e in
-        let B = after_choice (p0 ∷ ps) lv vs us d.gives first.flagged (hold_long W vs us hold) first.sized b g.0.0 g.0.1 g.0.2 g.1 in
+        let g = got (carried.joined_from ps lv [] [] vs b) _ (ts, v) e in
+        let B = after_choice ps lv vs us d.gives first.flagged (hold_long W vs us hold) first.sized b g.0.0 g.0.1 g.0.2 g.1 in
         let second = finishes g.0.1 B.0 N 0 true p W (N + 1) K long hold on in
-        let as' = map (carried.arm_of g.0.1) (p0 ∷ ps) in
+        let as' = map (carried.arm_of g.0.1) ps in
         let gives = map (carried.given_by lv) g.0.1 in
         let s = carried.choice_of false as' lw.steps gives in
         let h = arms_run (map run lw.steps) gives (map alternative as') N 0 (p.taken && true) r p W (N + 1) K in
@@ -85,6 +85,13 @@ module _ (r : Results) (P : List Bits → Type 0) (vs : List Local) (us : Variab
           long = ap (λ (o : Happening). length o.words) it ∙ after_it.1;
           gives = subst (λ (o : Happening). AllHold o.words g.0.0 (restored us d.gives)) (sym it) after_it.0;
         })
+
+    -- the same of a choice with some arm before the last one
+    pub closed_is : (p0 : Pending) (ps : List Pending) (lv : List Local) (lw : Work) (M : ℕ → ℕ → Bool → Evaluation Variables)
+        → ((given : List ℕ) (plain : AllPlain vs given) (number arm : ℕ) (left : Bool) → Finishes r vs us given plain P w.count.slots (p0 ∷ ps) lw.steps lv number arm left (M number arm left))
+        → (ts : List Local) (v : Work) → carried.close vs w (p0 ∷ ps) lv lw ≡ Ok (ts, v)
+        → Vars ts v (evaluation.◌>>=◌ (evaluation.choice λ i. M i 0 true) (λ xs. yields (restored us xs)))
+    closed_is p0 ps lv lw M finishes ts v e = choice_closed_is (p0 ∷ ps) lv lw M finishes ts v e
 
     -- statements alone, at a later count
     pub alone_is : (a : Acts) (m : control.Acts) → Does r a m → (c : Count) → c.slots ≡ w.count.slots → (ts : List Local) (v : Work) → a vs (at_count w c) ≡ Ok (ts, v) → Vars ts v (m us)
