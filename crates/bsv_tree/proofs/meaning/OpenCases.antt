@@ -1,6 +1,5 @@
 -- A `case` of a subject that is not static does what it means: a choice whose conditions are made of labels.
-use Rattle.std.proofs.Common.{◌≡◌, ℕ, ◌+◌, Bool, true, not, ◌&&◌, List, [], ◌∷◌, ◌++◌, length, map, Ok, refl, sym, ap, ap₂, ◌∙◌, subst, append_assoc, append-nil}
-use Rattle.bsv_fail.specs.Given.{◌>>=◌}
+use Rattle.std.proofs.Common.{◌≡◌, ℕ, ◌+◌, Bool, ◌&&◌, List, [], ◌∷◌, ◌++◌, length, map, Ok, sym, ap, ap₂, ◌∙◌, subst, append_assoc, append-nil}
 use Rattle.bsv_bits.specs.Words.{Bits}
 use Rattle.bsv_tree.specs.declared.steps.Step.{Step}
 use Rattle.bsv_tree.specs.declared.values.Value.{Value}
@@ -17,11 +16,10 @@ use Rattle.bsv_tree.specs.carrying.Running.{in_turn, run, arms_run}
 use Rattle.bsv_tree.specs.carrying.Values.{atom_of}
 use Rattle.bsv_tree.specs.carrying.Working.{no_steps}
 use Rattle.bsv_tree.specs.meaning.Control as control
-use Rattle.bsv_tree.specs.meaning.Evaluation as evaluation
-use Rattle.bsv_tree.specs.meaning.Evaluation.{Results, Standing, SiteCall, Need, Evaluation, Evaluated, in_order, within}
+use Rattle.bsv_tree.specs.meaning.Evaluation.{Results, Standing, SiteCall, Need, Evaluation, Evaluated, in_order}
 use Rattle.bsv_tree.specs.meaning.Meaning as meaning
 use Rattle.bsv_tree.specs.meaning.Meaning.{Calling}
-use Rattle.bsv_tree.specs.meaning.Values.{Value as Val, varying, word_of, Variables, begun}
+use Rattle.bsv_tree.specs.meaning.Values.{Value as Val, varying, word_of, Variables}
 use Rattle.bsv_tree.specs.tree.Contexts.{Context}
 use Rattle.bsv_tree.proofs.meaning.Closing.{Vars, choice_closed_is}
 use Rattle.bsv_tree.proofs.meaning.Joins.{AllPlain, Ends, Finishes, Both, last_finishes, open_finishes, pend}
