@@ -14,7 +14,11 @@ mod Joins
 mod AfterChoice
 mod Tails
 mod Closing
-mod Staying
+mod Stays
+mod Tests
+mod Chains
+mod ChainsKept
+mod Conditions
 mod Loops
 mod Labels
 mod StaticCases

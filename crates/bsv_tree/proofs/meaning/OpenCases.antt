@@ -21,7 +21,7 @@ use Rattle.bsv_tree.specs.meaning.Meaning as meaning
 use Rattle.bsv_tree.specs.meaning.Meaning.{Calling}
 use Rattle.bsv_tree.specs.meaning.Values.{Value as Val, varying, word_of, Variables}
 use Rattle.bsv_tree.specs.tree.Contexts.{Context}
-use Rattle.bsv_tree.proofs.meaning.Closing.{Vars, choice_closed_is}
+use Rattle.bsv_tree.proofs.meaning.Closing.{Vars, closed_is}
 use Rattle.bsv_tree.proofs.meaning.Joins.{AllPlain, Ends, Finishes, Both, last_finishes, open_finishes, pend}
 use Rattle.bsv_tree.proofs.meaning.Labels.{labels_is}
 use Rattle.bsv_tree.proofs.meaning.Nodes.{alternative}
@@ -29,7 +29,7 @@ use Rattle.bsv_tree.proofs.meaning.Operating.{V}
 use Rattle.bsv_tree.proofs.meaning.Same.{Shows, AllHold, IsLong, got, same_ok, shows_word, shows_within}
 use Rattle.bsv_tree.proofs.meaning.Statements.{Kept, everywhere}
 use Rattle.bsv_tree.proofs.meaning.StaticCases.{Labels, AllLabels}
-use Rattle.bsv_tree.proofs.meaning.Staying.{close_stays}
+use Rattle.bsv_tree.proofs.meaning.Stays.{close_stays}
 use Rattle.bsv_tree.proofs.meaning.Tails.{Exactly, Tail}
 
 module _ (r : Results) (call : Caller) (calling : Calling) (site : Context) (x : Value) where
@@ -131,4 +131,4 @@ module _ (r : Results) (call : Caller) (calling : Calling) (site : Context) (x :
         → Vars r Subject vs us p ws n k w long hold on ts v (control.choose (branches ms) mlast us)
     open_case_is p ws n k w long hold on cs ms h last mlast l ts v e =
         let T = arms_left cs ms h last mlast l w [] w.count ts v e in
-        choice_closed_is r Subject vs us p ws n k w long hold on T.more T.locals T.last (λ number arm left. control.arms number arm left (branches ms) mlast us) T.finishes ts v T.made
+        closed_is r Subject vs us p ws n k w long hold on T.more T.locals T.last (λ number arm left. control.arms number arm left (branches ms) mlast us) T.finishes ts v T.made

@@ -1,20 +1,42 @@
--- After the step of a choice the same variables are there.
-use Rattle.std.proofs.Common.{◌≡◌, ℕ, suc, Bool, true, false, List, [], ◌∷◌, ◌++◌, length, Ok, refl, sym, ap, ◌∙◌, subst, append_assoc, append-nil}
+-- After a choice the same variables are there.
+use Rattle.std.proofs.Common.{◌≡◌, ℕ, suc, Bool, true, false, List, [], ◌∷◌, ◌++◌, length, None, Ok, refl, sym, ap, ◌∙◌, subst, append_assoc, append-nil}
 use Rattle.std.specs.Prelude.{if◌then◌else◌}
 use Rattle.bsv_fail.specs.Given.{◌>>=◌}
+use Rattle.bsv_bits.specs.Words.{Bits}
 use Rattle.bsv_tree.specs.declared.steps.Atom.TheVariants as atom
+use Rattle.bsv_tree.specs.declared.values.Value.{Value}
 use Rattle.bsv_tree.specs.declared.values.Value.TheVariants as value
 use Rattle.bsv_tree.specs.declared.values.Count.{Count}
 use Rattle.bsv_tree.specs.declared.values.Local.{Local}
 use Rattle.bsv_tree.specs.declared.values.Pending.{Pending}
 use Rattle.bsv_tree.specs.declared.values.Work.{Work}
 use Rattle.bsv_tree.specs.carrying.Arms as carried
+use Rattle.bsv_tree.specs.carrying.Values as values
 use Rattle.bsv_tree.specs.carrying.Arms.{joined_as, joined_from}
-use Rattle.bsv_tree.specs.carrying.Working.{fresh}
+use Rattle.bsv_tree.specs.carrying.Carrying as carrying
+use Rattle.bsv_tree.specs.carrying.Carrying.{Acts, Branched, Test}
+use Rattle.bsv_tree.specs.carrying.Frames as frames
+use Rattle.bsv_tree.specs.meaning.Evaluation.{Results}
+use Rattle.bsv_tree.specs.carrying.Working.{no_steps, at_count, fresh}
+use Rattle.bsv_tree.specs.meaning.Control as control
 use Rattle.bsv_tree.proofs.meaning.Same.{got, same_ok}
 use Rattle.bsv_tree.proofs.meaning.Statements.{Kept}
+use Rattle.bsv_tree.proofs.meaning.Tails.{Exactly, ExactlyWhere}
 
--- the mark `integer` of a variable that is joined is as before
+-- the variables are still there, and there are no others
+abbrev pub Stays : List Local → List Local → Type 0
+Stays vs ts = Kept vs ts × (length ts ≡ length vs)
+
+-- statements after which the same variables are there
+abbrev pub Keeps : Acts → Type 0
+Keeps a = (vs : List Local) (w : Work) (ts : List Local) (v : Work) → a vs w ≡ Ok (ts, v) → Stays vs ts
+
+pub exactly_keeps : (r : Results) (a : Acts) (m : control.Acts) → Exactly r a m → Keeps a
+exactly_keeps r a m h vs w ts v e = (h.does.kept vs w ts v e, h.exact vs w ts v e)
+
+pub where_keeps : (r : Results) (R : List Bits → Type 0) (a : Acts) (m : control.Acts) → ExactlyWhere r R a m → Keeps a
+where_keeps r R a m h vs w ts v e = (h.does.kept vs w ts v e, h.exact vs w ts v e)
+
 joined_integer : (v : Local) (slot : ℕ) → (joined_as v slot).integer ≡ v.integer
 joined_integer v slot = by v.integer refl where
   by : (b : Bool) → v.integer ≡ b → (if b then (let a : Local = record { value = v.value; integer = true; lost = true; touched = true } in a) else record { value = value.Open (atom.Slot slot); integer = false; lost = false; touched = true }).integer ≡ v.integer
@@ -52,11 +74,19 @@ module _ (ps : List Pending) (last : List Local) where
             more new (joined_integer v c.slots) (ih new (given ++ length found ∷ []) n.0 n.2)
         by false j i ih = more v refl (ih v given c i)
 
--- the variables after the step of a choice
-pub close_stays : (vs : List Local) (w : Work) (ps : List Pending) (lv : List Local) (lw : Work) (ts : List Local) (v : Work) → carried.close vs w ps lv lw ≡ Ok (ts, v) → Kept vs ts × (length ts ≡ length vs)
+-- after the step of a choice they are there
+pub close_stays : (vs : List Local) (w : Work) (ps : List Pending) (lv : List Local) (lw : Work) (ts : List Local) (v : Work) → carried.close vs w ps lv lw ≡ Ok (ts, v) → Stays vs ts
 unfolding carried.close
 close_stays vs w ps lv lw ts v e =
     let g = got (joined_from ps lv [] [] vs (record { weight = lw.count.weight; slots = w.count.slots })) _ (ts, v) e in
     let S = joins_stay ps lv vs [] [] (record { weight = lw.count.weight; slots = w.count.slots }) g.0.0 g.0.1 g.0.2 g.1 in
     let it : g.0.0 ≡ ts = ap (λ (o : List Local × Work). o.0) (same_ok _ (ts, v) g.2) in
     (subst (Kept vs) (sym S.is ∙ it) S.kept, ap (λ (o : List Local). length o) (sym it ∙ S.is) ∙ S.long)
+
+-- the last arm, alone or in the step of a choice
+pub last_stays : (vs : List Local) (w : Work) (ps : List Pending) (a : Acts) → Keeps a → (c : Count) (ts : List Local) (v : Work) → carrying.last_arm w ps a vs c ≡ Ok (ts, v) → Stays vs ts
+unfolding carrying.last_arm
+last_stays vs w [] a h c ts v e = h vs (at_count w c) ts v e
+last_stays vs w (p ∷ ps) a h c ts v e =
+    let g = got (a (frames.untouched vs) (no_steps c)) (λ o. carried.close vs w (p ∷ ps) o.0 o.1) (ts, v) e in
+    close_stays vs w (p ∷ ps) g.0.0 g.0.1 ts v g.2
