@@ -1,5 +1,5 @@
 -- A `case` of a subject that is not static does what it means: a choice whose conditions are made of labels.
-use Rattle.std.proofs.Common.{◌≡◌, ℕ, ◌+◌, Bool, ◌&&◌, List, [], ◌∷◌, ◌++◌, length, map, Ok, sym, ap, ap₂, ◌∙◌, subst, append_assoc, append-nil}
+use Rattle.std.proofs.Common.{◌≡◌, ℕ, ◌+◌, Bool, ◌&&◌, List, [], ◌∷◌, ◌++◌, map, Ok, sym, ap, ap₂, ◌∙◌, subst, append_assoc, append-nil}
 use Rattle.bsv_bits.specs.Words.{Bits}
 use Rattle.bsv_tree.specs.declared.steps.Step.{Step}
 use Rattle.bsv_tree.specs.declared.values.Value.{Value}
@@ -27,15 +27,15 @@ use Rattle.bsv_tree.proofs.meaning.Labels.{labels_is}
 use Rattle.bsv_tree.proofs.meaning.Nodes.{alternative}
 use Rattle.bsv_tree.proofs.meaning.Operating.{V}
 use Rattle.bsv_tree.proofs.meaning.Same.{Shows, AllHold, IsLong, got, same_ok, shows_word, shows_within}
-use Rattle.bsv_tree.proofs.meaning.Statements.{Kept, everywhere}
+use Rattle.bsv_tree.proofs.meaning.Statements.{everywhere}
 use Rattle.bsv_tree.proofs.meaning.StaticCases.{Labels, AllLabels}
-use Rattle.bsv_tree.proofs.meaning.Stays.{close_stays}
+use Rattle.bsv_tree.proofs.meaning.Stays.{Stays, close_stays}
 use Rattle.bsv_tree.proofs.meaning.Tails.{Exactly, Tail}
 
 module _ (r : Results) (call : Caller) (calling : Calling) (site : Context) (x : Value) where
   -- the same variables are there
   pub open_stays : (vs : List Local) (w : Work) (cs : List carrying.Labelled) (ps : List Pending) (last : Acts) (c : Count) (ts : List Local) (v : Work)
-      → carrying.open_case call site x w ps cs last vs c ≡ Ok (ts, v) → Kept vs ts × (length ts ≡ length vs)
+      → carrying.open_case call site x w ps cs last vs c ≡ Ok (ts, v) → Stays vs ts
   unfolding carrying.open_case
   open_stays vs w [] ps last c ts v e =
       let g = got (last (frames.untouched vs) (no_steps c)) (λ o. carried.close vs w ps o.0 o.1) (ts, v) e in
