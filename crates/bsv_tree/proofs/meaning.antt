@@ -14,7 +14,6 @@ mod Joins
 mod AfterChoice
 mod Tails
 mod Closing
-mod Staying
 mod Stays
 mod Tests
 mod Chains

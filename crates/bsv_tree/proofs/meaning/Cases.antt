@@ -1,7 +1,6 @@
 -- A `case` does what it means, whatever its subject is.
-use Rattle.std.proofs.Common.{◌≡◌, ℕ, Bool, true, false, List, [], ◌∷◌, length, map, Ok, refl, sym, ap, subst}
+use Rattle.std.proofs.Common.{◌≡◌, ℕ, Bool, false, List, [], ◌∷◌, map, Ok, refl, sym, ap, subst}
 use Rattle.std.specs.Prelude.{if◌then◌else◌}
-use Rattle.bsv_fail.specs.Given.{◌>>=◌}
 use Rattle.bsv_bits.specs.Words.{Bits}
 use Rattle.bsv_types.specs.declared.expressions.Expr.{Expr}
 use Rattle.bsv_tree.specs.declared.values.Value.{Value}
@@ -25,8 +24,8 @@ use Rattle.bsv_tree.proofs.meaning.OpenCases.{open_case_is, open_stays}
 use Rattle.bsv_tree.proofs.meaning.Operating.{V}
 use Rattle.bsv_tree.proofs.meaning.Pieces.{bound}
 use Rattle.bsv_tree.proofs.meaning.Same.{Shows, AllHold, IsLong, Same, here, got, all_hold_within}
-use Rattle.bsv_tree.proofs.meaning.Statements.{Kept}
 use Rattle.bsv_tree.proofs.meaning.StaticCases.{Labels, AllLabels, static_case_is, static_stays}
+use Rattle.bsv_tree.proofs.meaning.Stays.{Stays}
 use Rattle.bsv_tree.proofs.meaning.Tails.{Exactly}
 use Rattle.bsv_tree.proofs.meaning.Trees.{ExprSame, expr_same}
 
@@ -40,11 +39,11 @@ module _ (r : Results) (call : Caller) (calling : Calling) (site : Context) wher
     told_on us y = if is_static y then meaning.first_same r calling site y ms mlast us else control.choose (map (meaning.as_branch r calling site y) ms) mlast us
 
     -- the same variables are there
-    stays : (vs : List Local) (x : Value) (w : Work) (ts : List Local) (v : Work) → carried_on vs x vs w ≡ Ok (ts, v) → Kept vs ts × (length ts ≡ length vs)
+    stays : (vs : List Local) (x : Value) (w : Work) (ts : List Local) (v : Work) → carried_on vs x vs w ≡ Ok (ts, v) → Stays vs ts
     stays vs (value.Static i) w ts v e = static_stays r call calling site (value.Static i) cs ms h last mlast l false vs w ts v e
     stays vs (value.Open a) w ts v e = open_stays r call calling site (value.Open a) vs w cs [] last w.count ts v e
 
-    cases_stay : (subject : Carry) (vs : List Local) (w : Work) (ts : List Local) (v : Work) → carrying.cases call site subject cs last vs w ≡ Ok (ts, v) → Kept vs ts × (length ts ≡ length vs)
+    cases_stay : (subject : Carry) (vs : List Local) (w : Work) (ts : List Local) (v : Work) → carrying.cases call site subject cs last vs w ≡ Ok (ts, v) → Stays vs ts
     unfolding carrying.cases
     cases_stay subject vs w ts v e =
         let g = got (subject vs w) (λ o. carried_on vs o.0 vs o.1) (ts, v) e in

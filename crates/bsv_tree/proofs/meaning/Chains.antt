@@ -166,7 +166,7 @@ module _ (r : Results) (vs : List Local) (us : Variables) where
               let y = (h.0.means us p N K).gives in
               let shown : Shows (ran r p (V r p ws n k w) N K t.2).words (value.Open at) (h.0.tag y) = subst (λ x. Shows (ran r p (V r p ws n k w) N K t.2).words x (h.0.tag y)) f first.gives.1 in
               told y (varying shown.0) (h.0.payload y) refl shown.2 refl
-              (closed_is r (λ W. Unit {0}) vs us p ws n k w long hold tt new T.more T.locals T.last (λ number arm left. control.arms number arm left (m ∷ ms) mlast us)
+              (closed_is r (λ W. Unit {0}) vs us p ws n k w long hold tt (new ∷ T.more) T.locals T.last (λ number arm left. control.arms number arm left (m ∷ ms) mlast us)
               (λ given plain number arm left. at_slots given plain (new ∷ T.more) T.last.steps T.locals number arm left (control.arms number arm left (m ∷ ms) mlast us)
               (open_told r vs us b m h.0 ms mlast c t e' at f l.0.0 l.0.1 l.1 T.more T.last.steps T.locals given plain number arm (λ i. T.finishes given plain number (arm + 1) i) left)) ts v T.made) where
                 at_slots : (given : List ℕ) (plain : AllPlain vs given) (more : List Pending) (last : List Step) (lv : List Local) (number arm : ℕ) (left : Bool) (M : Evaluation Variables)

@@ -48,12 +48,12 @@ module _ (r : Results) (P : List Bits → Type 0) (vs : List Local) (us : Variab
     Vars ts v m = Same r p ws n k (λ W xs. AllHold W ts xs) w v (here r p ws n k w m)
 
     -- the step of the choice, whose arm may be the last one alone, and the variables after it
-    pub choice_closed_is : (ps : List Pending) (lv : List Local) (lw : Work) (M : ℕ → ℕ → Bool → Evaluation Variables)
+    pub closed_is : (ps : List Pending) (lv : List Local) (lw : Work) (M : ℕ → ℕ → Bool → Evaluation Variables)
         → ((given : List ℕ) (plain : AllPlain vs given) (number arm : ℕ) (left : Bool) → Finishes r vs us given plain P w.count.slots ps lw.steps lv number arm left (M number arm left))
         → (ts : List Local) (v : Work) → carried.close vs w ps lv lw ≡ Ok (ts, v)
         → Vars ts v (evaluation.◌>>=◌ (evaluation.choice λ i. M i 0 true) (λ xs. yields (restored us xs)))
     unfolding carried.close AllPlain
-    choice_closed_is ps lv lw M finishes ts v e =
+    closed_is ps lv lw M finishes ts v e =
         let W = V r p ws n k w in
         let N = (ran r p ws n k w).choices in
         let K = (ran r p ws n k w).sites in
@@ -85,13 +85,6 @@ module _ (r : Results) (P : List Bits → Type 0) (vs : List Local) (us : Variab
           long = ap (λ (o : Happening). length o.words) it ∙ after_it.1;
           gives = subst (λ (o : Happening). AllHold o.words g.0.0 (restored us d.gives)) (sym it) after_it.0;
         })
-
-    -- the same of a choice with some arm before the last one
-    pub closed_is : (p0 : Pending) (ps : List Pending) (lv : List Local) (lw : Work) (M : ℕ → ℕ → Bool → Evaluation Variables)
-        → ((given : List ℕ) (plain : AllPlain vs given) (number arm : ℕ) (left : Bool) → Finishes r vs us given plain P w.count.slots (p0 ∷ ps) lw.steps lv number arm left (M number arm left))
-        → (ts : List Local) (v : Work) → carried.close vs w (p0 ∷ ps) lv lw ≡ Ok (ts, v)
-        → Vars ts v (evaluation.◌>>=◌ (evaluation.choice λ i. M i 0 true) (λ xs. yields (restored us xs)))
-    closed_is p0 ps lv lw M finishes ts v e = choice_closed_is (p0 ∷ ps) lv lw M finishes ts v e
 
     -- statements alone, at a later count
     pub alone_is : (a : Acts) (m : control.Acts) → Does r a m → (c : Count) → c.slots ≡ w.count.slots → (ts : List Local) (v : Work) → a vs (at_count w c) ≡ Ok (ts, v) → Vars ts v (m us)

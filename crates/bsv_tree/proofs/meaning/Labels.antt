@@ -17,7 +17,6 @@ use Rattle.bsv_tree.specs.carrying.Applied as carried
 use Rattle.bsv_tree.specs.carrying.Calls.{Caller, static_fault}
 use Rattle.bsv_tree.specs.carrying.Carrying as carrying
 use Rattle.bsv_tree.specs.carrying.Carrying.{Carry}
-use Rattle.bsv_tree.specs.carrying.Running.{in_turn}
 use Rattle.bsv_tree.specs.carrying.Values as values
 use Rattle.bsv_tree.specs.carrying.Working as work
 use Rattle.bsv_tree.specs.carrying.Working.{Valued, no_steps}
@@ -28,7 +27,7 @@ use Rattle.bsv_tree.specs.meaning.Integers.{number_between}
 use Rattle.bsv_tree.specs.meaning.Meaning as meaning
 use Rattle.bsv_tree.specs.meaning.Meaning.{Meant}
 use Rattle.bsv_tree.specs.meaning.Operators as means
-use Rattle.bsv_tree.specs.meaning.Values.{Value as Val, static, varying, Variables}
+use Rattle.bsv_tree.specs.meaning.Values.{Value as Val, static, Variables}
 use Rattle.bsv_tree.specs.tree.Contexts.{Context}
 use Rattle.bsv_tree.proofs.meaning.Expressions.{Carries}
 use Rattle.bsv_tree.proofs.meaning.Operating.{V, Is, next, between_is, of_two_is, there}

@@ -1,6 +1,5 @@
 -- A `case` of a subject that is not static does what it means: a choice whose conditions are made of labels.
-use Rattle.std.proofs.Common.{◌≡◌, ℕ, ◌+◌, Bool, true, not, ◌&&◌, List, [], ◌∷◌, ◌++◌, length, map, Ok, refl, sym, ap, ap₂, ◌∙◌, subst, append_assoc, append-nil}
-use Rattle.bsv_fail.specs.Given.{◌>>=◌}
+use Rattle.std.proofs.Common.{◌≡◌, ℕ, ◌+◌, Bool, ◌&&◌, List, [], ◌∷◌, ◌++◌, map, Ok, sym, ap, ap₂, ◌∙◌, subst, append_assoc, append-nil}
 use Rattle.bsv_bits.specs.Words.{Bits}
 use Rattle.bsv_tree.specs.declared.steps.Step.{Step}
 use Rattle.bsv_tree.specs.declared.values.Value.{Value}
@@ -17,27 +16,26 @@ use Rattle.bsv_tree.specs.carrying.Running.{in_turn, run, arms_run}
 use Rattle.bsv_tree.specs.carrying.Values.{atom_of}
 use Rattle.bsv_tree.specs.carrying.Working.{no_steps}
 use Rattle.bsv_tree.specs.meaning.Control as control
-use Rattle.bsv_tree.specs.meaning.Evaluation as evaluation
-use Rattle.bsv_tree.specs.meaning.Evaluation.{Results, Standing, SiteCall, Need, Evaluation, Evaluated, in_order, within}
+use Rattle.bsv_tree.specs.meaning.Evaluation.{Results, Standing, SiteCall, Need, Evaluation, Evaluated, in_order}
 use Rattle.bsv_tree.specs.meaning.Meaning as meaning
 use Rattle.bsv_tree.specs.meaning.Meaning.{Calling}
-use Rattle.bsv_tree.specs.meaning.Values.{Value as Val, varying, word_of, Variables, begun}
+use Rattle.bsv_tree.specs.meaning.Values.{Value as Val, varying, word_of, Variables}
 use Rattle.bsv_tree.specs.tree.Contexts.{Context}
-use Rattle.bsv_tree.proofs.meaning.Closing.{Vars, choice_closed_is}
+use Rattle.bsv_tree.proofs.meaning.Closing.{Vars, closed_is}
 use Rattle.bsv_tree.proofs.meaning.Joins.{AllPlain, Ends, Finishes, Both, last_finishes, open_finishes, pend}
 use Rattle.bsv_tree.proofs.meaning.Labels.{labels_is}
 use Rattle.bsv_tree.proofs.meaning.Nodes.{alternative}
 use Rattle.bsv_tree.proofs.meaning.Operating.{V}
 use Rattle.bsv_tree.proofs.meaning.Same.{Shows, AllHold, IsLong, got, same_ok, shows_word, shows_within}
-use Rattle.bsv_tree.proofs.meaning.Statements.{Kept, everywhere}
+use Rattle.bsv_tree.proofs.meaning.Statements.{everywhere}
 use Rattle.bsv_tree.proofs.meaning.StaticCases.{Labels, AllLabels}
-use Rattle.bsv_tree.proofs.meaning.Staying.{close_stays}
+use Rattle.bsv_tree.proofs.meaning.Stays.{Stays, close_stays}
 use Rattle.bsv_tree.proofs.meaning.Tails.{Exactly, Tail}
 
 module _ (r : Results) (call : Caller) (calling : Calling) (site : Context) (x : Value) where
   -- the same variables are there
   pub open_stays : (vs : List Local) (w : Work) (cs : List carrying.Labelled) (ps : List Pending) (last : Acts) (c : Count) (ts : List Local) (v : Work)
-      → carrying.open_case call site x w ps cs last vs c ≡ Ok (ts, v) → Kept vs ts × (length ts ≡ length vs)
+      → carrying.open_case call site x w ps cs last vs c ≡ Ok (ts, v) → Stays vs ts
   unfolding carrying.open_case
   open_stays vs w [] ps last c ts v e =
       let g = got (last (frames.untouched vs) (no_steps c)) (λ o. carried.close vs w ps o.0 o.1) (ts, v) e in
@@ -133,4 +131,4 @@ module _ (r : Results) (call : Caller) (calling : Calling) (site : Context) (x :
         → Vars r Subject vs us p ws n k w long hold on ts v (control.choose (branches ms) mlast us)
     open_case_is p ws n k w long hold on cs ms h last mlast l ts v e =
         let T = arms_left cs ms h last mlast l w [] w.count ts v e in
-        choice_closed_is r Subject vs us p ws n k w long hold on T.more T.locals T.last (λ number arm left. control.arms number arm left (branches ms) mlast us) T.finishes ts v T.made
+        closed_is r Subject vs us p ws n k w long hold on T.more T.locals T.last (λ number arm left. control.arms number arm left (branches ms) mlast us) T.finishes ts v T.made

@@ -1,5 +1,5 @@
 -- A `case` of a static subject does what it means: the arm of the first equal label.
-use Rattle.std.proofs.Common.{◌≡◌, ℕ, Bool, true, false, not, ◌&&◌, List, [], ◌∷◌, length, Result, Ok, refl, sym, ap, ◌∙◌, subst}
+use Rattle.std.proofs.Common.{◌≡◌, ℕ, Bool, true, false, not, ◌&&◌, List, [], ◌∷◌, Result, Ok, refl, sym, ap, ◌∙◌, subst}
 use Rattle.std.specs.Prelude.{if◌then◌else◌}
 use Rattle.bsv_fail.specs.Given.{◌>>=◌}
 use Rattle.bsv_bits.specs.Words.{Bits}
@@ -27,7 +27,8 @@ use Rattle.bsv_tree.proofs.meaning.Labels.{AllCarry, labels_is, labels_static}
 use Rattle.bsv_tree.proofs.meaning.Operating.{V}
 use Rattle.bsv_tree.proofs.meaning.Pieces.{Alike, to_alike}
 use Rattle.bsv_tree.proofs.meaning.Same.{Shows, AllHold, IsLong, ran, Same, here, got, same_ok}
-use Rattle.bsv_tree.proofs.meaning.Statements.{Kept, kept_all, kept_then}
+use Rattle.bsv_tree.proofs.meaning.Statements.{kept_all, kept_then}
+use Rattle.bsv_tree.proofs.meaning.Stays.{Stays}
 
 module _ (r : Results) where
   -- an arm of a `case`: its labels carry what they mean, and its statements do what they mean
@@ -77,9 +78,9 @@ module _ (r : Results) (call : Caller) (calling : Calling) (site : Context) wher
 
   -- the same variables are there
   pub static_stays : (x : Value) (cs : List carrying.Labelled) (ms : List meaning.Labelled) → AllLabels r cs ms → (last : Acts) (mlast : control.Acts) → Exactly r last mlast
-      → (taken : Bool) (vs : List Local) (w : Work) (ts : List Local) (v : Work) → carrying.static_case call site x taken cs last vs w ≡ Ok (ts, v) → Kept vs ts × (length ts ≡ length vs)
+      → (taken : Bool) (vs : List Local) (w : Work) (ts : List Local) (v : Work) → carrying.static_case call site x taken cs last vs w ≡ Ok (ts, v) → Stays vs ts
   unfolding carrying.static_case carrying.static_arm
-  static_stays x [] [] h last mlast l true vs w ts v e = subst (λ (o : List Local × Work). Kept vs o.0 × (length o.0 ≡ length vs)) (same_ok (vs, w) (ts, v) e) (kept_all vs, refl)
+  static_stays x [] [] h last mlast l true vs w ts v e = subst (λ (o : List Local × Work). Stays vs o.0) (same_ok (vs, w) (ts, v) e) (kept_all vs, refl)
   static_stays x [] [] h last mlast l false vs w ts v e = (l.does.kept vs w ts v e, l.exact vs w ts v e)
   static_stays x (c ∷ cs) (m ∷ ms) h last mlast l taken vs w ts v e =
       let g = got (carrying.static_arm call site x taken c vs w) (λ o. carrying.static_case call site x o.0 cs last o.1 o.2) (ts, v) e in
@@ -87,12 +88,12 @@ module _ (r : Results) (call : Caller) (calling : Calling) (site : Context) wher
       let others = static_stays x cs ms h.1 last mlast l g.0.0 g.0.1 g.0.2 ts v g.2 in
       let one = by (not taken && values.is_true t.0.0) (at_count w (carrying.after_arm w.count t.0.1.count)) g.0 t.2 in
       (kept_then vs g.0.1 ts one.0 others.0, others.1 ∙ one.1) where
-        by : (b : Bool) (u : Work) (o : Bool × List Local × Work) → (if b then (carrying.inside c.arm vs u >>= after_it) else passed_by taken vs u) ≡ Ok o → Kept vs o.1 × (length o.1 ≡ length vs)
+        by : (b : Bool) (u : Work) (o : Bool × List Local × Work) → (if b then (carrying.inside c.arm vs u >>= after_it) else passed_by taken vs u) ≡ Ok o → Stays vs o.1
         by true u o q =
             let a = got (carrying.inside c.arm vs u) after_it o q in
-            subst (λ (o : Bool × List Local × Work). Kept vs o.1 × (length o.1 ≡ length vs)) (same_ok (true, a.0.0, a.0.1) o a.2)
+            subst (λ (o : Bool × List Local × Work). Stays vs o.1) (same_ok (true, a.0.0, a.0.1) o a.2)
             (h.0.arm.does.kept vs u a.0.0 a.0.1 a.1, h.0.arm.exact vs u a.0.0 a.0.1 a.1)
-        by false u o q = subst (λ (o : Bool × List Local × Work). Kept vs o.1 × (length o.1 ≡ length vs)) (same_ok (taken, vs, u) o q) (kept_all vs, refl)
+        by false u o q = subst (λ (o : Bool × List Local × Work). Stays vs o.1) (same_ok (taken, vs, u) o q) (kept_all vs, refl)
   static_stays x [] (m ∷ ms) h last mlast l taken vs w ts v e = absurd h
   static_stays x (c ∷ cs) [] h last mlast l taken vs w ts v e = absurd h
 
