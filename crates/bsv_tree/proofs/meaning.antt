@@ -27,3 +27,4 @@ mod Cases
 mod Bodies
 mod Elements
 mod Tries
+pub mod Sources
