@@ -1,4 +1,4 @@
 mod Fronts
 mod Meeting
 mod Numbered
-mod meaning
+pub mod meaning

@@ -12,8 +12,19 @@ mod Trees
 mod Statements
 mod Joins
 mod AfterChoice
+mod Tails
+mod Closing
+mod Stays
+mod Tests
 mod Chains
 mod ChainsKept
+mod Conditions
 mod Loops
+mod Labels
+mod StaticCases
+mod OpenCases
+mod Cases
+mod Bodies
 mod Elements
 mod Tries
+pub mod Sources

@@ -1,4 +1,4 @@
--- The arms of a choice: the words that the taken arm gives are the values of the variables in_order it.
+-- The arms of a choice: the words that the taken arm gives are the values of the variables after it.
 use Rattle.std.proofs.Common.{◌≡◌, ℕ, zero, suc, ◌+◌, Bool, true, false, not, ◌&&◌, ◌||◌, cond, List, [], ◌∷◌, ◌++◌, length, map, Some, Ok, refl, sym, ap, ap₂, ◌∙◌, subst, append-nil}
 use Rattle.std.specs.Prelude.{slice_get}
 use Rattle.bsv_bits.specs.Words.{Bits}
@@ -24,9 +24,9 @@ use Rattle.bsv_tree.specs.meaning.Values.{Value as Val, varying, is_true, word_o
 use Rattle.bsv_tree.specs.meaning.Evaluation as evaluation
 use Rattle.bsv_tree.specs.meaning.Evaluation.{Evaluation, Evaluated, yields, in_order, within}
 use Rattle.bsv_tree.specs.meaning.Control as control
-use Rattle.bsv_tree.proofs.meaning.Same.{Within, Shows, Holds, AllHold, all_hold_within, shows_word}
+use Rattle.bsv_tree.proofs.meaning.Same.{Within, Grows, Shows, Holds, AllHold, all_hold_within, shows_word}
 use Rattle.bsv_tree.proofs.meaning.Nodes.{alternative, alternative_is}
-use Rattle.bsv_tree.proofs.meaning.Statements.{Kept, Does}
+use Rattle.bsv_tree.proofs.meaning.Statements.{Kept, Does, DoesWhere, everywhere}
 
 -- ---- variables of arms
 
@@ -171,11 +171,11 @@ module _ (r : Results) (vs : List Local) (us : Variables) (given : List ℕ) (pl
     calls : body.calls ≡ d.calls
     needs : body.needs ≡ d.needs
 
-  arm_arrives : (a : Acts) (m : control.Acts) → Does r a m → (c : Count) (lv : List Local) (lw : Work) → a (frames.untouched vs) (no_steps c) ≡ Ok (lv, lw) → length lv ≡ length (frames.untouched vs)
-      → (q : Standing) (W : List Bits) (n k : ℕ) → length W ≡ c.slots → AllHold W vs us → Arrives lv (in_turn (map run lw.steps) r q W n k) (m (begun us) q n k)
+  arm_arrives : (R : List Bits → Type 0) (a : Acts) (m : control.Acts) → DoesWhere r R a m → (c : Count) (lv : List Local) (lw : Work) → a (frames.untouched vs) (no_steps c) ≡ Ok (lv, lw) → length lv ≡ length (frames.untouched vs)
+      → (q : Standing) (W : List Bits) (n k : ℕ) → length W ≡ c.slots → R W → AllHold W vs us → Arrives lv (in_turn (map run lw.steps) r q W n k) (m (begun us) q n k)
   unfolding in_turn
-  arm_arrives a m h c lv lw e as_long q W n k long hold =
-      let it = h.does q W n k (frames.untouched vs) (begun us) (no_steps c) long (hold_begun W vs us hold) lv lw e in
+  arm_arrives R a m h c lv lw e as_long q W n k long on hold =
+      let it = h.does q W n k (frames.untouched vs) (begun us) (no_steps c) long on (hold_begun W vs us hold) lv lw e in
       let body = in_turn (map run lw.steps) r q W n k in
       let d = m (begun us) q n k in
       let kept = h.kept (frames.untouched vs) (no_steps c) lv lw e in
@@ -189,39 +189,41 @@ module _ (r : Results) (vs : List Local) (us : Variables) (given : List ℕ) (pl
         needs = it.adds.needs;
       }
 
-  abbrev pub Finishes : ℕ → List Pending → List Step → List Local → ℕ → ℕ → Bool → Evaluation Variables → Type 0
-  Finishes slots more last lv number arm left m =
-      (q : Standing) (W : List Bits) (n k : ℕ) → length W ≡ slots → AllHold W vs us
+  -- from words where the variables stand, and what else is asked of words, the arms that are left run to what is told
+  abbrev pub Finishes : (List Bits → Type 0) → ℕ → List Pending → List Step → List Local → ℕ → ℕ → Bool → Evaluation Variables → Type 0
+  Finishes P slots more last lv number arm left m =
+      (q : Standing) (W : List Bits) (n k : ℕ) → length W ≡ slots → AllHold W vs us → P W
       → Ends (carried.assigned more lv) (arms_run (map run last) (map (given_by lv) given) (map alternative (map (arm_of given) more)) number arm (q.taken && left) r q W n k) (m q n k)
 
   -- the last arm
-  pub last_finishes : (a : Acts) (m : control.Acts) → Does r a m → (c : Count) (lv : List Local) (lw : Work) → a (frames.untouched vs) (no_steps c) ≡ Ok (lv, lw) → length lv ≡ length (frames.untouched vs)
-      → (number arm : ℕ) (left : Bool) → Finishes c.slots [] lw.steps lv number arm left (within number arm left (m (begun us)))
+  pub last_finishes : (P : List Bits → Type 0) (a : Acts) (m : control.Acts) → Does r a m → (c : Count) (lv : List Local) (lw : Work) → a (frames.untouched vs) (no_steps c) ≡ Ok (lv, lw) → length lv ≡ length (frames.untouched vs)
+      → (number arm : ℕ) (left : Bool) → Finishes P c.slots [] lw.steps lv number arm left (within number arm left (m (begun us)))
   unfolding arms_run
-  last_finishes a m h c lv lw e as_long number arm left q W n k long hold =
-      let it = arm_arrives a m h c lv lw e as_long (running.inside q (q.taken && left) number arm) W n k long hold in
+  last_finishes P a m h c lv lw e as_long number arm left q W n k long hold on =
+      let it = arm_arrives (λ V. Unit {0}) a m (everywhere r a m h) c lv lw e as_long (running.inside q (q.taken && left) number arm) W n k long tt hold in
       record { words = it.words; sized = it.sized; flagged = it.flagged; choices = it.choices; sites = it.sites; calls = it.calls; needs = it.needs }
 
-  -- in_order a condition that is not static: its arm, and the rest of the arms
+  -- after a condition that is not static: its arm, and the rest of the arms
   abbrev pub Both : ℕ → ℕ → Bool → control.Acts → (Bool → Evaluation Variables) → Val → Evaluation Variables
   Both number arm left m rest t =
       evaluation.◌>>=◌ (within number arm (left && is_true t) (m (begun us))) (λ xs. evaluation.◌>>=◌ (rest (left && not (is_true t))) (λ ys. yields (joined (is_true t) xs ys)))
 
-  module _ (a : Acts) (m : control.Acts) (does : Does r a m) (b c : Count) (at : Atom) (tw : Work) (lv : List Local) (lw : Work) (e : a (frames.untouched vs) (no_steps tw.count) ≡ Ok (lv, lw))
+  module _ (P : List Bits → Type 0) (grows : Grows P) (a : Acts) (at : Atom) (tw : Work) (lv : List Local) (lw : Work) (e : a (frames.untouched vs) (no_steps tw.count) ≡ Ok (lv, lw))
       (as_long : length lv ≡ length (frames.untouched vs)) (more : List Pending) (last : List Step) (last_vs : List Local) (number arm : ℕ) (left : Bool) (rest : Bool → Evaluation Variables)
-      (finishes : (l : Bool) → Finishes tw.count.slots more last last_vs number (arm + 1) l (rest l)) where
+      (finishes : (l : Bool) → Finishes P tw.count.slots more last last_vs number (arm + 1) l (rest l)) where
     unfoldable pub pend : Pending
     pend = carrying.pending (value.Open at) tw (lv, lw)
 
-    -- the condition was carried out from these words, and its word is that of what is told
-    pub open_finishes : (q : Standing) (W : List Bits) (n k : ℕ) (d : Evaluated Val) (u : Bits) → AllHold W vs us
+    -- the condition was carried out from these words, its word is that of what is told, and the arm does what it means from
+    -- words like those that are there then
+    pub open_finishes : (R : List Bits → Type 0) (m : control.Acts) → DoesWhere r R a m → (q : Standing) (W : List Bits) (n k : ℕ) (d : Evaluated Val) (u : Bits) → AllHold W vs us → P W
         → (let h = in_turn (map run tw.steps) r q W n k in
-        Within W h.words → length h.words ≡ tw.count.slots → running.word_of h.words at ≡ u → h.choices ≡ d.choices → h.sites ≡ d.sites → h.calls ≡ d.calls → h.needs ≡ d.needs
+        R h.words → Within W h.words → length h.words ≡ tw.count.slots → running.word_of h.words at ≡ u → h.choices ≡ d.choices → h.sites ≡ d.sites → h.calls ≡ d.calls → h.needs ≡ d.needs
         → Ends (carried.assigned (pend ∷ more) last_vs)
         (arms_run (map run last) (map (given_by last_vs) given) (map alternative (map (arm_of given) (pend ∷ more))) number arm (q.taken && left) r q W n k)
         (in_order d (Both number arm left m rest (varying u) q d.choices d.sites)))
     unfolding arms_run pend
-    open_finishes q W n k d u hold within' long word choices sites calls needs =
+    open_finishes R m does q W n k d u hold on there within' long word choices sites calls needs =
         let h = in_turn (map run tw.steps) r q W n k in
         let t = is_one u in
         let N = h.choices in
@@ -231,10 +233,10 @@ module _ (r : Results) (vs : List Local) (us : Variables) (given : List ℕ) (pl
         let inner : Standing = running.inside q l number arm in
         let body = in_turn (map run lw.steps) r inner h.words N K in
         let A = m (begun us) inner N K in
-        let second = arm_arrives a m does tw.count lv lw e as_long inner h.words N K long hold' in
+        let second = arm_arrives R a m does tw.count lv lw e as_long inner h.words N K long there hold' in
         let g = map (given_by lv) given in
         let R = arms_run (map run last) (map (given_by last_vs) given) (map alternative (map (arm_of given) more)) number (arm + 1) (q.taken && (left && not t)) r q h.words body.choices body.sites in
-        let third = finishes (left && not t) q h.words body.choices body.sites long hold' in
+        let third = finishes (left && not t) q h.words body.choices body.sites long hold' (grows W h.words within' on) in
         let B = rest (left && not t) q A.choices A.sites in
         let F : ℕ → Bool = carried.assigned more last_vs in
         let fourth : Ends F R B = subst (λ i. Ends F R (rest (left && not t) q i A.sites)) second.choices (subst (λ j. Ends F R (rest (left && not t) q body.choices j)) second.sites third) in

@@ -23,6 +23,10 @@ use Rattle.bsv_tree.specs.meaning.Evaluation.{Evaluated, Evaluation}
 abbrev pub Within : List Bits → List Bits → Type 0
 Within V W = (k : ℕ) (w : Bits) → slice_get V k ≡ Some w → slice_get W k ≡ Some w
 
+-- what holds of words also holds where there are more of them
+abbrev pub Grows : (List Bits → Type 0) → Type 0
+Grows P = (V W : List Bits) → Within V W → P V → P W
+
 abbrev pub Names : List Bits → Atom → Bits → Type 0
 Names V (atom.Word b) w = b ≡ w
 Names V (atom.Slot k) w = slice_get V k ≡ Some w

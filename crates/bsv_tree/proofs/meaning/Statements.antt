@@ -112,6 +112,15 @@ module _ (r : Results) where
     pub does : (p : Standing) (ws : List Bits) (n k : ℕ) (vs : List Local) (us : Variables) (w : Work) → IsLong r p ws n k w → AllHold (V r p ws n k w) vs us
         → (ts : List Local) (v : Work) → a vs w ≡ Ok (ts, v) → Same r p ws n k (λ W xs. AllHold W ts xs) w v (here r p ws n k w (m us))
 
+  -- the same of runs whose words are such
+  pub record DoesWhere (R : List Bits → Type 0) (a : Acts) (m : control.Acts) : Type 0 where
+    pub kept : (vs : List Local) (w : Work) (ts : List Local) (v : Work) → a vs w ≡ Ok (ts, v) → Kept vs ts
+    pub does : (p : Standing) (ws : List Bits) (n k : ℕ) (vs : List Local) (us : Variables) (w : Work) → IsLong r p ws n k w → R (V r p ws n k w) → AllHold (V r p ws n k w) vs us
+        → (ts : List Local) (v : Work) → a vs w ≡ Ok (ts, v) → Same r p ws n k (λ W xs. AllHold W ts xs) w v (here r p ws n k w (m us))
+
+  pub everywhere : (a : Acts) (m : control.Acts) → Does a m → DoesWhere (λ W. Unit {0}) a m
+  everywhere a m h = record { kept = h.kept; does = λ p ws n k vs us w long on hold ts v e. h.does p ws n k vs us w long hold ts v e }
+
   abbrev pub AllDo : List Acts → List control.Acts → Type 0
   AllDo [] [] = Unit {0}
   AllDo (a ∷ as') (m ∷ ms) = Does a m × AllDo as' ms
