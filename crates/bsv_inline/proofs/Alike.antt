@@ -37,14 +37,14 @@ module _ (h : TreeData) (n : ℕ) (e : Element) (f : IsFlat h n e) where
 
   -- the body does what the text means
   means_is : (r : Answers) (ws : List Bits) → length ws ≡ length f.source.ports → text_trace of_text.text r ws ≡ body_trace (kinds h) e r ws
-  means_is r ws many = sym (of_text.means r ws many) ∙ sym (f.trace r ws many)
+  means_is r ws many = sym (of_text.trace r ws many) ∙ sym (f.trace r ws many)
 
 outlines_from : (h : TreeData) (es : List Element) (k : ℕ) → AreFlat h k es → outlines_below h (k + length es) ≡ outlines_below h k ++ map outline es
 outlines_from h [] k f = (let at : k + 0 ≡ k = omega arith in ap (outlines_below h) at) ∙ sym (append-nil (outlines_below h k))
 outlines_from h (e ∷ es) k f =
     let at : k + suc (length es) ≡ k + 1 + length es = omega arith in
     let next : k + 1 ≡ suc k = omega arith in
-    let one : outline_at (element_text h k) ≡ outline e ∷ [] = ap outline_at (of_text h k e f.0).at ∙ ap (λ o. o ∷ []) (sym (outline_is h k e f.0)) in
+    let one : outline_at (element_text h k) ≡ outline e ∷ [] = ap outline_at (of_text h k e f.0).is ∙ ap (λ o. o ∷ []) (sym (outline_is h k e f.0)) in
     ap (outlines_below h) at ∙ outlines_from h es (k + 1) f.1
     ∙ ap (λ j. outlines_below h j ++ map outline es) next
     ∙ ap (λ os. (outlines_below h k ++ os) ++ map outline es) one
@@ -75,7 +75,7 @@ module _ (h : TreeData) (b : DesignData) (parts : b.parts ≡ parts_among h.inst
       let ports = (text_outline (of_text h n e f).text).ports in
       let ws = filled ports [] in
       let many : length ws ≡ length f.source.ports = filled_long ports ∙ ap (λ (ps : List Port). length ps) (ports_are h n e f) in
-      ap uses_at (of_text h n e f).at
+      ap uses_at (of_text h n e f).is
       ∙ ap (λ (t : Trace). map (λ (s : Site). s.target) t.sites) (means_is h n e f no_answers ws many)
       ∙ targets_of (kinds h) e no_answers ws
       ∙ ap calls_of (sym is)
@@ -98,7 +98,7 @@ module _ (h : TreeData) (b : DesignData) (parts : b.parts ≡ parts_among h.inst
   trace_is n e is r ws many =
       let f = flat_at h b.elements flat n e is in
       let as_many : length ws ≡ length f.source.ports = many ∙ ap (λ (ps : List Port). length ps) (ports_at n e is ∙ f.arguments) in
-      ap (λ o. trace_at o r ws) (of_text h n e f).at ∙ means_is h n e f r ws as_many
+      ap (λ o. trace_at o r ws) (of_text h n e f).is ∙ means_is h n e f r ws as_many
       ∙ ap (λ ks. body_trace ks e r ws) (sym kinds_is)
       ∙ ap (λ o. trace_of (kinds_of b) o r ws) (sym is)
 
