@@ -16,7 +16,7 @@ use Rattle.bsv_tree.specs.declared.values.Fault.{Fault}
 use Rattle.bsv_tree.specs.carrying.Values as values
 use Rattle.bsv_tree.specs.carrying.Values.{atom_of}
 use Rattle.bsv_tree.specs.carrying.Calls as calls
-use Rattle.bsv_tree.specs.tree.Contexts.{Context, Callee, made_of}
+use Rattle.bsv_tree.specs.tree.Contexts.{Context}
 use Rattle.bsv_tree.specs.carrying.Calls.{Caller, static_fault}
 use Rattle.bsv_tree.specs.tree.Methods.{part_method}
 use Rattle.bsv_tree.specs.carrying.Carrying as carrying

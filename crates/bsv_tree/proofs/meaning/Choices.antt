@@ -25,7 +25,7 @@ use Rattle.bsv_tree.specs.meaning.Evaluation.{Results, Standing, SiteCall, Need}
 use Rattle.bsv_tree.specs.carrying.Running.{Happening, Run, in_turn, run, words_of, nested_run}
 use Rattle.bsv_design.specs.design.Words.{is_one}
 use Rattle.bsv_tree.specs.carrying.Working.{tick, no_steps, at_count, give}
-use Rattle.bsv_tree.specs.meaning.Values.{constant_word, Value as Val, static, varying, word_of, varied, is_static, is_true, Variables}
+use Rattle.bsv_tree.specs.meaning.Values.{Value as Val, static, varying, word_of, varied, is_static, is_true, Variables}
 use Rattle.bsv_tree.specs.meaning.Evaluation as evaluation
 use Rattle.bsv_tree.specs.meaning.Evaluation.{Evaluation, Evaluated, yields, in_order, asked, within}
 use Rattle.bsv_tree.specs.meaning.Control.{chosen}

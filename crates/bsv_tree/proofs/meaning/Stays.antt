@@ -1,17 +1,15 @@
 -- After a choice the same variables are there.
-use Rattle.std.proofs.Common.{◌≡◌, ℕ, suc, Bool, true, false, List, [], ◌∷◌, ◌++◌, length, None, Ok, refl, sym, ap, ◌∙◌, subst, append_assoc, append-nil}
+use Rattle.std.proofs.Common.{◌≡◌, ℕ, suc, Bool, true, false, List, [], ◌∷◌, ◌++◌, length, Ok, refl, sym, ap, ◌∙◌, subst, append_assoc, append-nil}
 use Rattle.std.specs.Prelude.{if◌then◌else◌}
 use Rattle.bsv_fail.specs.Given.{◌>>=◌}
 use Rattle.bsv_bits.specs.Words.{Bits}
 use Rattle.bsv_tree.specs.declared.steps.Atom.TheVariants as atom
-use Rattle.bsv_tree.specs.declared.values.Value.{Value}
 use Rattle.bsv_tree.specs.declared.values.Value.TheVariants as value
 use Rattle.bsv_tree.specs.declared.values.Count.{Count}
 use Rattle.bsv_tree.specs.declared.values.Local.{Local}
 use Rattle.bsv_tree.specs.declared.values.Pending.{Pending}
 use Rattle.bsv_tree.specs.declared.values.Work.{Work}
 use Rattle.bsv_tree.specs.carrying.Arms as carried
-use Rattle.bsv_tree.specs.carrying.Values as values
 use Rattle.bsv_tree.specs.carrying.Arms.{joined_as, joined_from}
 use Rattle.bsv_tree.specs.carrying.Carrying as carrying
 use Rattle.bsv_tree.specs.carrying.Carrying.{Acts, Branched, Test}
