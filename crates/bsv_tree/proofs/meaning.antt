@@ -14,6 +14,7 @@ mod Joins
 mod AfterChoice
 mod Tails
 mod Closing
+mod Staying
 mod Stays
 mod Tests
 mod Chains
@@ -24,5 +25,6 @@ mod Labels
 mod StaticCases
 mod OpenCases
 mod Cases
+mod Bodies
 mod Elements
 mod Tries

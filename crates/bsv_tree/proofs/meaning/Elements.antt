@@ -1,4 +1,4 @@
--- The whole: rules and methods of the top do what they mean, where each statement does.
+-- The whole: rules and methods of the top do what they mean.
 use Rattle.std.proofs.Common.{◌≡◌, ℕ, zero, suc, Bool, true, false, ◌&&◌, List, [], ◌∷◌, ◌++◌, length, map, Option, Some, None, Ok, Err, refl, sym, ap, ap₂, ◌∙◌, subst, append_assoc, append-nil, length-append, ◌+◌}
 use Rattle.std.specs.Prelude.{slice_get, if◌then◌else◌}
 use Rattle.bsv_fail.specs.Given.{◌>>=◌}
@@ -42,7 +42,8 @@ use Rattle.bsv_tree.proofs.meaning.Operating.{V}
 use Rattle.bsv_tree.proofs.meaning.Nodes.{need_is}
 use Rattle.bsv_tree.proofs.meaning.Expressions.{Carries, CallsSame, held_at}
 use Rattle.bsv_tree.proofs.meaning.Trees.{ExprSame, expr_same}
-use Rattle.bsv_tree.proofs.meaning.Statements.{Does, AllDo, run_does, hold_new}
+use Rattle.bsv_tree.proofs.meaning.Statements.{AllDo, run_does, hold_new}
+use Rattle.bsv_tree.proofs.meaning.Bodies.{stmt_does}
 
 -- ---- the variables of a body as it begins
 
@@ -60,8 +61,7 @@ arguments_hold W (x ∷ xs) [] s = absurd s
 begins : (W : List Bits) (b : Bool) (xs : List Value) (ys : List Val) → AllShow W xs ys → AllHold W (carrying.arguments b xs) (meaning.arguments ys)
 begins W b xs ys s = (hold_new W (values.truth false) nothing b refl, arguments_hold W xs ys s)
 
-module _ (r : Results) (call : Caller) (calling : Calling) (calls_same : CallsSame r call calling) (site : Context)
-    (stmts : (s : Stmt) → Does r (carrying.stmt call site s) (meaning.stmt r calling site s)) where
+module _ (r : Results) (call : Caller) (calling : Calling) (calls_same : CallsSame r call calling) (site : Context) where
   -- ---- conditions
 
   module _ (p : Standing) (ws : List Bits) (n k : ℕ) (w : Work) (long : IsLong r p ws n k w) where
@@ -157,7 +157,7 @@ module _ (r : Results) (call : Caller) (calling : Calling) (calls_same : CallsSa
 
     all_do : (ss : List Stmt) → AllDo r (map (carrying.stmt call site) ss) (map (meaning.stmt r calling site) ss)
     all_do [] = tt
-    all_do (s ∷ ss) = (stmts s, all_do ss)
+    all_do (s ∷ ss) = (stmt_does r call calling calls_same site s, all_do ss)
 
     giving_is : (b : Body) (is_number : Bool) (xs : List Value) (ys : List Val) → AllShow (V r p ws n k w) xs ys → (x : Value) (v : Work)
         → carrying.giving call site b is_number xs w ≡ Ok (x, v) → One x v (meaning.body_of r calling site b ys)
@@ -196,22 +196,19 @@ module _ (r : Results) (call : Caller) (calling : Calling) (calls_same : CallsSa
 
 -- ---- calls in calls, and elements
 
--- what is left to be proved: of each depth of calls, each statement
-pub record Rest (r : Results) : Type 0 where
-  pub stmts : (d : ℕ) → CallsSame r (carrying.call_at d) (meaning.call_at r d) → (site : Context) (s : Stmt) → Does r (carrying.stmt (carrying.call_at d) site s) (meaning.stmt r (meaning.call_at r d) site s)
-
-pub calls_same_at : (r : Results) → Rest r → (d : ℕ) → CallsSame r (carrying.call_at d) (meaning.call_at r d)
+-- what is called does what it means, however deep
+pub calls_same_at : (r : Results) → (d : ℕ) → CallsSame r (carrying.call_at d) (meaning.call_at r d)
 unfolding CallsSame carrying.call_at meaning.call_at
-calls_same_at r h zero p ws n k site c xs ys w long s x v e = absurd cc
-calls_same_at r h (suc d) p ws n k site c xs ys w long s x v e =
-    called_is r (carrying.call_at d) (meaning.call_at r d) (calls_same_at r h d) site (h.stmts d (calls_same_at r h d) site) p ws n k c xs ys w long s x v e
+calls_same_at r zero p ws n k site c xs ys w long s x v e = absurd cc
+calls_same_at r (suc d) p ws n k site c xs ys w long s x v e =
+    called_is r (carrying.call_at d) (meaning.call_at r d) (calls_same_at r d) site p ws n k c xs ys w long s x v e
 
 -- a rule's steps, run, do what the rule means: the same calls, and the same needs
-pub rule_means : (r : Results) → Rest r → (site : Context) (c : Option Expr) (ss : List Stmt) (w : Work) → carrying.rule site c ss (no_steps (record { weight = 0; slots = 0 })) ≡ Ok w
+pub rule_means : (r : Results) (site : Context) (c : Option Expr) (ss : List Stmt) (w : Work) → carrying.rule site c ss (no_steps (record { weight = 0; slots = 0 })) ≡ Ok w
     → (let h = happening w.steps r [] in let m = meaning.rule r site c ss (record { taken = true; branches = [] }) 0 0 in (h.calls ≡ m.calls) × (h.needs ≡ m.needs))
 unfolding carrying.rule meaning.rule happening in_turn carrying.most_calls
-rule_means r h site c ss w e =
-    let it = rule_is r (carrying.call_at 64) (meaning.call_at r 64) (calls_same_at r h 64) site (h.stmts 64 (calls_same_at r h 64) site) (record { taken = true; branches = [] }) [] 0 0 c ss
+rule_means r site c ss w e =
+    let it = rule_is r (carrying.call_at 64) (meaning.call_at r 64) (calls_same_at r 64) site (record { taken = true; branches = [] }) [] 0 0 c ss
     (no_steps (record { weight = 0; slots = 0 })) refl w e in
     (it.adds.calls, it.adds.needs)
 
@@ -240,22 +237,22 @@ parameters_are [] W V (w ∷ ws) e l xs ys s c at o f = absurd cc
 parameters_are (p ∷ ps) W V [] e l xs ys s c at o f = absurd cc
 
 -- a method's steps, run with words for its arguments, do what it means, and its word is the value that is meant
-pub method_means : (r : Results) → Rest r → (site : Context) (m : Method) (weight : ℕ) (x : Value) (v : Work) → carrying.top_method site m weight ≡ Ok (x, v) → (ws : List Bits) → length ws ≡ length m.params
+pub method_means : (r : Results) (site : Context) (m : Method) (weight : ℕ) (x : Value) (v : Work) → carrying.top_method site m weight ≡ Ok (x, v) → (ws : List Bits) → length ws ≡ length m.params
     → (let h = happening v.steps r ws in let d = meaning.top_method r site m (map varying ws) (record { taken = true; branches = [] }) 0 0 in
     (h.calls ≡ d.calls) × (h.needs ≡ d.needs) × (running.word_of h.words (atom_of x) ≡ word_of d.gives))
 unfolding carrying.top_method meaning.top_method happening in_turn carrying.most_calls
-method_means r h site m weight x v e ws long =
+method_means r site m weight x v e ws long =
     let here' : Standing = record { taken = true; branches = [] } in
     let c : Count = record { weight = weight; slots = 0 } in
     let g = got (carrying.parameters_from [] m.params c) _ (x, v) e in
     let args = parameters_are m.params ws [] ws refl long [] [] tt c refl g.0 g.1 in
     let call = carrying.call_at 64 in
     let calling = meaning.call_at r 64 in
-    let same = calls_same_at r h 64 in
+    let same = calls_same_at r 64 in
     let w = no_steps g.0.1 in
     let l = got (carrying.asking call site None m.condition w) _ (x, v) g.2 in
-    let first = asking_is r call calling same site (h.stmts 64 same site) here' ws 0 0 w args.1 None m.condition l.0 l.1 in
-    let second = giving_is r call calling same site (h.stmts 64 same site) here' ws 0 0 l.0 first.long m.body false g.0.0 (map varying ws)
+    let first = asking_is r call calling same site here' ws 0 0 w args.1 None m.condition l.0 l.1 in
+    let second = giving_is r call calling same site here' ws 0 0 l.0 first.long m.body false g.0.0 (map varying ws)
     (all_show_within ws (V r here' ws 0 0 l.0) first.adds.within g.0.0 (map varying ws) args.0) x v l.2 in
     let it = bound r here' ws 0 0 (λ W y. Unit {0}) (λ W y. Shows W x y) w l.0 v (meaning.holds r calling site None m.condition) (λ y. meaning.body_of r calling site m.body (map varying ws)) first second in
     (it.adds.calls, it.adds.needs, shows_word (ran r here' ws 0 0 v).words x _ it.gives)

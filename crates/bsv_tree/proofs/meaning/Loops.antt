@@ -128,7 +128,7 @@ module _ (r : Results) (call : Caller) (site : Context) (test : Carry) (mt : Mea
               (subst (λ (o : List Local × Work). Vars o.0 w o.1 (yields us)) (same_ok (vs, at_count w d) (ts, v) q) (record { adds = it.adds; long = it.long; gives = it.gives }))
 
   -- the head of the loop, whose variable ends with it
-  loop_does : (first : Carry) (mf : Means) → Carries r first mf → (n : ℕ)
+  pub loop_does : (first : Carry) (mf : Means) → Carries r first mf → (n : ℕ)
       → Does r (λ vs w. first vs w >>= λ o. carrying.turns call site n test next at a (vs ++ frames.variable o.0 true ∷ []) o.1 >>= λ s. Ok (take (length vs) s.0, s.1))
       (λ us. evaluation.◌>>=◌ (mf us) (λ x. evaluation.◌>>=◌ (control.turns n mt mn at ma (us ++ variable x ∷ [])) (λ ys. yields (take (length us) ys))))
   unfolding Carries

@@ -150,7 +150,7 @@ module _ (r : Results) (call : Caller) (calling : Calling) (calls_same : CallsSa
   unfoldable pub ExprSame : Expr → Type 0
   ExprSame e = Matches r (carrying.expression call site e) (meaning.expression r calling site e)
 
-  pub PlaceSame : Place → Type 0
+  unfoldable pub PlaceSame : Place → Type 0
   PlaceSame p = Places r (carrying.place call site p) (meaning.place r calling site p)
 
   abbrev Child : Type 0
