@@ -75,4 +75,3 @@ module _ (r : Results) where
       finishes = λ given plain number arm left q W n k long hold on.
           subst (λ d. Ends r vs us given plain (carried.assigned t.more t.locals) (arms_run (map run t.last.steps) (map (carried.given_by t.locals) given) (map alternative (map (carried.arm_of given) t.more)) number arm (q.taken && left) r q W n k) d) (f number arm left q W n k long hold on) (t.finishes given plain number arm left q W n k (long ∙ sym e) hold on);
     }
-
