@@ -14,6 +14,7 @@ mod Joins
 mod AfterChoice
 mod Tails
 mod Closing
+mod Staying
 mod Stays
 mod Tests
 mod Chains

@@ -1,4 +1,4 @@
--- Behind a choice, a variable that an arm assigned is what the taken arm gives, and any other is as it was.
+-- After a choice, a variable that an arm assigned is what the taken arm gives, and any other is as it was.
 use Rattle.std.proofs.Common.{◌≡◌, ℕ, suc, ◌+◌, Bool, true, false, List, [], ◌∷◌, ◌++◌, length, Some, Ok, refl, sym, ap, ap₂, ◌∙◌, subst, arith, append_assoc, append-nil, length-append}
 use Rattle.std.specs.Prelude.{slice_get, if◌then◌else◌}
 use Rattle.bsv_fail.specs.Given.{◌>>=◌}

@@ -1,5 +1,5 @@
 -- Every statement does what it means.
-use Rattle.std.proofs.Common.{◌≡◌, ℕ, true, false, List, [], ◌∷◌, ◌-◌, length, map, take, Option, Some, None, Ok, refl, sym, ap, ◌∙◌, subst}
+use Rattle.std.proofs.Common.{ℕ, true, false, List, [], ◌∷◌, ◌-◌, length, map, Some, None, sym, ap, subst}
 use Rattle.bsv_fail.specs.Given.{◌>>=◌}
 use Rattle.bsv_types.specs.Expressions.{expr_type}
 use Rattle.bsv_types.specs.Kinds.{kind}
@@ -21,7 +21,6 @@ use Rattle.bsv_tree.specs.carrying.Carrying as carrying
 use Rattle.bsv_tree.specs.carrying.Carrying.{Carry, Acts, Branched, Labelled}
 use Rattle.bsv_tree.specs.carrying.Working.{counted}
 use Rattle.bsv_tree.specs.meaning.Evaluation.{Results, yields}
-use Rattle.bsv_tree.specs.meaning.Values.{Variables}
 use Rattle.bsv_tree.specs.meaning.Control as control
 use Rattle.bsv_tree.specs.meaning.Control.{Means}
 use Rattle.bsv_tree.specs.meaning.Meaning as meaning

@@ -16,7 +16,7 @@ use Rattle.bsv_tree.specs.declared.values.Fault.{Fault}
 use Rattle.bsv_tree.specs.carrying.Values as values
 use Rattle.bsv_tree.specs.carrying.Values.{atom_of}
 use Rattle.bsv_tree.specs.carrying.Calls as calls
-use Rattle.bsv_tree.specs.tree.Contexts.{Context, Callee, made_of}
+use Rattle.bsv_tree.specs.tree.Contexts.{Context}
 use Rattle.bsv_tree.specs.carrying.Calls.{Caller, static_fault}
 use Rattle.bsv_tree.specs.tree.Methods.{part_method}
 use Rattle.bsv_tree.specs.carrying.Carrying as carrying
@@ -101,7 +101,7 @@ module _ (r : Results) (call : Caller) (calling : Calling) (calls_same : CallsSa
     site_of : Bool → MethodPlace → List Bits → SiteCall
     site_of action m args = record { method = m; action = action; taken = p.taken; branches = p.branches; arguments = args }
 
-    -- of the arguments, and of the call that stands before them
+    -- of the arguments, and of the call that is before them
     pub read_called : (m : MethodPlace) (c : Count) → (xs : List Value) (i : Work)
         → Same r p (V r p ws n k w) (ran r p ws n k w).choices ((ran r p ws n k w).sites + 1) (λ W ys. AllShow W xs ys) (no_steps c) i (inner_at p ws n k w ms us)
         → (x : Value) (v : Work) → give (at_count w i.count) (step.Read m (map atom_of xs) i.steps) ≡ Ok (x, v)

@@ -1,9 +1,8 @@
 -- A chain of `if` gives what it means.
-use Rattle.std.proofs.Common.{◌≡◌, ℕ, ◌+◌, Bool, true, false, not, ◌&&◌, List, [], ◌∷◌, ◌++◌, length, map, None, Ok, refl, sym, ap, ap₂, ◌∙◌, subst, append_assoc, append-nil}
-use Rattle.std.specs.Prelude.{if◌then◌else◌, slice_get}
+use Rattle.std.proofs.Common.{◌≡◌, ℕ, ◌+◌, Bool, true, false, List, [], ◌∷◌, ◌++◌, Ok, refl, sym, ap, ap₂, ◌∙◌, subst, append_assoc}
+use Rattle.std.specs.Prelude.{if◌then◌else◌}
 use Rattle.bsv_fail.specs.Given.{◌>>=◌}
 use Rattle.bsv_bits.specs.Words.{Bits}
-use Rattle.bsv_tree.specs.declared.steps.Atom.{Atom}
 use Rattle.bsv_tree.specs.declared.steps.Step.{Step}
 use Rattle.bsv_tree.specs.declared.values.Value.{Value}
 use Rattle.bsv_tree.specs.declared.values.Value.TheVariants as value
@@ -17,24 +16,16 @@ use Rattle.bsv_tree.specs.carrying.Frames as frames
 use Rattle.bsv_tree.specs.carrying.Values as values
 use Rattle.bsv_tree.specs.carrying.Carrying as carrying
 use Rattle.bsv_tree.specs.carrying.Carrying.{Carry, Acts, Branched, Test}
-use Rattle.bsv_tree.specs.declared.steps.Choice.{roll-Choice}
-use Rattle.bsv_tree.specs.declared.steps.Step.TheOpen.{Step-F}
 use Rattle.bsv_tree.specs.meaning.Evaluation.{Results, Standing}
-use Rattle.bsv_tree.specs.carrying.Running.{Happening, Run, in_turn, run, arms_run, step_run, followed}
-use Rattle.bsv_tree.specs.carrying.Working.{no_steps, at_count, with_step}
-use Rattle.bsv_tree.specs.meaning.Values.{Value as Val, static, varying, is_static, is_true, word_of, Variables, begun, joined, restored}
+use Rattle.bsv_tree.specs.carrying.Running.{in_turn}
+use Rattle.bsv_tree.specs.carrying.Working.{no_steps, at_count}
+use Rattle.bsv_tree.specs.meaning.Values.{Value as Val, static, varying, is_static, is_true, Variables, begun}
 use Rattle.bsv_tree.specs.meaning.Evaluation as evaluation
 use Rattle.bsv_tree.specs.meaning.Evaluation.{Evaluation, Evaluated, yields, in_order, asked, within}
 use Rattle.bsv_tree.specs.meaning.Control as control
 use Rattle.bsv_tree.specs.meaning.Control.{Means}
-use Rattle.bsv_tree.proofs.meaning.Same.{Shows, AllHold, Same, IsLong, ran, here, got, same_ok, shows_word, within_append, all_hold_within}
-use Rattle.bsv_tree.proofs.meaning.Pieces.{ran_more}
+use Rattle.bsv_tree.proofs.meaning.Same.{Shows, AllHold, Same, IsLong, ran, here, got, same_ok}
 use Rattle.bsv_tree.proofs.meaning.Operating.{V}
-use Rattle.bsv_tree.proofs.meaning.AfterChoice.{after_choice}
-use Rattle.bsv_tree.proofs.meaning.Nodes.{alternative, choose_is, choice_is}
-use Rattle.bsv_tree.proofs.meaning.Expressions.{Carries}
-use Rattle.bsv_tree.proofs.meaning.Choices.{open_asked}
-use Rattle.bsv_tree.proofs.meaning.Statements.{Does, hold_long}
 use Rattle.bsv_tree.proofs.meaning.Joins.{AllPlain, Finishes}
 use Rattle.bsv_tree.proofs.meaning.Tails.{Exactly, Tail, last_tail, retold}
 use Rattle.bsv_tree.proofs.meaning.Closing.{alone_is, closed_is}

@@ -1,25 +1,17 @@
 -- After a chain of `if` the same variables are there.
-use Rattle.std.proofs.Common.{◌≡◌, ℕ, suc, Bool, true, false, List, [], ◌∷◌, ◌++◌, length, None, Ok, refl, sym, ap, ◌∙◌, subst, append_assoc, append-nil}
+use Rattle.std.proofs.Common.{◌≡◌, Bool, true, false, List, [], ◌∷◌, Ok, refl}
 use Rattle.std.specs.Prelude.{if◌then◌else◌}
 use Rattle.bsv_fail.specs.Given.{◌>>=◌}
-use Rattle.bsv_tree.specs.declared.steps.Atom.TheVariants as atom
-use Rattle.bsv_tree.specs.declared.values.Value.{Value}
-use Rattle.bsv_tree.specs.declared.values.Value.TheVariants as value
 use Rattle.bsv_tree.specs.declared.values.Count.{Count}
 use Rattle.bsv_tree.specs.declared.values.Local.{Local}
 use Rattle.bsv_tree.specs.declared.values.Pending.{Pending}
 use Rattle.bsv_tree.specs.declared.values.Work.{Work}
-use Rattle.bsv_tree.specs.carrying.Arms as carried
 use Rattle.bsv_tree.specs.carrying.Values as values
-use Rattle.bsv_tree.specs.carrying.Arms.{joined_as, joined_from}
 use Rattle.bsv_tree.specs.carrying.Carrying as carrying
 use Rattle.bsv_tree.specs.carrying.Carrying.{Acts, Branched, Test}
-use Rattle.bsv_tree.specs.carrying.Frames as frames
 use Rattle.bsv_tree.specs.meaning.Evaluation.{Results}
-use Rattle.bsv_tree.specs.carrying.Working.{no_steps, at_count, fresh}
 use Rattle.bsv_tree.specs.meaning.Control as control
-use Rattle.bsv_tree.proofs.meaning.Same.{got, same_ok}
-use Rattle.bsv_tree.proofs.meaning.Statements.{Kept}
+use Rattle.bsv_tree.proofs.meaning.Same.{got}
 use Rattle.bsv_tree.proofs.meaning.Tails.{Exactly}
 use Rattle.bsv_tree.proofs.meaning.Stays.{Stays, last_stays, exactly_keeps, where_keeps}
 use Rattle.bsv_tree.proofs.meaning.Tests.{AllTest, subject}

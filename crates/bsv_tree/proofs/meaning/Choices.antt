@@ -25,7 +25,7 @@ use Rattle.bsv_tree.specs.meaning.Evaluation.{Results, Standing, SiteCall, Need}
 use Rattle.bsv_tree.specs.carrying.Running.{Happening, Run, in_turn, run, words_of, nested_run}
 use Rattle.bsv_design.specs.design.Words.{is_one}
 use Rattle.bsv_tree.specs.carrying.Working.{tick, no_steps, at_count, give}
-use Rattle.bsv_tree.specs.meaning.Values.{constant_word, Value as Val, static, varying, word_of, varied, is_static, is_true, Variables}
+use Rattle.bsv_tree.specs.meaning.Values.{Value as Val, static, varying, word_of, varied, is_static, is_true, Variables}
 use Rattle.bsv_tree.specs.meaning.Evaluation as evaluation
 use Rattle.bsv_tree.specs.meaning.Evaluation.{Evaluation, Evaluated, yields, in_order, asked, within}
 use Rattle.bsv_tree.specs.meaning.Control.{chosen}
@@ -36,7 +36,7 @@ use Rattle.bsv_tree.proofs.meaning.Operating.{V}
 use Rattle.bsv_tree.proofs.meaning.Nodes.{alternative, alternative_is, choose_is, choice_is}
 use Rattle.bsv_tree.proofs.meaning.Expressions.{Matches, AllMatch, Carries}
 
--- what is told in_order a condition
+-- what is told after a condition
 abbrev pub Behind : Type 0
 Behind = Val → Evaluation Val
 
@@ -70,7 +70,7 @@ module _ (r : Results) where
         (q : Standing) (W : List Bits) (n k : ℕ) → length W ≡ slots → AllHold W vs us
         → Closes (nested_run (map run last) (g ∷ []) (map alternative more) r q W n k) (m q n k)
 
-    -- the choice that is left of a chain in_order these arms
+    -- the choice that is left of a chain after these arms
     record Tail (w : Work) (arms : List Arm) (slots : ℕ) (m : Evaluation Val) (x : Value) (v : Work) : Type 0 where
       more : List Arm
       last : List Step
@@ -80,7 +80,7 @@ module _ (r : Results) where
       made : give (at_count w count) (choice_of true (arms ++ more) last (gives ∷ [])) ≡ Ok (x, v)
       closes : Finishes slots more last gives m
 
-    -- the last value, in_order other arms
+    -- the last value, after other arms
     last_closes : (c : Carried) (m : Meant) → Matches r c m → (a : Count) (x : Value) (u : Work) → c.carry vs (no_steps a) ≡ Ok (x, u) → Finishes a.slots [] u.steps (atom_of x) (m.means us)
     unfolding nested_run Carries in_turn
     last_closes c m h a x u e q W n k long hold =
@@ -112,7 +112,7 @@ module _ (r : Results) where
     pick_word true a b = refl
     pick_word false a b = refl
 
-    -- in_order a condition that is not static: its arm, and the rest
+    -- after a condition that is not static: its arm, and the rest
     abbrev pub Branches : Evaluation Val → Evaluation Val → Behind
     Branches one rest t =
         if is_static t then (if is_true t then one else rest)
@@ -185,7 +185,7 @@ module _ (r : Results) where
       closes = λ q W n k long hold. subst (λ d. Closes (nested_run (map run t.last) (t.gives ∷ []) (map alternative t.more) r q W n k) d) (f q W n k long hold) (t.closes q W n k (long ∙ sym e) hold);
     }
 
-    -- a static condition: what is told is what is in_order it
+    -- a static condition: what is told is what is after it
     decided_told : (c : Carried) (m : Meant) → Matches r c m → (a : Count) (k : Constant) (tw : Work) → c.carry vs (no_steps a) ≡ Ok (value.Static k, tw) → (f : Behind)
         → (q : Standing) (W : List Bits) (n i : ℕ) → length W ≡ a.slots → AllHold W vs us → f (static k) q n i ≡ (evaluation.◌>>=◌ (asked (m.means us)) f) q n i
     unfolding Carries in_turn
@@ -247,7 +247,7 @@ module _ (r : Results) where
     tails (t ∷ ts) (y ∷ xs) [] zs h h' f w a as' c x v e = absurd h
     tails (t ∷ ts) (y ∷ xs) (m ∷ ms) [] h h' f w a as' c x v e = absurd h'
 
-    -- in_order a condition that is not static the value is not
+    -- after a condition that is not static the value is not
     open_varies : (c : Carried) (m : Meant) → Matches r c m → (a : Count) (at : Atom) (tw : Work) → c.carry vs (no_steps a) ≡ Ok (value.Open at, tw) → (one rest : Evaluation Val)
         → (q : Standing) (W : List Bits) (n k : ℕ) → length W ≡ a.slots → AllHold W vs us
         → (let d = (evaluation.◌>>=◌ (asked (m.means us)) (Branches one rest)) q n k in d.gives ≡ varying (word_of d.gives))

@@ -1,41 +1,30 @@
 -- The step of a choice that is not static, and the variables after it.
-use Rattle.std.proofs.Common.{◌≡◌, ℕ, ◌+◌, Bool, true, false, not, ◌&&◌, List, [], ◌∷◌, ◌++◌, length, map, None, Ok, refl, sym, ap, ap₂, ◌∙◌, subst, append_assoc, append-nil}
-use Rattle.std.specs.Prelude.{if◌then◌else◌, slice_get}
-use Rattle.bsv_fail.specs.Given.{◌>>=◌}
+use Rattle.std.proofs.Common.{◌≡◌, ℕ, ◌+◌, Bool, true, false, ◌&&◌, List, [], ◌++◌, length, map, Ok, refl, sym, ap, ◌∙◌, subst, append-nil}
+use Rattle.std.specs.Prelude.{slice_get}
 use Rattle.bsv_bits.specs.Words.{Bits}
-use Rattle.bsv_tree.specs.declared.steps.Atom.{Atom}
-use Rattle.bsv_tree.specs.declared.steps.Step.{Step}
-use Rattle.bsv_tree.specs.declared.values.Value.{Value}
-use Rattle.bsv_tree.specs.declared.values.Value.TheVariants as value
-use Rattle.bsv_tree.specs.declared.values.Constant.{Constant}
 use Rattle.bsv_tree.specs.declared.values.Count.{Count}
 use Rattle.bsv_tree.specs.declared.values.Local.{Local}
 use Rattle.bsv_tree.specs.declared.values.Pending.{Pending}
 use Rattle.bsv_tree.specs.declared.values.Work.{Work}
 use Rattle.bsv_tree.specs.carrying.Arms as carried
-use Rattle.bsv_tree.specs.carrying.Frames as frames
-use Rattle.bsv_tree.specs.carrying.Values as values
-use Rattle.bsv_tree.specs.carrying.Carrying as carrying
-use Rattle.bsv_tree.specs.carrying.Carrying.{Carry, Acts, Branched, Test}
+use Rattle.bsv_tree.specs.carrying.Carrying.{Acts}
 use Rattle.bsv_tree.specs.declared.steps.Choice.{roll-Choice}
 use Rattle.bsv_tree.specs.declared.steps.Step.TheOpen.{Step-F}
 use Rattle.bsv_tree.specs.meaning.Evaluation.{Results, Standing}
-use Rattle.bsv_tree.specs.carrying.Running.{Happening, Run, in_turn, run, arms_run, step_run, followed}
-use Rattle.bsv_tree.specs.carrying.Working.{no_steps, at_count, with_step}
-use Rattle.bsv_tree.specs.meaning.Values.{Value as Val, static, varying, is_static, is_true, word_of, Variables, begun, joined, restored}
+use Rattle.bsv_tree.specs.carrying.Running.{Happening, Run, run, arms_run, step_run, followed}
+use Rattle.bsv_tree.specs.carrying.Working.{at_count, with_step}
+use Rattle.bsv_tree.specs.meaning.Values.{Variables, restored}
 use Rattle.bsv_tree.specs.meaning.Evaluation as evaluation
 use Rattle.bsv_tree.specs.meaning.Evaluation.{Evaluation, Evaluated, yields, in_order, asked, within}
 use Rattle.bsv_tree.specs.meaning.Control as control
 use Rattle.bsv_tree.specs.meaning.Control.{Means}
-use Rattle.bsv_tree.proofs.meaning.Same.{AllHold, Same, IsLong, ran, here, got, same_ok, shows_word, within_append, all_hold_within}
+use Rattle.bsv_tree.proofs.meaning.Same.{AllHold, Same, IsLong, ran, here, got, same_ok, within_append, all_hold_within}
 use Rattle.bsv_tree.proofs.meaning.Pieces.{ran_more}
 use Rattle.bsv_tree.proofs.meaning.Operating.{V}
 use Rattle.bsv_tree.proofs.meaning.AfterChoice.{after_choice}
 use Rattle.bsv_tree.proofs.meaning.Nodes.{alternative, choose_is, choice_is}
-use Rattle.bsv_tree.proofs.meaning.Expressions.{Carries}
-use Rattle.bsv_tree.proofs.meaning.Choices.{open_asked}
-use Rattle.bsv_tree.proofs.meaning.Statements.{Does, DoesWhere, hold_long}
-use Rattle.bsv_tree.proofs.meaning.Joins.{AllPlain, Ends, Finishes, last_finishes}
+use Rattle.bsv_tree.proofs.meaning.Statements.{Does, hold_long}
+use Rattle.bsv_tree.proofs.meaning.Joins.{AllPlain, Finishes}
 
 and_true : (b : Bool) → (b && true) ≡ b
 and_true true = refl
@@ -91,4 +80,3 @@ module _ (r : Results) (P : List Bits → Type 0) (vs : List Local) (us : Variab
     alone_is a m h c s ts v e =
         let it = h.does p ws n k vs us (at_count w c) (long ∙ sym s) hold ts v e in
         record { adds = it.adds; long = it.long; gives = it.gives }
-

@@ -1,5 +1,5 @@
 -- The conditions of branches: an expression, and `matches`, which asks for the tag of a Maybe and binds its payload.
-use Rattle.std.proofs.Common.{◌≡◌, ℕ, suc, Bool, true, false, List, [], ◌∷◌, ◌++◌, ◌-◌, length, take, Option, Some, None, Ok, refl, sym, ap, ◌∙◌, subst, append-nil}
+use Rattle.std.proofs.Common.{◌≡◌, ℕ, suc, false, List, [], ◌∷◌, ◌++◌, ◌-◌, length, take, Some, None, Ok, refl, sym, ap, ◌∙◌, subst, append-nil}
 use Rattle.bsv_fail.specs.Given.{◌>>=◌}
 use Rattle.bsv_bits.specs.Words.{Bits}
 use Rattle.bsv_tree.specs.declared.steps.Atom.TheVariants as atom
@@ -26,7 +26,7 @@ use Rattle.bsv_tree.specs.meaning.Evaluation as evaluation
 use Rattle.bsv_tree.specs.meaning.Evaluation.{Evaluation, yields}
 use Rattle.bsv_tree.specs.meaning.Control as control
 use Rattle.bsv_tree.specs.meaning.Control.{Means}
-use Rattle.bsv_tree.proofs.meaning.Same.{Shows, AllHold, ran, IsLong, Same, here, got, same_ok, all_hold_within, shows_within}
+use Rattle.bsv_tree.proofs.meaning.Same.{Shows, AllHold, ran, Same, here, got, same_ok, all_hold_within, shows_within}
 use Rattle.bsv_tree.proofs.meaning.Pieces.{bound, given}
 use Rattle.bsv_tree.proofs.meaning.Operating.{V, sliced_is}
 use Rattle.bsv_tree.proofs.meaning.Expressions.{Carries}

@@ -68,7 +68,7 @@ module _ (r : Results) (call : Caller) (calling : Calling) (calls_same : CallsSa
     abbrev Evaluates_to : Work → Evaluation Val → Type 0
     Evaluates_to v m = Same r p ws n k (λ W y. Unit {0}) w v (here r p ws n k w m)
 
-    -- the step of a need, which stands before the steps of its condition
+    -- the step of a need, which is before the steps of its condition
     need_told : (name : Option MethodPlace) (m : Evaluation Val) (x : Value) (u : Work)
         → Same r p (V r p ws n k w) (ran r p ws n k w).choices (ran r p ws n k w).sites (λ W y. Shows W x y) (no_steps w.count) u (m p (ran r p ws n k w).choices (ran r p ws n k w).sites)
         → (let y = (m p (ran r p ws n k w).choices (ran r p ws n k w).sites).gives in (is_static y && is_true y) ≡ false)

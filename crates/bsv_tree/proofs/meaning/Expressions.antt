@@ -19,13 +19,12 @@ use Rattle.bsv_tree.specs.carrying.Values.{atom_of}
 use Rattle.bsv_tree.specs.tree.Widths.{width}
 use Rattle.bsv_tree.specs.carrying.Applied.{constant_of}
 use Rattle.bsv_tree.specs.carrying.Calls as calls
-use Rattle.bsv_tree.specs.tree.Contexts.{Context, Callee, made_of, place_in_body, is_integer}
+use Rattle.bsv_tree.specs.tree.Contexts.{Context, Callee, place_in_body}
 use Rattle.bsv_tree.specs.carrying.Calls.{Caller, static_fault, in_body, in_module}
-use Rattle.bsv_tree.specs.tree.Methods.{part_method}
 use Rattle.bsv_tree.specs.carrying.Carrying as carrying
 use Rattle.bsv_tree.specs.carrying.Carrying.{Carry, Carried, Placing}
 use Rattle.bsv_tree.specs.meaning.Evaluation.{Results, Standing}
-use Rattle.bsv_tree.specs.meaning.Values.{constant_word, Value as Val, static, truth, Variable, Variables}
+use Rattle.bsv_tree.specs.meaning.Values.{Value as Val, static, truth, Variable, Variables}
 use Rattle.bsv_tree.specs.meaning.Evaluation as evaluation
 use Rattle.bsv_tree.specs.meaning.Evaluation.{Evaluation, Evaluated, yields, decided, called}
 use Rattle.bsv_tree.specs.meaning.Control.{Means}

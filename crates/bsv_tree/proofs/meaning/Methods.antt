@@ -18,9 +18,8 @@ use Rattle.bsv_tree.specs.declared.values.Work.{Work}
 use Rattle.bsv_tree.specs.carrying.Values as values
 use Rattle.bsv_tree.specs.carrying.Values.{atom_of}
 use Rattle.bsv_tree.specs.carrying.Calls as calls
-use Rattle.bsv_tree.specs.tree.Contexts.{Context, Callee, made_of, is_integer}
+use Rattle.bsv_tree.specs.tree.Contexts.{Context, made_of}
 use Rattle.bsv_tree.specs.carrying.Calls.{Caller, static_fault}
-use Rattle.bsv_tree.specs.tree.Methods.{part_method}
 use Rattle.bsv_tree.specs.carrying.Carrying as carrying
 use Rattle.bsv_tree.specs.carrying.Carrying.{Carried, Placing}
 use Rattle.bsv_tree.specs.meaning.Evaluation.{Results, Standing}

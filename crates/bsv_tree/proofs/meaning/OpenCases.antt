@@ -29,7 +29,8 @@ use Rattle.bsv_tree.proofs.meaning.Operating.{V}
 use Rattle.bsv_tree.proofs.meaning.Same.{Shows, AllHold, IsLong, got, same_ok, shows_word, shows_within}
 use Rattle.bsv_tree.proofs.meaning.Statements.{everywhere}
 use Rattle.bsv_tree.proofs.meaning.StaticCases.{Labels, AllLabels}
-use Rattle.bsv_tree.proofs.meaning.Stays.{Stays, close_stays}
+use Rattle.bsv_tree.proofs.meaning.Staying.{close_stays}
+use Rattle.bsv_tree.proofs.meaning.Stays.{Stays}
 use Rattle.bsv_tree.proofs.meaning.Tails.{Exactly, Tail}
 
 module _ (r : Results) (call : Caller) (calling : Calling) (site : Context) (x : Value) where

@@ -136,7 +136,7 @@ module _ (r : Results) (p : Standing) (ws : List Bits) (n k : ℕ) where
   pub ran_more : (w : Work) (s : Step) (c : Count) → ran r p ws n k (with_step w s c) ≡ (let a = ran r p ws n k w in followed a (run s r p a.words a.choices a.sites))
   ran_more w s c = ap (λ xs. in_turn xs r p ws n k) (map-append run w.steps (s ∷ [])) ∙ one_more r p ws n k (map run w.steps) (run s)
 
-  -- a step whose run ends with one value more, in_order these words
+  -- a step whose run ends with one value more, after these words
   abbrev pub Pushes : Work → List Bits → Step → Bits → Evaluated Val → Type 0
   Pushes w W s b d = (d.gives ≡ varying b)
       × (run s r p (ran r p ws n k w).words (ran r p ws n k w).choices (ran r p ws n k w).sites ≡ record { words = W ++ b ∷ []; choices = d.choices; sites = d.sites; calls = d.calls; needs = d.needs })

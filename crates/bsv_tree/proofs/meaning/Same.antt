@@ -15,7 +15,7 @@ use Rattle.bsv_tree.specs.carrying.Running as running
 use Rattle.bsv_design.specs.design.Words as the_words
 use Rattle.bsv_tree.specs.meaning.Evaluation.{Results, Standing}
 use Rattle.bsv_tree.specs.carrying.Running.{Happening, Run, in_turn, run, followed, quiet}
-use Rattle.bsv_tree.specs.meaning.Values.{constant_word, Value as Val, static, varying, word_of, is_static, Variable, Variables}
+use Rattle.bsv_tree.specs.meaning.Values.{Value as Val, static, varying, word_of, is_static, Variable, Variables}
 use Rattle.bsv_tree.specs.meaning.Evaluation.{Evaluated, Evaluation}
 
 -- ---- values: a static one is itself, and an atom is the word that stands in its slot

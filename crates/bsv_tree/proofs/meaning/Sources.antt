@@ -19,7 +19,7 @@ use Rattle.bsv_tree.specs.declared.values.Fault.{Fault}
 use Rattle.bsv_tree.specs.declared.values.Value.{Value}
 use Rattle.bsv_tree.specs.declared.values.Work.{Work}
 use Rattle.bsv_tree.specs.tree.Contexts.{Context, made_of}
-use Rattle.bsv_tree.specs.tree.Elements.{Text, PlacedRule, role_of, port_of, method_text, top_methods, top_text, rule_in, standing_text, rule_text, rule_at, element_count, text_at, element_text, target_of}
+use Rattle.bsv_tree.specs.tree.Elements.{Text, PlacedRule, role_of, port_of, method_text, top_methods, top_text, rule_in, standing_text, rule_text, rule_at, element_count, text_at, element_text}
 use Rattle.bsv_tree.specs.tree.Trees.{TreeData}
 use Rattle.bsv_tree.specs.carrying.Carrying as carrying
 use Rattle.bsv_tree.specs.carrying.Running as running
@@ -27,11 +27,10 @@ use Rattle.bsv_tree.specs.carrying.Running.{Happening, happening}
 use Rattle.bsv_tree.specs.carrying.Sources.{method_done, rule_done, carried, source_at, element_at, step_trace}
 use Rattle.bsv_tree.specs.carrying.Values.{atom_of}
 use Rattle.bsv_tree.specs.carrying.Working.{Valued, no_steps}
-use Rattle.bsv_tree.specs.meaning.Evaluation.{Results, SiteCall, Need, Evaluated}
+use Rattle.bsv_tree.specs.meaning.Evaluation.{SiteCall, Need}
 use Rattle.bsv_tree.specs.meaning.Meaning as meaning
 use Rattle.bsv_tree.specs.meaning.Schemes.{site_of, demand_of, results, whole, text_trace, text_outline}
-use Rattle.bsv_tree.specs.meaning.Values.{Value as Val, Variables, varying, word_of}
-use Rattle.bsv_tree.proofs.meaning.Same.{same_ok}
+use Rattle.bsv_tree.specs.meaning.Values.{Value as Val, varying, word_of}
 use Rattle.bsv_tree.proofs.meaning.Elements.{rule_means, method_means}
 
 -- ---- the text of one element

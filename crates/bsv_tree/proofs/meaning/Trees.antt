@@ -15,7 +15,6 @@ use Rattle.bsv_tree.specs.declared.values.Value.{Value}
 use Rattle.bsv_tree.specs.declared.values.Value.TheVariants as value
 use Rattle.bsv_tree.specs.declared.values.Constant.TheVariants as constant
 use Rattle.bsv_tree.specs.declared.values.Count.{Count}
-use Rattle.bsv_tree.specs.declared.values.Local.{Local}
 use Rattle.bsv_tree.specs.declared.values.Work.{Work}
 use Rattle.bsv_tree.specs.declared.values.Fault.{Fault}
 use Rattle.bsv_tree.specs.carrying.Values as values

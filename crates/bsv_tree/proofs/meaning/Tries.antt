@@ -101,7 +101,7 @@ loop : (turns 9 (below (at 1) (whole 3)) (plus (at 1) (whole 1)) 1 (sets 0 (plus
 unfolding turns here word computing.between integers.ranged
 loop = refl
 
--- ---- the call in an arm that is not taken is yields, and not taken
+-- ---- the call in an arm that is not taken is met, and not taken
 untaken : (told (chain (asking (below (reads 5) (four 4)) (writes 1 (four 9)) ∷ []) (or_none None))).calls
     ≡ site 5 0 false true [] [] ∷ site 1 1 true false (arm 0 0 ∷ []) (word 9 ∷ []) ∷ []
 unfolding told chain arms look here word computing.between
@@ -115,7 +115,7 @@ elses : (told (chain (asking (below (reads 5) (four 4)) (writes 1 (four 9)) ∷ 
 unfolding told chain arms look here word computing.between
 elses = refl
 
--- ---- a static condition is decided, and the other arm is not yields
+-- ---- a static condition is decided, and the other arm is not met
 decided_at_once : (told (chain (asking (below (four 5) (four 4)) (writes 1 (four 9)) ∷ []) (or_none (Some (writes 7 (four 7)))))).calls
     ≡ site 7 1 true true [] (word 7 ∷ []) ∷ []
 unfolding told chain arms look here word computing.between
