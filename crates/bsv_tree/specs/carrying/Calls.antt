@@ -4,7 +4,7 @@ use Rattle.std.specs.Prelude.{ℕ, false, List, [], take, slice_get, Option, Som
 use Rattle.bsv_types.specs.declared.definitions.Function.{Function}
 use Rattle.bsv_types.specs.declared.modules.Module.{Module}
 use Rattle.bsv_types.specs.declared.modules.Method.{Method}
-use Rattle.bsv_types.specs.Kinds.{integer, kind}
+use Rattle.bsv_types.specs.Kinds.{kind}
 use Rattle.bsv_tree.specs.declared.statics.Binding.{Binding}
 use Rattle.bsv_tree.specs.declared.statics.Static.{Static}
 use Rattle.bsv_tree.specs.declared.statics.Static.TheVariants as static

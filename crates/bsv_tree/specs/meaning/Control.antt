@@ -1,5 +1,6 @@
--- Arms (Bluespec reference guide, "Conditional statements", "Conditional expressions"). A static condition is decided, and
--- an arm that it rules out is not yields. Of any other condition both arms are met, and one of them is taken.
+-- Choices and loops (Bluespec reference guide, "Conditional statements", "Conditional expressions", "Loop statements"). A
+-- static condition is decided, and an arm that it rules out is not met. Of any other condition both arms are met, and one
+-- of them is taken.
 use Rattle.std.specs.Prelude.{ℕ, zero, suc, ◌+◌, Bool, true, not, ◌&&◌, List, [], ◌∷◌, ◌++◌, take, length, Option, Some, None, if◌then◌else◌}
 use Rattle.bsv_tree.specs.meaning.Values.{Value, Variables, is_static, is_true, varied, nothing, assign, begun, joined, restored}
 use Rattle.bsv_tree.specs.meaning.Evaluation.{Evaluation, ◌>>=◌, yields, decided, asked, choice, within}
