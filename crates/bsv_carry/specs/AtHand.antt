@@ -96,9 +96,6 @@ bits_between c = applying.bits_between (shapes c) (fault_of c)
 abbrev pub two_operands : Carrier → Op → Kind → Value → Value → Work → Valued
 two_operands c = applying.two_operands (shapes c) (fault_of c)
 
-abbrev pub chained : Carrier → List Op → Kind → Value → List Value → Work → Valued
-chained c = applying.chained (shapes c) (fault_of c)
-
 abbrev pub negated : Carrier → Kind → Value → Work → Valued
 negated c = applying.negated (shapes c) (fault_of c)
 
@@ -118,17 +115,11 @@ part p = record { high = p.high; low = p.low; inner = p.inner.now }
 abbrev pub field_part : Carrier → List Field → ℕ → operated.BitRange
 field_part c fs number = operated.field_part (shapes c) (fault_of c) fs number (slice_get fs number)
 
-abbrev pub part_of : Carrier → ℕ → List Field → Op → List Value → Result (operated.BitRange × List Value) Fault
-part_of c = operated.part_of (shapes c) (fault_of c)
-
-abbrev pub suffixed : Carrier → ℕ → List Field → List Op → Value → List Value → Work → Valued
-suffixed c = operated.suffixed (shapes c) (fault_of c)
-
 abbrev pub single : Carrier → Kind → Kind → Op → Value → List Value → Work → Valued
 single c = operated.single (shapes c) (fault_of c)
 
-abbrev pub applied_to : Carrier → Kind → Kind → List Op → Value → List Value → Work → Valued
-applied_to c = operated.applied_to (shapes c) (fault_of c)
+abbrev pub not_built : Carrier → Kind → Kind → List Op → Value → List Value → Work → Valued
+not_built c = operated.not_built (shapes c) (fault_of c)
 
 abbrev pub applied : Carrier → Kind → Kind → List Op → List Value → Work → Valued
 applied c = operated.applied (shapes c) (fault_of c)
@@ -181,6 +172,18 @@ all c es = carrying.all (expressions c es)
 
 abbrev pub apply : Carrier → Kind → List Op → List Expr → Carry
 apply c t os es = carrying.apply (caller c) (site c) t os (expressions c es)
+
+abbrev pub in_turn : Carrier → Kind → List Op → List Expr → Carry
+in_turn c k os es = carrying.in_turn (shapes c) (fault_of c) k os (expressions c es)
+
+abbrev pub chained : Carrier → List Op → Kind → Value → List Expr → Carry
+chained c os k x es = carrying.chained (shapes c) (fault_of c) os k x (expressions c es)
+
+abbrev pub part_of : Carrier → ℕ → List Field → Op → List Expr → List Local → Work → Result (operated.BitRange × List Carried × Work) Fault
+part_of c bits fs o es = carrying.part_of (shapes c) (fault_of c) bits fs o (expressions c es)
+
+abbrev pub suffixed : Carrier → ℕ → List Field → List Op → Value → List Expr → Carry
+suffixed c bits fs os x es = carrying.suffixed (shapes c) (fault_of c) bits fs os x (expressions c es)
 
 abbrev pub function : Carrier → ℕ → List Expr → Carry
 function c number es = carrying.function (caller c) (site c) number (expressions c es)
