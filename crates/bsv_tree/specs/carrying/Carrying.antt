@@ -1,6 +1,6 @@
 -- Carrying out: what is static is decided, loops are unrolled, and calls are in their place (Bluespec reference
 -- guide, "Static elaboration"). What is left are steps.
-use Rattle.std.specs.Prelude.{ℕ, zero, suc, ◌-◌, nat_lt, Bool, true, false, not, ◌&&◌, pos, List, [], ◌∷◌, ◌++◌, map, take, length, slice_get, Option, Some, None, Result, Ok, Err, if◌then◌else◌}
+use Rattle.std.specs.Prelude.{ℕ, zero, suc, ◌+◌, ◌-◌, nat_lt, Bool, true, false, not, ◌&&◌, pos, List, [], ◌∷◌, ◌++◌, map, take, length, slice_get, Option, Some, None, Result, Ok, Err, if◌then◌else◌}
 use Rattle.bsv_fail.specs.Given.{◌>>=◌}
 use Rattle.bsv_bits.specs.declared.operator.Operator.TheVariants as operator
 use Rattle.bsv_types.specs.declared.operators.Op.{Op}
