@@ -1,5 +1,5 @@
 -- For each method of the code the definition of its name, with what is at hand in front.
-use Rattle.std.specs.Prelude.{ℕ, Bool, false, List, [], map, slice_get, Option, Some, None, option_map, Result, Ok}
+use Rattle.std.specs.Prelude.{ℕ, Bool, false, List, [], ◌∷◌, map, slice_get, Option, Some, None, option_map, Result, Ok}
 use Rattle.bsv_fail.specs.Given.{◌>>=◌}
 use Rattle.bsv_types.specs.declared.definitions.Body.{Body}
 use Rattle.bsv_types.specs.declared.definitions.Field.{Field}
@@ -7,6 +7,7 @@ use Rattle.bsv_types.specs.declared.expressions.Expr.{Expr}
 use Rattle.bsv_types.specs.declared.expressions.Place.{Place}
 use Rattle.bsv_types.specs.declared.modules.Method.{Method}
 use Rattle.bsv_types.specs.declared.operators.Op.{Op}
+use Rattle.bsv_types.specs.declared.operators.Op.TheVariants as op
 use Rattle.bsv_types.specs.declared.statements.Branch.{Branch}
 use Rattle.bsv_types.specs.declared.statements.CaseArm.{CaseArm}
 use Rattle.bsv_types.specs.declared.statements.Condition.{Condition}
@@ -181,6 +182,11 @@ chained c os k x es = carrying.chained (shapes c) (fault_of c) os k x (expressio
 
 abbrev pub part_of : Carrier → ℕ → List Field → Op → List Expr → List Local → Work → Result (operated.BitRange × List Carried × Work) Fault
 part_of c bits fs o es = carrying.part_of (shapes c) (fault_of c) bits fs o (expressions c es)
+
+-- the operands that are left after a suffix, of which an index is one
+abbrev pub operands_after : Op → List Expr → List Expr
+operands_after op.Index (e ∷ es) = es
+operands_after o es = es
 
 abbrev pub suffixed : Carrier → ℕ → List Field → List Op → Value → List Expr → Carry
 suffixed c bits fs os x es = carrying.suffixed (shapes c) (fault_of c) bits fs os x (expressions c es)

@@ -1,3 +1,4 @@
+ghost use Rattle.std.specs.Prelude.{◌≡◌, IfOk};
 ghost use Rattle.bsv_fail.specs.Given.{Gives, GivesBy};
 ghost use Rattle.bsv_types.specs.Kinds.{kind};
 ghost use Rattle.bsv_carry.specs.AtHand as spec;
@@ -109,8 +110,9 @@ impl<'a> Carrier<'a> {
         locals: &[Local],
         work: Work,
     ) -> Got<(BitRange<'a>, &'b [Expr], Work)>
-        ensures { GivesBy (λ r. (spec.part r.0, spec.expressions self.entry r.1.now, r.2)) result
-            (spec.part_of self.entry bits fields.now op operands.now locals.now work) }
+        ensures part { GivesBy (λ r. (spec.part r.0, spec.expressions self.entry r.1.now, r.2))
+            result (spec.part_of self.entry bits fields.now op operands.now locals.now work) }
+        ensures left { IfOk result (λ r. r.1.now ≡ spec.operands_after op operands.now) }
     {
         match op {
             Op::Index => match operands.split_first() {
@@ -141,7 +143,7 @@ impl<'a> Carrier<'a> {
 
     /// Suffixes, each one applied as soon as its index was carried out.
     #[cycle(carry)]
-    #[tactic(auto, unfolding(bsv_tree::specs::carrying::Carrying::suffixed))]
+    #[tactic(auto, using(crate::proofs::Depths::suffixes), unfolding(bsv_tree::specs::carrying::Carrying::suffixed))]
     fn suffixed(
         self,
         from: &Ty,
