@@ -1,5 +1,5 @@
 -- How deep the tree is that is left to carry out, and how many calls in calls.
-use Rattle.std.proofs.Common.{◌≡◌, ℕ, zero, suc, ◌+◌, ◌-◌, ◌*◌, ◌<◌, ◌≤◌, List, map, Option, Some, option_map, arith, suc-mul, ap}
+use Rattle.std.proofs.Common.{◌≡◌, ℕ, zero, suc, ◌+◌, ◌-◌, ◌*◌, ◌<◌, ◌≤◌, List, [], ◌∷◌, map, Option, Some, option_map, arith, suc-mul, ap}
 use Rattle.std.specs.Prelude.{slice_get}
 use Rattle.bsv_lemmas.proofs.Sums.{total, or_zero, within}
 use Rattle.bsv_types.specs.declared.definitions.Body.{Body}
@@ -10,6 +10,8 @@ use Rattle.bsv_types.specs.declared.expressions.Expr.TheOpen.{Expr-F, Place-F}
 use Rattle.bsv_types.specs.declared.expressions.Place.{Place, fold-Place}
 use Rattle.bsv_types.specs.declared.modules.Method.{Method}
 use Rattle.bsv_types.specs.declared.modules.Module.{Module}
+use Rattle.bsv_types.specs.declared.operators.Op.{Op}
+use Rattle.bsv_types.specs.declared.operators.Op.TheVariants as op
 use Rattle.bsv_types.specs.declared.statements.Branch.{Branch, fold-Branch}
 use Rattle.bsv_types.specs.declared.statements.CaseArm.{CaseArm, fold-CaseArm}
 use Rattle.bsv_types.specs.declared.statements.Condition.{Condition}
@@ -19,6 +21,7 @@ use Rattle.bsv_types.specs.declared.statements.Stmt.{Stmt, fold-Stmt}
 use Rattle.bsv_types.specs.declared.statements.Stmt.TheOpen.{Stmt-F, Branch-F, CaseArm-F}
 use Rattle.bsv_types.specs.declared.typed.Typed.{Typed}
 use Rattle.bsv_carry.specs.declared.carrier.Carrier.{Carrier}
+use Rattle.bsv_carry.specs.AtHand.{operands_after}
 
 -- ---- sizes
 
@@ -130,5 +133,13 @@ function_within t k f is = omega (arith, within function_size t.functions k f is
 
 pub method_within : (t : Typed) (k n : ℕ) (m : Module) (x : Method) → slice_get t.modules k ≡ Some m → slice_get m.methods n ≡ Some x → method_size x ≤ world_size t
 method_within t k n m x at is = omega (arith, within module_size t.modules k m at, within method_size m.methods n x is)
+
+-- no more operands are left after a suffix
+pub operands_within : (o : Op) (es : List Expr) → exprs_size (operands_after o es) ≤ exprs_size es
+operands_within op.Index [] = omega arith
+operands_within op.Index (e ∷ es) = omega arith
+operands_within o es = omega arith
+
+pub ruleset suffixes = (operands_within)
 
 pub ruleset falls = (level_down, function_within, method_within)

@@ -6,6 +6,7 @@ mod Instances
 mod Operators
 mod Arms
 mod Choices
+mod InTurn
 mod Calls
 mod Expressions
 mod Branches

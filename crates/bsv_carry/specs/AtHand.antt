@@ -1,5 +1,5 @@
 -- For each method of the code the definition of its name, with what is at hand in front.
-use Rattle.std.specs.Prelude.{ℕ, Bool, false, List, [], map, slice_get, Option, Some, None, option_map, Result, Ok}
+use Rattle.std.specs.Prelude.{ℕ, Bool, false, List, [], ◌∷◌, map, slice_get, Option, Some, None, option_map, Result, Ok}
 use Rattle.bsv_fail.specs.Given.{◌>>=◌}
 use Rattle.bsv_types.specs.declared.definitions.Body.{Body}
 use Rattle.bsv_types.specs.declared.definitions.Field.{Field}
@@ -7,6 +7,7 @@ use Rattle.bsv_types.specs.declared.expressions.Expr.{Expr}
 use Rattle.bsv_types.specs.declared.expressions.Place.{Place}
 use Rattle.bsv_types.specs.declared.modules.Method.{Method}
 use Rattle.bsv_types.specs.declared.operators.Op.{Op}
+use Rattle.bsv_types.specs.declared.operators.Op.TheVariants as op
 use Rattle.bsv_types.specs.declared.statements.Branch.{Branch}
 use Rattle.bsv_types.specs.declared.statements.CaseArm.{CaseArm}
 use Rattle.bsv_types.specs.declared.statements.Condition.{Condition}
@@ -96,9 +97,6 @@ bits_between c = applying.bits_between (shapes c) (fault_of c)
 abbrev pub two_operands : Carrier → Op → Kind → Value → Value → Work → Valued
 two_operands c = applying.two_operands (shapes c) (fault_of c)
 
-abbrev pub chained : Carrier → List Op → Kind → Value → List Value → Work → Valued
-chained c = applying.chained (shapes c) (fault_of c)
-
 abbrev pub negated : Carrier → Kind → Value → Work → Valued
 negated c = applying.negated (shapes c) (fault_of c)
 
@@ -118,17 +116,11 @@ part p = record { high = p.high; low = p.low; inner = p.inner.now }
 abbrev pub field_part : Carrier → List Field → ℕ → operated.BitRange
 field_part c fs number = operated.field_part (shapes c) (fault_of c) fs number (slice_get fs number)
 
-abbrev pub part_of : Carrier → ℕ → List Field → Op → List Value → Result (operated.BitRange × List Value) Fault
-part_of c = operated.part_of (shapes c) (fault_of c)
-
-abbrev pub suffixed : Carrier → ℕ → List Field → List Op → Value → List Value → Work → Valued
-suffixed c = operated.suffixed (shapes c) (fault_of c)
-
 abbrev pub single : Carrier → Kind → Kind → Op → Value → List Value → Work → Valued
 single c = operated.single (shapes c) (fault_of c)
 
-abbrev pub applied_to : Carrier → Kind → Kind → List Op → Value → List Value → Work → Valued
-applied_to c = operated.applied_to (shapes c) (fault_of c)
+abbrev pub not_built : Carrier → Kind → Kind → List Op → Value → List Value → Work → Valued
+not_built c = operated.not_built (shapes c) (fault_of c)
 
 abbrev pub applied : Carrier → Kind → Kind → List Op → List Value → Work → Valued
 applied c = operated.applied (shapes c) (fault_of c)
@@ -181,6 +173,23 @@ all c es = carrying.all (expressions c es)
 
 abbrev pub apply : Carrier → Kind → List Op → List Expr → Carry
 apply c t os es = carrying.apply (caller c) (site c) t os (expressions c es)
+
+abbrev pub in_turn : Carrier → Kind → List Op → List Expr → Carry
+in_turn c k os es = carrying.in_turn (shapes c) (fault_of c) k os (expressions c es)
+
+abbrev pub chained : Carrier → List Op → Kind → Value → List Expr → Carry
+chained c os k x es = carrying.chained (shapes c) (fault_of c) os k x (expressions c es)
+
+abbrev pub part_of : Carrier → ℕ → List Field → Op → List Expr → List Local → Work → Result (operated.BitRange × List Carried × Work) Fault
+part_of c bits fs o es = carrying.part_of (shapes c) (fault_of c) bits fs o (expressions c es)
+
+-- the operands that are left after a suffix, of which an index is one
+abbrev pub operands_after : Op → List Expr → List Expr
+operands_after op.Index (e ∷ es) = es
+operands_after o es = es
+
+abbrev pub suffixed : Carrier → ℕ → List Field → List Op → Value → List Expr → Carry
+suffixed c bits fs os x es = carrying.suffixed (shapes c) (fault_of c) bits fs os x (expressions c es)
 
 abbrev pub function : Carrier → ℕ → List Expr → Carry
 function c number es = carrying.function (caller c) (site c) number (expressions c es)

@@ -14,7 +14,7 @@ use std::alloc::Global;
 pub(crate) struct Carrier<'a> {
     pub alloc: Global,
     pub typed: &'a Typed,
-    /// The instances that were made so far.
+    /// The instances whose methods may be called.
     pub instances: &'a [Instance],
     /// The module whose text is carried out, by its place.
     pub module: u32,

@@ -1,5 +1,4 @@
 ghost use Rattle.bsv_fail.specs.Given.{Gives};
-ghost use Rattle.bsv_types.specs.Kinds.{kind};
 ghost use Rattle.bsv_carry.specs.AtHand as spec;
 
 use crate::carrier::Carrier;
@@ -8,7 +7,7 @@ use bsv_tree::{
     Arm, Choice, Count, Counted, Got, Local, Value, Valued, Work, after_arm, at_count, counted,
     is_static, is_true, loosened, no_steps, tick, value_choice, with_value_arm,
 };
-use bsv_types::{Expr, Op, Place, Ty};
+use bsv_types::{Expr, Place, Ty};
 use sqlite_items::Items;
 
 impl Carrier<'_> {
@@ -68,19 +67,6 @@ impl Carrier<'_> {
             rest = after;
         }
         Ok((values, work))
-    }
-
-    /// Operators and their operands.
-    #[cycle(carry)]
-    #[tactic(auto, unfolding(bsv_tree::specs::carrying::Carrying::apply))]
-    fn apply(self, ty: &Ty, ops: &[Op], operands: &[Expr], locals: &[Local], work: Work) -> Valued
-        ensures { Gives result
-            (spec.apply self.entry (kind ty.now) ops.now operands.now locals.now work) }
-    {
-        let work = counted(work, ops.len())?;
-        let (values, work) = self.all(operands, locals, work)?;
-        let from = self.first_type(ty, operands);
-        self.applied(ty, from, ops, values.as_slice(), work)
     }
 
     /// A call of a function.

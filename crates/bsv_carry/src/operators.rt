@@ -135,36 +135,6 @@ impl Carrier<'_> {
         }
     }
 
-    /// Operators of one level, from the left.
-    #[tactic(auto, unfolding(bsv_tree::specs::carrying::Applied::chained))]
-    pub(crate) fn chained(
-        self,
-        ops: &[Op],
-        ty: &Ty,
-        first: Value,
-        others: &[Value],
-        work: Work,
-    ) -> Valued
-        ensures { Gives result
-            (spec.chained self.entry ops.now (kind ty.now) first others.now work) }
-    {
-        let mut value = first;
-        let mut work = work;
-        let mut left = ops;
-        let mut rest = others;
-        while let (Some((op, more)), Some((other, after))) = (
-            left.split_first(),
-            rest.split_first(),
-        ) {
-            let (next, behind) = self.two_operands(*op, ty, value, *other, work)?;
-            value = next;
-            work = behind;
-            left = more;
-            rest = after;
-        }
-        Ok((value, work))
-    }
-
     fn negated(self, ty: &Ty, value: Value, work: Work) -> Valued
         ensures { Gives result (spec.negated self.entry (kind ty.now) value work) }
     {

@@ -38,12 +38,23 @@ impl<'a> Context<'a> {
         }
     }
 
+    /// The same for the body of a module, in which nothing may be called.
+    fn body_carrier(self) -> Carrier<'a>
+        ensures site { spec.site result ≡ carrying.nothing_called (spec.text self.entry) }
+        ensures depth { result.depth ≡ carrying.most_calls }
+    {
+        Carrier {
+            instances: &[],
+            ..self.carrier()
+        }
+    }
+
     /// An expression of a module's body. An Integer is static.
     pub fn expr(self, e: &Expr, locals: &[Local], work: Work) -> Valued
         ensures { Gives result
             (carrying.module_expr (spec.text self.entry) e.now locals.now work) }
     {
-        self.carrier().expr(e, locals, work)
+        self.body_carrier().expr(e, locals, work)
     }
 
     /// The instance that a place in a module's body names.
@@ -51,7 +62,7 @@ impl<'a> Context<'a> {
         ensures { Gives result
             (carrying.module_place (spec.text self.entry) place.now locals.now count) }
     {
-        self.carrier().place(place, locals, count)
+        self.body_carrier().place(place, locals, count)
     }
 
     /// A rule: its condition has to hold, and comes before its body.

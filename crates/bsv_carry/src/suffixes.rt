@@ -1,5 +1,5 @@
 ghost use Rattle.std.specs.Prelude.{◌≡◌, IfOk};
-ghost use Rattle.bsv_fail.specs.Given.{Gives, GivesBy};
+ghost use Rattle.bsv_fail.specs.Given.{Gives};
 ghost use Rattle.bsv_types.specs.Kinds.{kind};
 ghost use Rattle.bsv_tree.specs.carrying.Operated as operated;
 ghost use Rattle.bsv_tree.specs.meaning.Operators as the_operators;
@@ -7,8 +7,7 @@ ghost use Rattle.bsv_carry.specs.AtHand as spec;
 
 use crate::carrier::Carrier;
 use crate::operators::{constant_of, together};
-use bsv_fail::Fail;
-use bsv_tree::{Got, Value, Valued, Work, slice, truth};
+use bsv_tree::{Value, Valued, Work, truth};
 use bsv_types::{Field, Op, Ty, counted_widths};
 use sqlite_items::Items;
 use std::alloc::{AllocError, Global};
@@ -93,9 +92,32 @@ fn is_suffix(op: Op) -> bool
     matches!(op, Op::Index | Op::Slice(_, _) | Op::Field(_))
 }
 
+/// Whether the operators are suffixes.
+pub(crate) fn are_suffixes(ops: &[Op]) -> bool
+    ensures { result ≡ operated.are_suffixes ops.now }
+{
+    match ops.split_first() {
+        None => false,
+        Some((op, _)) => is_suffix(*op),
+    }
+}
+
+/// Whether each operator is applied as soon as its right operand or its index was carried out.
+pub(crate) fn from_left(ops: &[Op]) -> bool
+    ensures { result ≡ operated.from_left ops.now }
+{
+    match ops.split_first() {
+        None => false,
+        Some((op, more)) => match op {
+            Op::Set(_) => false,
+            op => !more.is_empty() || is_suffix(*op),
+        },
+    }
+}
+
 impl<'a> Carrier<'a> {
     /// The bits of a field. The last one is in the lowest bits.
-    fn field_part(self, fields: &'a [Field], number: u32) -> BitRange<'a>
+    pub(crate) fn field_part(self, fields: &'a [Field], number: u32) -> BitRange<'a>
         ensures { spec.part result ≡ spec.field_part self.entry fields.now number }
     {
         let at = number as usize;
@@ -121,70 +143,6 @@ impl<'a> Carrier<'a> {
         }
     }
 
-    /// The bits that a suffix names of a value of so many bits with these fields, and the values that
-    /// are left, of which an index takes one.
-    #[tactic(auto, unfolding(bsv_tree::specs::carrying::Operated::part_of))]
-    fn part_of<'b>(
-        self,
-        bits: u32,
-        fields: &'a [Field],
-        op: Op,
-        values: &'b [Value],
-    ) -> Got<(BitRange<'a>, &'b [Value])>
-        ensures { GivesBy (λ r. (spec.part r.0, r.1.now)) result
-            (spec.part_of self.entry bits fields.now op values.now) }
-    {
-        match op {
-            Op::Index => match values.split_first() {
-                None => Err(Fail::Fault(self.static_fault())),
-                Some((index, after)) => {
-                    let at = self.number_below(bits, *index)?;
-                    let part = BitRange {
-                        high: at,
-                        low: at,
-                        inner: &[],
-                    };
-                    Ok((part, after))
-                }
-            },
-            Op::Slice(high, low) => {
-                let part = BitRange {
-                    high,
-                    low,
-                    inner: &[],
-                };
-                Ok((part, values))
-            }
-            Op::Field(number) => Ok((self.field_part(fields, number), values)),
-            _ => Err(Fail::Fault(self.static_fault())),
-        }
-    }
-
-    /// Suffixes, from the left.
-    #[tactic(auto, unfolding(bsv_tree::specs::carrying::Operated::suffixed))]
-    fn suffixed(self, ty: &Ty, ops: &[Op], whole: Value, values: &[Value], work: Work) -> Valued
-        ensures { Gives result (spec.suffixed self.entry (spec.width self.entry (kind ty.now))
-            (spec.fields self.entry (kind ty.now)) ops.now whole values.now work) }
-    {
-        let mut bits = self.width(ty);
-        let mut fields = self.fields(ty);
-        let mut value = whole;
-        let mut work = work;
-        let mut left = ops;
-        let mut rest = values;
-        while let Some((op, more)) = left.split_first() {
-            let (part, after) = self.part_of(bits, fields, *op, rest)?;
-            let (next, behind) = slice(work, &value, part.high, part.low)?;
-            bits = part.high.saturating_sub(part.low).saturating_add(1);
-            fields = part.inner;
-            value = next;
-            work = behind;
-            left = more;
-            rest = after;
-        }
-        Ok((value, work))
-    }
-
     /// What one operator that is no suffix gives.
     fn single(
         self,
@@ -207,8 +165,8 @@ impl<'a> Carrier<'a> {
         }
     }
 
-    #[tactic(auto, unfolding(bsv_tree::specs::carrying::Operated::applied_to))]
-    fn applied_to(
+    /// What operators give that construct no struct.
+    fn not_built(
         self,
         ty: &Ty,
         from: &Ty,
@@ -218,24 +176,17 @@ impl<'a> Carrier<'a> {
         work: Work,
     ) -> Valued
         ensures { Gives result
-            (spec.applied_to self.entry (kind ty.now) (kind from.now) ops.now first others.now
+            (spec.not_built self.entry (kind ty.now) (kind from.now) ops.now first others.now
             work) }
     {
         match ops.split_first() {
             None => Ok((first, work)),
-            Some((op, more)) => {
-                if is_suffix(*op) {
-                    self.suffixed(from, ops, first, others, work)
-                } else if more.is_empty() {
-                    self.single(ty, from, *op, first, others, work)
-                } else {
-                    self.chained(ops, from, first, others, work)
-                }
-            }
+            Some((op, _)) => self.single(ty, from, *op, first, others, work),
         }
     }
 
-    /// What operators give: the type of the result, and that of the first operand.
+    /// What operators give from the values of all operands: the type of the result, and that of the first
+    /// operand.
     #[tactic(auto, unfolding(bsv_tree::specs::carrying::Operated::applied))]
     pub(crate) fn applied(
         self,
@@ -255,7 +206,7 @@ impl<'a> Carrier<'a> {
                     let fields = set_values(self.alloc, self.fields(ty), ops, values)?;
                     all_together(fields.as_slice(), work)
                 } else {
-                    self.applied_to(ty, from, ops, *first, others, work)
+                    self.not_built(ty, from, ops, *first, others, work)
                 }
             }
         }

@@ -15,7 +15,7 @@ use Rattle.bsv_types.specs.Shapes.{is_value, is_instance}
 use Rattle.bsv_tree.specs.declared.statics.Static.{Static}
 use Rattle.bsv_tree.specs.declared.statics.Static.TheVariants as static
 use Rattle.bsv_tree.specs.declared.tree.Instance.{Instance}
-use Rattle.bsv_tree.specs.carrying.Carrying.{call_at, most_calls, module_place}
+use Rattle.bsv_tree.specs.carrying.Carrying.{call_at, most_calls, module_place, nothing_called}
 use Rattle.bsv_tree.specs.carrying.Frames.{no_variables}
 use Rattle.bsv_tree.specs.tree.Trees.{shapes, world, Fits, AllFit}
 use Rattle.bsv_elab.specs.declared.state.State.{State}
@@ -58,7 +58,7 @@ module _ (t : Typed) (here : Here) (f : Frame) (s : State) (fits : AllFit t s.gr
       let n = carried_is (module_place (site here (at_weight w s)) p (no_variables false) (count (at_weight w s))) c.0 c.1 in
       let known = kind_given (place_typing (world t) p f) k (and_parts (is_instance (shapes t) k) (is_kind (place_typing (world t) p f) k) typed).1 in
       subst (λ (q : Static × State). Fits t s.grown.instances (one k) q.0 × Same s q.1) (same_ok (static.Place c.0.0, at_weight c.0.1.weight (at_weight w s)) r c.2)
-      (place_stands t (call_at most_calls) (site here (at_weight w s)) f fits p (no_variables false) (count (at_weight w s)) k c.0 known n, (c.0.1.weight, refl))
+      (place_stands t s.grown.instances (call_at most_calls) (nothing_called (site here (at_weight w s))) f fits p (no_variables false) (count (at_weight w s)) k c.0 known n, (c.0.1.weight, refl))
 
   from_fits : (w : ℕ) (js : List Sort) (ys : List Static) (xs : List Argument) (ks : List Sort) (r : List Static × State) → AllHold t s.grown.instances js ys → arguments_right (world t) f xs ks ≡ true
       → arguments_from here ys xs (at_weight w s) ≡ Ok r → AllHold t s.grown.instances (js ++ ks) r.0 × Same s r.1

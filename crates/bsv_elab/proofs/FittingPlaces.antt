@@ -12,6 +12,7 @@ use Rattle.bsv_types.specs.Kinds.{Kind as Sort, integer, bit, down, uint, int, b
 use Rattle.bsv_tree.specs.declared.statics.Binding.{Binding}
 use Rattle.bsv_tree.specs.declared.statics.Static.{Static}
 use Rattle.bsv_tree.specs.declared.statics.Static.TheVariants as static
+use Rattle.bsv_tree.specs.declared.tree.Instance.{Instance}
 use Rattle.bsv_tree.specs.declared.values.Count.{Count}
 use Rattle.bsv_tree.specs.declared.values.Fault.{Fault}
 use Rattle.bsv_tree.specs.declared.values.Local.{Local}
@@ -93,17 +94,17 @@ placed_at_is f (Some b) at n e = let h = placed_at_value f b.name b.value at n e
 
 -- ---- places
 
-module _ (t : Typed) (call : Caller) (site : Context) (f : Frame) (fits : AllFit t site.instances f site.bindings) where
-  one_stands : (level : ℕ) (k : Sort) (n : ℕ) → one_at f level ≡ Some k → placed (static_fault site) (slice_get site.bindings level) ≡ Ok n → Stands t site.instances k n
+module _ (t : Typed) (is : List Instance) (call : Caller) (site : Context) (f : Frame) (fits : AllFit t is f site.bindings) where
+  one_stands : (level : ℕ) (k : Sort) (n : ℕ) → one_at f level ≡ Some k → placed (static_fault site) (slice_get site.bindings level) ≡ Ok n → Stands t is k n
   one_stands level k n typed e =
       let h = placed_is (static_fault site) (slice_get site.bindings level) n e in
-      subst (Fits t site.instances (one k)) h.2 (fit_at t site.instances f site.bindings level (one k) h.0 fits (one_of f level k typed) h.1)
+      subst (Fits t is (one k)) h.2 (fit_at t is f site.bindings level (one k) h.0 fits (one_of f level k typed) h.1)
 
-  each_stands : (level at : ℕ) (k : Sort) (n : ℕ) → many_at f level ≡ Some k → placed_at (static_fault site) (slice_get site.bindings level) at ≡ Ok n → Stands t site.instances k n
+  each_stands : (level at : ℕ) (k : Sort) (n : ℕ) → many_at f level ≡ Some k → placed_at (static_fault site) (slice_get site.bindings level) at ≡ Ok n → Stands t is k n
   each_stands level at k n typed e =
       let h = placed_at_is (static_fault site) (slice_get site.bindings level) at n e in
-      let all = subst (Fits t site.instances (many k)) h.holds (fit_at t site.instances f site.bindings level (many k) h.b fits (many_of f level k typed) h.there) in
-      stands_may t site.instances k h.ns at n all h.set
+      let all = subst (Fits t is (many k)) h.holds (fit_at t is f site.bindings level (many k) h.b fits (many_of f level k typed) h.there) in
+      stands_may t is k h.ns at n all h.set
 
   abbrev placing : Place-F Expr Place → Placing
   placing y = place_step call site (map-Place Expr Place Carried Placing (expression call site) (place call site) y)
@@ -111,18 +112,18 @@ module _ (t : Typed) (call : Caller) (site : Context) (f : Frame) (fits : AllFit
   abbrev place_typed : Place-F Expr Place → Typing
   place_typed y = typed.place_step (world t) (map-Place Expr Place Typing Typing (typed.typing (world t)) (place_typing (world t)) y)
 
-  by_index : (level : ℕ) (i : Option Expr) (vs : List Local) (c : Count) (k : Sort) (r : ℕ × Count) → place_typed (record { level = level; index = i }) f ≡ Some k → placing (record { level = level; index = i }) vs c ≡ Ok r → Stands t site.instances k r.0
+  by_index : (level : ℕ) (i : Option Expr) (vs : List Local) (c : Count) (k : Sort) (r : ℕ × Count) → place_typed (record { level = level; index = i }) f ≡ Some k → placing (record { level = level; index = i }) vs c ≡ Ok r → Stands t is k r.0
   by_index level None vs c k r typed e =
       let n = went (placed (static_fault site) (slice_get site.bindings level)) _ r e in
-      subst (λ (q : ℕ × Count). Stands t site.instances k q.0) (same_ok (n.0, c) r n.2) (one_stands level k n.0 typed n.1)
+      subst (λ (q : ℕ × Count). Stands t is k q.0) (same_ok (n.0, c) r n.2) (one_stands level k n.0 typed n.1)
   by_index level (Some x) vs c k r is_typed e =
       let v = went ((expression call site x).carry vs (no_steps c)) _ r e in
       let at = went (index_of call site v.0.0) _ r v.2 in
       let n = went (placed_at (static_fault site) (slice_get site.bindings level) at.0) _ r at.2 in
-      subst (λ (q : ℕ × Count). Stands t site.instances k q.0) (same_ok (n.0, v.0.1.count) r n.2)
+      subst (λ (q : ℕ × Count). Stands t is k q.0) (same_ok (n.0, v.0.1.count) r n.2)
       (each_stands level at.0 k n.0 (after_index level (typed.typing (world t) x f) f k is_typed) n.1)
 
-  pub place_stands : (p : Place) (vs : List Local) (c : Count) (k : Sort) (r : ℕ × Count) → place_typing (world t) p f ≡ Some k → place call site p vs c ≡ Ok r → Stands t site.instances k r.0
+  pub place_stands : (p : Place) (vs : List Local) (c : Count) (k : Sort) (r : ℕ × Count) → place_typing (world t) p f ≡ Some k → place call site p vs c ≡ Ok r → Stands t is k r.0
   unfolding place expression
   place_stands p vs c k r typing e =
       let a = ap (λ (x : Typing). x f) (fold_out-Place Typing Typing (typed.expr_step (world t)) (typed.place_step (world t)) p) in

@@ -5,6 +5,7 @@ mod Pieces
 mod Operating
 mod Applying
 mod Expressions
+mod InTurn
 mod Called
 mod Methods
 mod Choices

@@ -22,11 +22,10 @@ use Rattle.bsv_tree.specs.tree.Contexts.{Context, made_of}
 use Rattle.bsv_tree.specs.carrying.Calls.{Caller, static_fault}
 use Rattle.bsv_tree.specs.tree.Methods.{part_method}
 use Rattle.bsv_tree.specs.carrying.Working.{at_count}
-use Rattle.bsv_tree.specs.carrying.Operated as operated
 use Rattle.bsv_tree.specs.carrying.Carrying as carrying
 use Rattle.bsv_tree.specs.carrying.Carrying.{Carried, Placing, first_type}
 use Rattle.bsv_carry.proofs.StaysAccepted.SideBySide.{Into, into_then, into_same, raised, heavier, both_heavier, at_heavier, counted_over, give_over}
-use Rattle.bsv_carry.proofs.StaysAccepted.Operators.{applied_over}
+use Rattle.bsv_carry.proofs.StaysAccepted.InTurn.{operated_into}
 use Rattle.bsv_carry.specs.StaysAccepted.{Stays, Grows, over}
 use Rattle.bsv_carry.proofs.StaysAccepted.Instances.{CarryInto, PlacingInto, EachCarried, CallsInto, all_into, first_same, Refused, refused_into, refused_then, refused_first}
 
@@ -143,10 +142,10 @@ module _ (d : ℕ) (is : List Instance) (call next : Caller) (s : Context) (grow
       → CarryInto d (carrying.apply call s k os cs) (carrying.apply next t k os es)
   unfolding carrying.apply
   apply_into k os cs es h vs w =
-      into_then _ _ (counted_over d w (length os)) (λ w. into_then _ _ (all_into d cs es h vs w)
-      (λ r. subst (λ first. Into (at_heavier d) (operated.applied s.shapes (static_fault s) k (first_type k cs) os r.0 (heavier d r.1))
-      (operated.applied s.shapes (static_fault s) k first os r.0 r.1))
-      (first_same d cs es h k) (applied_over d s.shapes (static_fault s) k (first_type k cs) os r.0 r.1)))
+      into_then _ _ (counted_over d w (length os))
+      (λ w. subst (λ first. Into (at_heavier d) (carrying.operated s.shapes (static_fault s) k (first_type k cs) os cs vs (heavier d w))
+      (carrying.operated s.shapes (static_fault s) k first os es vs w))
+      (first_same d cs es h k) (operated_into d s.shapes (static_fault s) k (first_type k cs) os cs es h vs w))
 
   pub call_into : (number : ℕ) (cs es : List Carried) → EachCarried d cs es
       → CarryInto d (carrying.function call s number cs) (carrying.function next t number es)

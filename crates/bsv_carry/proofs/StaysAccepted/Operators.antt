@@ -4,7 +4,6 @@ use Rattle.std.specs.Prelude.{nat_lt, pos, negsuc}
 use Rattle.bsv_bits.specs.declared.operator.Operator.{Operator}
 use Rattle.bsv_types.specs.declared.operators.Op.{Op}
 use Rattle.bsv_types.specs.declared.operators.Op.TheVariants as op
-use Rattle.bsv_types.specs.declared.definitions.Field.{Field}
 use Rattle.bsv_types.specs.Kinds.{Kind, integer}
 use Rattle.bsv_types.specs.Shapes.{Shapes}
 use Rattle.bsv_tree.specs.declared.values.Constant.{Constant}
@@ -19,7 +18,7 @@ use Rattle.bsv_tree.specs.tree.Widths as type_widths
 use Rattle.bsv_tree.specs.carrying.Operated as operated
 use Rattle.bsv_tree.specs.meaning.Operators as the_operators
 use Rattle.bsv_tree.specs.carrying.Carrying as carrying
-use Rattle.bsv_carry.proofs.StaysAccepted.SideBySide.{Into, into_then, into_if, into_same, heavier, at_heavier, inverted_over, between_over, picked_over, sliced_over, joined_over, extended_over, sign_extended_over}
+use Rattle.bsv_carry.proofs.StaysAccepted.SideBySide.{Into, into_then, into_if, heavier, at_heavier, inverted_over, between_over, picked_over, sliced_over, joined_over, extended_over, sign_extended_over}
 
 module _ (d : ℕ) where
   or_fault_over : (f : Fault) (o : Option Constant) (w : Work) → Into (at_heavier d) (applied.or_fault f o (heavier d w)) (applied.or_fault f o w)
@@ -73,12 +72,6 @@ module _ (d : ℕ) where
     two_over o k (value.Static (constant.Number m)) (value.Static (constant.Number n)) w = or_fault_over f (number_between o m n) w
     two_over o k x y w = bits_over o k x y w
 
-    chained_over : (os : List Op) (k : Kind) (x : Value) (ys : List Value) (w : Work)
-        → Into (at_heavier d) (applied.chained s f os k x ys (heavier d w)) (applied.chained s f os k x ys w)
-    unfolding applied.chained
-    chained_over (o ∷ os) k x (y ∷ ys) w = into_then _ _ (two_over o k x y w) (λ r. chained_over os k r.0 ys r.1)
-    chained_over _ k x ys w = record { seen = refl }
-
     negated_over : (t : Kind) (x : Value) (w : Work) → Into (at_heavier d) (applied.negated s f t x (heavier d w)) (applied.negated s f t x w)
     negated_over t (value.Static (constant.Number n)) w = or_fault_over f (number_between op.Sub (pos 0) n) w
     negated_over t x w = between_over d w _ _ x
@@ -102,36 +95,22 @@ module _ (d : ℕ) where
     one_over op.ValidValue t k x w = sliced_over d w x _ _
     one_over _ t k x w = record { seen = refl }
 
-    suffixed_over : (os : List Op) (bits : ℕ) (fs : List Field) (x : Value) (ys : List Value) (w : Work)
-        → Into (at_heavier d) (operated.suffixed s f bits fs os x ys (heavier d w)) (operated.suffixed s f bits fs os x ys w)
-    unfolding operated.suffixed
-    suffixed_over [] bits fs x ys w = record { seen = refl }
-    suffixed_over (o ∷ os) bits fs x ys w =
-        into_then _ _ (into_same (operated.part_of s f bits fs o ys))
-        (λ p. into_then _ _ (sliced_over d w x _ _) (λ r. suffixed_over os _ _ r.0 p.1 r.1))
-
     single_over : (t k : Kind) (o : Op) (x : Value) (xs : List Value) (w : Work)
         → Into (at_heavier d) (operated.single s f t k o x xs (heavier d w)) (operated.single s f t k o x xs w)
     single_over t k op.Concat x xs w = together_over x xs w
     single_over t k o x [] w = one_over o t k x w
     single_over t k o x (y ∷ ys) w = two_over o k x y w
 
-    no_suffixes_over : (t k : Kind) (o : Op) (os : List Op) (x : Value) (xs : List Value) (w : Work)
-        → Into (at_heavier d) (operated.no_suffixes s f t k o os x xs (heavier d w)) (operated.no_suffixes s f t k o os x xs w)
-    no_suffixes_over t k o [] x xs w = single_over t k o x xs w
-    no_suffixes_over t k o (next ∷ os) x xs w = chained_over (o ∷ next ∷ os) k x xs w
-
-    applied_to_over : (t k : Kind) (os : List Op) (x : Value) (xs : List Value) (w : Work)
-        → Into (at_heavier d) (operated.applied_to s f t k os x xs (heavier d w)) (operated.applied_to s f t k os x xs w)
-    unfolding operated.applied_to
-    applied_to_over t k [] x xs w = record { seen = refl }
-    applied_to_over t k (o ∷ os) x xs w = into_if (the_operators.is_suffix o) (suffixed_over (o ∷ os) _ _ x xs w) (no_suffixes_over t k o os x xs w)
+    not_built_over : (t k : Kind) (os : List Op) (x : Value) (xs : List Value) (w : Work)
+        → Into (at_heavier d) (operated.not_built s f t k os x xs (heavier d w)) (operated.not_built s f t k os x xs w)
+    not_built_over t k [] x xs w = record { seen = refl }
+    not_built_over t k (o ∷ os) x xs w = single_over t k o x xs w
 
     pub applied_over : (t k : Kind) (os : List Op) (xs : List Value) (w : Work)
         → Into (at_heavier d) (operated.applied s f t k os xs (heavier d w)) (operated.applied s f t k os xs w)
     unfolding operated.applied
     applied_over t k os [] w = record { seen = refl }
-    applied_over t k os (x ∷ xs) w = into_if (the_operators.builds os) (all_together_over _ w) (applied_to_over t k os x xs w)
+    applied_over t k os (x ∷ xs) w = into_if (the_operators.builds os) (all_together_over _ w) (not_built_over t k os x xs w)
 
     pub literal_over : (k : Kind) (number : ℕ) (w : Work)
         → Into (at_heavier d) (carrying.literal s f k number (heavier d w)) (carrying.literal s f k number w)

@@ -36,6 +36,14 @@ into_then {x = Err e} {y} f g h k = record { seen = tt }
 into_then {x = Ok a} {y = Err e} f g h k = absurd h.seen
 into_then {show} {x = Ok a} {y = Ok b} f g h k = subst (λ z. Into show (f z) (g b)) (sym h.seen) (k b)
 
+-- the same where what goes on is said in two steps
+pub into_twice : {A B C D E F : Type 0} {see : B → A} {show : F → E} {x : Result A Fault} {y : Result B Fault} (f : A → Result C Fault)
+    (more : C → Result E Fault) (g : B → Result D Fault) (next : D → Result F Fault)
+    → Into see x y → ((b : B) → Into show (f (see b) >>= more) (g b >>= next)) → Into show ((x >>= f) >>= more) ((y >>= g) >>= next)
+into_twice {x = Err e} {y} f more g next h k = record { seen = tt }
+into_twice {x = Ok a} {y = Err e} f more g next h k = absurd h.seen
+into_twice {show} {x = Ok a} {y = Ok b} f more g next h k = subst (λ z. Into show (f z >>= more) (g b >>= next)) (sym h.seen) (k b)
+
 pub into_same : {A : Type 0} (x : Result A Fault) → Into (λ r. r) x x
 into_same (Err e) = record { seen = tt }
 into_same (Ok a) = record { seen = refl }

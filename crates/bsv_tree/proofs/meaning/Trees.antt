@@ -36,7 +36,7 @@ use Rattle.bsv_tree.specs.meaning.Meaning.{Meant, Calling}
 use Rattle.bsv_tree.proofs.meaning.Same.{Shows, AllShow, AllHold, Same, here, got, same_ok}
 use Rattle.bsv_tree.proofs.meaning.Pieces.{counted_is, bound, given, nothing_more, from_alike, alike_long, alike_ran}
 use Rattle.bsv_tree.proofs.meaning.Operating.{V}
-use Rattle.bsv_tree.proofs.meaning.Applying.{applied_is}
+use Rattle.bsv_tree.proofs.meaning.InTurn.{operated_is}
 use Rattle.bsv_tree.proofs.meaning.Expressions.{Matches, AllMatch, Carries, Places, CallsSame, all_is, static_is, literal_shows, variable_shows, first_same}
 use Rattle.bsv_tree.proofs.meaning.Called.{loosened_shows}
 use Rattle.bsv_tree.proofs.meaning.Methods.{function_is, method_is}
@@ -106,13 +106,10 @@ module _ (r : Results) (call : Caller) (calling : Calling) (calls_same : CallsSa
       let g = got (counted w (length os)) _ (x, v) e in
       let like = counted_is w (length os) g.0 g.1 in
       let hold' = subst (λ W. AllHold W vs us) (ap (λ o. o.words) (sym (alike_ran r p ws n k w g.0 like))) hold in
-      let l = got (carrying.all cs vs g.0) _ (x, v) g.2 in
-      let all = all_is r cs ms h p ws n k vs us g.0 (alike_long r p ws n k w g.0 like long) hold' l.0.0 l.0.1 l.1 in
       let u = carrying.first_type t cs in
-      let it = applied_is r p ws n k site.shapes (static_fault site) os t u l.0.1 all.long l.0.0 (here r p ws n k g.0 (meaning.all ms us)).gives all.gives x v l.2 in
       from_alike r p ws n k (λ W y. Shows W x y) w g.0 v (evaluation.◌>>=◌ (meaning.all ms us) (λ xs. yields (means.applied site.shapes t (meaning.first_sort t ms) os xs))) like
       (subst (λ q. Same r p ws n k (λ W y. Shows W x y) g.0 v (here r p ws n k g.0 (evaluation.◌>>=◌ (meaning.all ms us) (λ xs. yields (means.applied site.shapes t q os xs))))) (first_same r t cs ms h)
-      (bound r p ws n k (λ W ys. AllShow W l.0.0 ys) (λ W y. Shows W x y) g.0 l.0.1 v (meaning.all ms us) (λ xs. yields (means.applied site.shapes t u os xs)) all it))
+      (operated_is r p ws n k vs us site.shapes (static_fault site) os t u cs ms h g.0 (alike_long r p ws n k w g.0 like long) hold' x v g.2))
 
   call_is : (number : ℕ) (cs : List Carried) (ms : List Meant) → AllMatch r cs ms
       → Carries r (carrying.function call site number cs)

@@ -78,11 +78,6 @@ module _ (s : Shapes) (f : Fault) where
   two_operands o k (value.Static (constant.Number m)) (value.Static (constant.Number n)) w = or_fault f (number_between o m n) w
   two_operands o k x y w = bits_between o k x y w
 
-  -- operators of one level, from the left
-  unfoldable pub chained : List Op → Kind → Value → List Value → Work → Valued
-  chained (o ∷ os) k x (y ∷ ys) w = two_operands o k x y w >>= λ r. chained os k r.0 ys r.1
-  chained _ k x ys w = Ok (x, w)
-
   -- ---- one operand of this type, and the type of the result
 
   abbrev pub negated : Kind → Value → Work → Valued

@@ -1,6 +1,6 @@
 -- Carrying out: what is static is decided, loops are unrolled, and calls are in their place (Bluespec reference
 -- guide, "Static elaboration"). What is left are steps.
-use Rattle.std.specs.Prelude.{ℕ, zero, suc, ◌-◌, nat_lt, Bool, true, false, not, ◌&&◌, pos, List, [], ◌∷◌, ◌++◌, map, take, length, slice_get, Option, Some, None, Result, Ok, Err, if◌then◌else◌}
+use Rattle.std.specs.Prelude.{ℕ, zero, suc, ◌+◌, ◌-◌, nat_lt, Bool, true, false, not, ◌&&◌, pos, List, [], ◌∷◌, ◌++◌, map, take, length, slice_get, Option, Some, None, Result, Ok, Err, if◌then◌else◌}
 use Rattle.bsv_fail.specs.Given.{◌>>=◌}
 use Rattle.bsv_bits.specs.declared.operator.Operator.TheVariants as operator
 use Rattle.bsv_types.specs.declared.operators.Op.{Op}
@@ -18,10 +18,11 @@ use Rattle.bsv_types.specs.declared.statements.Head.{Head}
 use Rattle.bsv_types.specs.declared.statements.Stmt.{Stmt, fold-Stmt}
 use Rattle.bsv_types.specs.declared.statements.Stmt.TheOpen.{Stmt-F, Branch-F, CaseArm-F}
 use Rattle.bsv_types.specs.declared.modules.Method.{Method}
+use Rattle.bsv_types.specs.declared.definitions.Field.{Field}
 use Rattle.bsv_types.specs.declared.definitions.Param.{Param}
 use Rattle.bsv_types.specs.Expressions.{carried_type, expr_type}
 use Rattle.bsv_types.specs.Kinds.{Kind as Sort, integer, kind}
-use Rattle.bsv_types.specs.Shapes.{Shapes}
+use Rattle.bsv_types.specs.Shapes.{Shapes, counted as bits_counted}
 use Rattle.bsv_design.specs.declared.kind.Kind.{Kind}
 use Rattle.bsv_types.specs.declared.types.PartTy.{PartTy}
 use Rattle.bsv_tree.specs.declared.steps.Arm.{Arm, roll-Arm}
@@ -47,8 +48,8 @@ use Rattle.bsv_tree.specs.carrying.Working.{Valued, tick, fresh, counted, no_ste
 use Rattle.bsv_tree.specs.carrying.Frames.{variable as local, no_variables, assign, untouched}
 use Rattle.bsv_tree.specs.carrying.Arms.{choice_of, close}
 use Rattle.bsv_tree.specs.tree.Widths.{width}
-use Rattle.bsv_tree.specs.carrying.Applied.{constant_of, two_operands}
-use Rattle.bsv_tree.specs.carrying.Operated.{applied}
+use Rattle.bsv_tree.specs.carrying.Applied.{constant_of, two_operands, fields, number_below}
+use Rattle.bsv_tree.specs.carrying.Operated.{BitRange, bits_at, field_part, applied, are_suffixes, from_left}
 use Rattle.bsv_tree.specs.tree.Contexts.{Context, Callee, place_in_body, is_integer, made_of}
 use Rattle.bsv_tree.specs.carrying.Calls.{Caller, static_fault, or_fault, variable, placed, placed_at, function_at, user_method}
 use Rattle.bsv_tree.specs.tree.Methods.{part_method}
@@ -84,6 +85,43 @@ literal s f k number w = Ok (constant_of (width s k) number, w)
 abbrev pub first_type : Sort → List Carried → Sort
 first_type t [] = t
 first_type t (c ∷ cs) = c.sort
+
+-- ---- operators and their operands
+
+module _ (s : Shapes) (f : Fault) where
+  -- operators of one level, from the left: each one is applied as soon as its right operand was carried out
+  unfoldable pub chained : List Op → Sort → Value → List Carried → List Local → Work → Valued
+  chained [] k x [] vs w = Ok (x, w)
+  chained (o ∷ os) k x (c ∷ cs) vs w =
+      c.carry vs w >>= λ y. two_operands s f o k x y.0 y.1 >>= λ r. chained os k r.0 cs vs r.1
+  chained _ k x cs vs w = Err f
+
+  -- what a suffix names of a value of so many bits with these fields. An index is carried out, and is one operand
+  unfoldable pub part_of : ℕ → List Field → Op → List Carried → List Local → Work → Result (BitRange × List Carried × Work) Fault
+  part_of bits fs op.Index (c ∷ cs) vs w =
+      c.carry vs w >>= λ i. number_below s f bits i.0 >>= λ n. Ok (bits_at n n, cs, i.1)
+  part_of bits fs (op.Slice high low) cs vs w = Ok (bits_at high low, cs, w)
+  part_of bits fs (op.Field number) cs vs w = Ok (field_part s f fs number (slice_get fs number), cs, w)
+  part_of bits fs _ cs vs w = Err f
+
+  -- suffixes, from the left: each one is applied as soon as its index was carried out
+  unfoldable pub suffixed : ℕ → List Field → List Op → Value → List Carried → List Local → Work → Valued
+  suffixed bits fs [] x [] vs w = Ok (x, w)
+  suffixed bits fs [] x (c ∷ cs) vs w = Err f
+  suffixed bits fs (o ∷ os) x cs vs w =
+      part_of bits fs o cs vs w >>= λ p. work.sliced p.2 x p.0.high p.0.low >>= λ r.
+      suffixed (bits_counted (p.0.high - p.0.low + 1)) p.0.inner os r.0 p.1 vs r.1
+
+  -- from the left, where the first operand has the type
+  unfoldable pub in_turn : Sort → List Op → List Carried → Carry
+  in_turn k os [] vs w = Err f
+  in_turn k os (c ∷ cs) vs w =
+      c.carry vs w >>= λ x. if are_suffixes os then suffixed (width s k) (fields s f k) os x.0 cs vs x.1
+      else chained os k x.0 cs vs x.1
+
+  -- the types of the result and of the first operand
+  abbrev pub operated : Sort → Sort → List Op → List Carried → Carry
+  operated t k os cs vs w = if from_left os then in_turn k os cs vs w else (all cs vs w >>= λ r. applied s f t k os r.0 r.1)
 
 -- a call is static where its arguments are
 abbrev pub loosened : List Value → Value → Value
@@ -254,7 +292,7 @@ module _ (call : Caller) (site : Context) where
 
   unfoldable pub apply : Sort → List Op → List Carried → Carry
   apply t os cs vs w =
-      counted w (length os) >>= λ w. all cs vs w >>= λ r. applied site.shapes f t (first_type t cs) os r.0 r.1
+      counted w (length os) >>= λ w. operated site.shapes f t (first_type t cs) os cs vs w
 
   unfoldable pub function : ℕ → List Carried → Carry
   function number cs vs w =
@@ -448,13 +486,17 @@ call_at (suc d) site c xs w = called (call_at d) site c xs w
 unfoldable pub most_calls : ℕ
 most_calls = 64
 
+-- in the body of a module nothing may be called: there is no instance for it
+abbrev pub nothing_called : Context → Context
+nothing_called site = record site { instances = [] }
+
 -- an expression of a module's body
 abbrev pub module_expr : Context → Expr → Carry
-module_expr site e = expr (call_at most_calls) site e
+module_expr site e = expr (call_at most_calls) (nothing_called site) e
 
 -- the instance that a place in it names
 abbrev pub module_place : Context → Place → Placing
-module_place site p = place (call_at most_calls) site p
+module_place site p = place (call_at most_calls) (nothing_called site) p
 
 -- a rule
 unfoldable pub rule : Context → Option Expr → List Stmt → Work → Result Work Fault

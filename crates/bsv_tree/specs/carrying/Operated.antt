@@ -1,6 +1,6 @@
--- What the operators of an expression give from the values of its operands (Bluespec reference guide, "Expressions").
-use Rattle.std.specs.Prelude.{ℕ, ◌+◌, ◌-◌, false, List, [], ◌∷◌, drop, slice_get, Option, Some, None, Result, Ok, Err, if◌then◌else◌}
-use Rattle.bsv_fail.specs.Given.{◌>>=◌}
+-- What the operators of an expression give from the values of its operands, and which of them come one by one (Bluespec
+-- reference guide, "Expressions").
+use Rattle.std.specs.Prelude.{ℕ, ◌+◌, ◌-◌, Bool, true, false, List, [], ◌∷◌, drop, Option, Some, None, Ok, if◌then◌else◌}
 use Rattle.bsv_types.specs.declared.operators.Op.{Op}
 use Rattle.bsv_types.specs.declared.operators.Op.TheVariants as op
 use Rattle.bsv_types.specs.declared.definitions.Field.{Field}
@@ -11,9 +11,9 @@ use Rattle.bsv_tree.specs.declared.values.Value.{Value}
 use Rattle.bsv_tree.specs.declared.values.Work.{Work}
 use Rattle.bsv_tree.specs.declared.values.Fault.{Fault}
 use Rattle.bsv_tree.specs.carrying.Values.{truth}
-use Rattle.bsv_tree.specs.carrying.Working.{Valued, sliced}
+use Rattle.bsv_tree.specs.carrying.Working.{Valued}
 use Rattle.bsv_tree.specs.tree.Widths.{or_width, width}
-use Rattle.bsv_tree.specs.carrying.Applied.{constant_of, together, two_operands, chained, one_operand, fields, number_below}
+use Rattle.bsv_tree.specs.carrying.Applied.{constant_of, together, two_operands, one_operand, fields}
 use Rattle.bsv_tree.specs.meaning.Operators.{sets, builds, is_suffix}
 
 -- ---- the construction of a struct
@@ -51,37 +51,31 @@ module _ (s : Shapes) (f : Fault) where
       let low = or_width 0 (widths_by s.enums s.structs (field_kinds (drop (number + 1) fs))) in
       record { high = counted (low + width s (kind d.ty)) - 1; low = low; inner = fields s f (kind d.ty) }
 
-  -- of a value of so many bits with these fields; and the values that are left, of which each index takes one
-  unfoldable pub part_of : ℕ → List Field → Op → List Value → Result (BitRange × List Value) Fault
-  part_of bits fs op.Index (i ∷ is) = number_below s f bits i >>= λ n. Ok (bits_at n n, is)
-  part_of bits fs (op.Slice high low) is = Ok (bits_at high low, is)
-  part_of bits fs (op.Field number) is = Ok (field_part fs number (slice_get fs number), is)
-  part_of bits fs _ is = Err f
-
-  -- from the left
-  unfoldable pub suffixed : ℕ → List Field → List Op → Value → List Value → Work → Valued
-  suffixed bits fs [] x is w = Ok (x, w)
-  suffixed bits fs (o ∷ os) x is w =
-      part_of bits fs o is >>= λ p. sliced w x p.0.high p.0.low >>= λ r.
-      suffixed (counted (p.0.high - p.0.low + 1)) p.0.inner os r.0 p.1 r.1
-
-  -- ---- all operators: the type of the result, and that of the first operand
+  -- ---- what the values of all operands give: the type of the result, and that of the first operand
 
   abbrev pub single : Kind → Kind → Op → Value → List Value → Work → Valued
   single t k op.Concat x xs w = together x xs w
   single t k o x [] w = one_operand s f o t k x w
   single t k o x (y ∷ ys) w = two_operands s f o k x y w
 
-  abbrev pub no_suffixes : Kind → Kind → Op → List Op → Value → List Value → Work → Valued
-  no_suffixes t k o [] x xs w = single t k o x xs w
-  no_suffixes t k o (next ∷ os) x xs w = chained s f (o ∷ next ∷ os) k x xs w
-
-  unfoldable pub applied_to : Kind → Kind → List Op → Value → List Value → Work → Valued
-  applied_to t k [] x xs w = Ok (x, w)
-  applied_to t k (o ∷ os) x xs w =
-      if is_suffix o then suffixed (width s k) (fields s f k) (o ∷ os) x xs w else no_suffixes t k o os x xs w
+  abbrev pub not_built : Kind → Kind → List Op → Value → List Value → Work → Valued
+  not_built t k [] x xs w = Ok (x, w)
+  not_built t k (o ∷ os) x xs w = single t k o x xs w
 
   unfoldable pub applied : Kind → Kind → List Op → List Value → Work → Valued
   applied t k os [] w = Ok (constant_of (width s t) 0, w)
   applied t k os (x ∷ xs) w =
-      if builds os then all_together (set_from 0 (fields s f t) os (x ∷ xs)) w else applied_to t k os x xs w
+      if builds os then all_together (set_from 0 (fields s f t) os (x ∷ xs)) w else not_built t k os x xs w
+
+-- ---- operators that are applied from left to right, each one as soon as its right operand or its index was carried out
+
+abbrev pub are_suffixes : List Op → Bool
+are_suffixes [] = false
+are_suffixes (o ∷ os) = is_suffix o
+
+-- suffixes, and several operators of one level. Before the others all operands are carried out
+abbrev pub from_left : List Op → Bool
+from_left [] = false
+from_left (op.Set number ∷ os) = false
+from_left (o ∷ []) = is_suffix o
+from_left (o ∷ next ∷ os) = true

@@ -17,7 +17,7 @@ pub record Context : Type 0 where
   pub shapes : Shapes
   pub functions : List Function
   pub modules : List Module
-  -- the instances that were made so far
+  -- the instances whose methods may be called: those that were made so far, and none in the body of a module
   pub instances : List Instance
   -- the module whose text it is, by its place
   pub within : ℕ

@@ -1,4 +1,5 @@
 use Rattle.std.proofs.Common.{◌≡◌, ◌≤◌, ◌+◌, ◌-◌, ◌*◌, length}
+use Rattle.bsv_types.specs.Kinds.{kind}
 use Rattle.bsv_tree.specs.carrying.Carrying as carrying
 use Rattle.bsv_carry.specs.AtHand as spec
 use Rattle.bsv_carry.proofs.Depths.{calls_left, expr_size, exprs_size, place_size, condition_size, head_size, stmt_size, stmts_size, branch_size, branches_size, case_size, cases_size, last_size, asked_size, body_size, method_size}
@@ -13,7 +14,19 @@ abbrev pub decreases-all : goal.decreases-all
 decreases-all l = calls_left l.self + 32 * exprs_size l.items.now + 2
 
 abbrev pub decreases-apply : goal.decreases-apply
-decreases-apply l = calls_left l.self + 32 * exprs_size l.operands.now + 3
+decreases-apply l = calls_left l.self + 32 * exprs_size l.operands.now + 6
+
+abbrev pub decreases-in_turn : goal.decreases-in_turn
+decreases-in_turn l = calls_left l.self + 32 * exprs_size l.operands.now + 5
+
+abbrev pub decreases-chained : goal.decreases-chained
+decreases-chained l = calls_left l.self + 32 * exprs_size l.operands.now + 3
+
+abbrev pub decreases-part_of : goal.decreases-part_of
+decreases-part_of l = calls_left l.self + 32 * exprs_size l.operands.now + 3
+
+abbrev pub decreases-suffixed : goal.decreases-suffixed
+decreases-suffixed l = calls_left l.self + 32 * exprs_size l.operands.now + 4
 
 abbrev pub decreases-function : goal.decreases-function
 decreases-function l = calls_left l.self + 32 * exprs_size l.arguments.now + 3
@@ -147,6 +160,24 @@ abbrev pub invariant-all-loop-item : goal.invariant-all-loop-item
 invariant-all-loop-item l = record {
   same : spec.all l.self l.items l.locals l.fn.work ≡ carrying.all_from l.values (spec.expressions l.self l.rest) l.locals l.work;
   within : exprs_size l.rest ≤ exprs_size l.items;
+}
+
+abbrev pub decreases-chained-loop-op : goal.decreases-chained-loop-op
+decreases-chained-loop-op l = length l.rest
+
+abbrev pub invariant-chained-loop-op : goal.invariant-chained-loop-op
+invariant-chained-loop-op l = record {
+  same : spec.chained l.self l.ops (kind l.from) l.fn.first l.operands l.locals l.fn.work ≡ spec.chained l.self l.left (kind l.from) l.value l.rest l.locals l.work;
+  within : exprs_size l.rest ≤ exprs_size l.operands;
+}
+
+abbrev pub decreases-suffixed-loop-op : goal.decreases-suffixed-loop-op
+decreases-suffixed-loop-op l = length l.left
+
+abbrev pub invariant-suffixed-loop-op : goal.invariant-suffixed-loop-op
+invariant-suffixed-loop-op l = record {
+  same : spec.suffixed l.self (spec.width l.self (kind l.from)) (spec.fields l.self (kind l.from)) l.ops l.fn.whole l.operands l.locals l.fn.work ≡ spec.suffixed l.self l.bits l.fields l.left l.value l.rest l.locals l.work;
+  within : exprs_size l.rest ≤ exprs_size l.operands;
 }
 
 abbrev pub decreases-choice-loop-condition : goal.decreases-choice-loop-condition
