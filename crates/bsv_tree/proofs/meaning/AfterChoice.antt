@@ -1,6 +1,7 @@
 -- After a choice, a variable that an arm assigned is what the taken arm gives, and any other is as it was.
 use Rattle.std.proofs.Common.{◌≡◌, ℕ, suc, ◌+◌, Bool, true, false, List, [], ◌∷◌, ◌++◌, length, Some, Ok, refl, sym, ap, ap₂, ◌∙◌, subst, arith, append_assoc, append-nil, length-append}
 use Rattle.std.specs.Prelude.{slice_get, if◌then◌else◌}
+use Rattle.bsv_lemmas.proofs.Choices.{same_ok}
 use Rattle.bsv_fail.specs.Given.{◌>>=◌}
 use Rattle.bsv_bits.specs.Words.{Bits}
 use Rattle.bsv_tree.specs.declared.steps.Atom.TheVariants as atom
@@ -12,7 +13,7 @@ use Rattle.bsv_tree.specs.carrying.Arms as carried
 use Rattle.bsv_tree.specs.carrying.Arms.{joined_as, joined_from}
 use Rattle.bsv_tree.specs.carrying.Working.{fresh}
 use Rattle.bsv_tree.specs.meaning.Values.{word_of, varied, Variable, Variables, restored}
-use Rattle.bsv_tree.proofs.meaning.Same.{Holds, AllHold, got, same_ok}
+use Rattle.bsv_tree.proofs.meaning.Same.{got_after, Holds, AllHold, got}
 use Rattle.bsv_tree.proofs.meaning.Pieces.{fresh_is}
 use Rattle.bsv_tree.proofs.meaning.Statements.{Kept}
 use Rattle.bsv_tree.proofs.meaning.Joins.{AllPlain, AllAt, flag_at}
@@ -135,13 +136,6 @@ module _ (arms : List Pending) (last : List Local) (Y : Variables) (all : List L
   joins (v ∷ vs) (u ∷ us) [] at fit long found e given c ts g d h = absurd fit
 
 -- ---- the words after a choice
-
-some_is : {A : Type 0} (a b : A) → Some a ≡ Some b → a ≡ b
-some_is a b j = cc
-
-got_after : (V W : List Bits) (w : Bits) → slice_get (V ++ w ∷ W) (length V) ≡ Some w
-got_after [] W w = refl
-got_after (v ∷ V) W w = got_after V W w
 
 -- the words that a choice gives stand after those before it
 stands : (V ws : List Bits) (Y : Variables) (more : List ℕ) → AllAt Y more ws → Stand (V ++ ws) Y (length V) more

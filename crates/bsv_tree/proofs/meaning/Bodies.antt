@@ -1,5 +1,6 @@
 -- Every statement does what it means.
 use Rattle.std.proofs.Common.{ℕ, true, false, List, [], ◌∷◌, ◌-◌, length, map, Some, None, sym, ap, subst}
+use Rattle.bsv_lemmas.proofs.Choices.{same_ok}
 use Rattle.bsv_fail.specs.Given.{◌>>=◌}
 use Rattle.bsv_types.specs.Expressions.{expr_type}
 use Rattle.bsv_types.specs.Kinds.{kind}
@@ -18,14 +19,13 @@ use Rattle.bsv_tree.specs.tree.Contexts.{Context, place_in_body, is_integer}
 use Rattle.bsv_tree.specs.tree.Widths.{width}
 use Rattle.bsv_tree.specs.carrying.Calls.{Caller}
 use Rattle.bsv_tree.specs.carrying.Carrying as carrying
-use Rattle.bsv_tree.specs.carrying.Carrying.{Carry, Acts, Branched, Labelled}
+use Rattle.bsv_tree.specs.carrying.Carrying.{Acts, Branched, Labelled}
 use Rattle.bsv_tree.specs.carrying.Working.{counted}
 use Rattle.bsv_tree.specs.meaning.Evaluation.{Results, yields}
 use Rattle.bsv_tree.specs.meaning.Control as control
-use Rattle.bsv_tree.specs.meaning.Control.{Means}
 use Rattle.bsv_tree.specs.meaning.Meaning as meaning
 use Rattle.bsv_tree.specs.meaning.Meaning.{Calling}
-use Rattle.bsv_tree.proofs.meaning.Same.{AllHold, Same, here, got, same_ok}
+use Rattle.bsv_tree.proofs.meaning.Same.{AllHold, Same, here, got}
 use Rattle.bsv_tree.proofs.meaning.Pieces.{counted_is, nothing_more, from_alike, alike_long, alike_ran}
 use Rattle.bsv_tree.proofs.meaning.Expressions.{Carries, CallsSame}
 use Rattle.bsv_tree.proofs.meaning.Methods.{acted_is}

@@ -1,6 +1,7 @@
 -- Calls give what they mean.
 use Rattle.std.proofs.Common.{◌≡◌, ℕ, ◌+◌, Bool, true, false, List, [], ◌∷◌, ◌++◌, length, map, Option, Some, None, Ok, refl, sym, ap, ap₂, ◌∙◌, subst, append-nil}
 use Rattle.std.specs.Prelude.{slice_get, if◌then◌else◌}
+use Rattle.bsv_lemmas.proofs.Choices.{same_ok}
 use Rattle.bsv_bits.specs.Words.{Bits}
 use Rattle.bsv_types.specs.declared.types.PartTy.{PartTy}
 use Rattle.bsv_design.specs.declared.kind.Kind.{Kind}
@@ -20,16 +21,16 @@ use Rattle.bsv_tree.specs.tree.Contexts.{Context}
 use Rattle.bsv_tree.specs.carrying.Calls.{Caller, static_fault}
 use Rattle.bsv_tree.specs.tree.Methods.{part_method}
 use Rattle.bsv_tree.specs.carrying.Carrying as carrying
-use Rattle.bsv_tree.specs.carrying.Carrying.{Carried, Placing}
+use Rattle.bsv_tree.specs.carrying.Carrying.{Carried}
 use Rattle.bsv_tree.specs.carrying.Running as running
 use Rattle.bsv_tree.specs.meaning.Evaluation.{Results, Standing, SiteCall, Need}
-use Rattle.bsv_tree.specs.carrying.Running.{Happening, in_turn, run, words_of}
+use Rattle.bsv_tree.specs.carrying.Running.{Happening, in_turn, words_of}
 use Rattle.bsv_tree.specs.carrying.Working.{no_steps, at_count, with_step, give}
 use Rattle.bsv_tree.specs.meaning.Values.{Value as Val, varying, word_of, varied, Variables, all_static}
 use Rattle.bsv_tree.specs.meaning.Evaluation.{Evaluated, called}
 use Rattle.bsv_tree.specs.meaning.Meaning as meaning
 use Rattle.bsv_tree.specs.meaning.Meaning.{Meant, Calling}
-use Rattle.bsv_tree.proofs.meaning.Same.{Names, Shows, AllShow, AllHold, ran, IsLong, Same, here, got, same_ok, all_show_words, shows_static}
+use Rattle.bsv_tree.proofs.meaning.Same.{Names, Shows, AllShow, AllHold, ran, IsLong, Same, here, got, all_show_words, shows_static}
 use Rattle.bsv_tree.proofs.meaning.Pieces.{pushed, ran_more}
 use Rattle.bsv_tree.proofs.meaning.Operating.{V}
 use Rattle.bsv_tree.proofs.meaning.Nodes.{read_is, act_is}

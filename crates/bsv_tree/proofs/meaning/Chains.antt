@@ -1,6 +1,7 @@
 -- A chain of `if` gives what it means.
 use Rattle.std.proofs.Common.{◌≡◌, ℕ, ◌+◌, Bool, true, false, List, [], ◌∷◌, ◌++◌, Ok, refl, sym, ap, ap₂, ◌∙◌, subst, append_assoc}
 use Rattle.std.specs.Prelude.{if◌then◌else◌}
+use Rattle.bsv_lemmas.proofs.Choices.{same_ok}
 use Rattle.bsv_fail.specs.Given.{◌>>=◌}
 use Rattle.bsv_bits.specs.Words.{Bits}
 use Rattle.bsv_tree.specs.declared.steps.Step.{Step}
@@ -15,16 +16,15 @@ use Rattle.bsv_tree.specs.carrying.Arms as carried
 use Rattle.bsv_tree.specs.carrying.Frames as frames
 use Rattle.bsv_tree.specs.carrying.Values as values
 use Rattle.bsv_tree.specs.carrying.Carrying as carrying
-use Rattle.bsv_tree.specs.carrying.Carrying.{Carry, Acts, Branched, Test}
+use Rattle.bsv_tree.specs.carrying.Carrying.{Acts, Branched, Test}
 use Rattle.bsv_tree.specs.meaning.Evaluation.{Results, Standing}
 use Rattle.bsv_tree.specs.carrying.Running.{in_turn}
 use Rattle.bsv_tree.specs.carrying.Working.{no_steps, at_count}
 use Rattle.bsv_tree.specs.meaning.Values.{Value as Val, static, varying, is_static, is_true, Variables, begun}
 use Rattle.bsv_tree.specs.meaning.Evaluation as evaluation
-use Rattle.bsv_tree.specs.meaning.Evaluation.{Evaluation, Evaluated, yields, in_order, asked, within}
+use Rattle.bsv_tree.specs.meaning.Evaluation.{Evaluation, asked, within}
 use Rattle.bsv_tree.specs.meaning.Control as control
-use Rattle.bsv_tree.specs.meaning.Control.{Means}
-use Rattle.bsv_tree.proofs.meaning.Same.{Shows, AllHold, Same, IsLong, ran, here, got, same_ok}
+use Rattle.bsv_tree.proofs.meaning.Same.{Shows, AllHold, Same, IsLong, ran, here, got}
 use Rattle.bsv_tree.proofs.meaning.Operating.{V}
 use Rattle.bsv_tree.proofs.meaning.Joins.{AllPlain, Finishes}
 use Rattle.bsv_tree.proofs.meaning.Tails.{Exactly, Tail, last_tail, retold}

@@ -1,6 +1,7 @@
 -- A chain of `?:` gives what it means.
 use Rattle.std.proofs.Common.{◌≡◌, ℕ, ◌+◌, Bool, true, false, not, ◌&&◌, cond, List, [], ◌∷◌, ◌++◌, length, map, Ok, refl, sym, ap, ap₂, ◌∙◌, subst, append_assoc, append-nil}
 use Rattle.std.specs.Prelude.{if◌then◌else◌}
+use Rattle.bsv_lemmas.proofs.Choices.{same_ok}
 use Rattle.bsv_fail.specs.Given.{◌>>=◌}
 use Rattle.bsv_bits.specs.Words.{Bits}
 use Rattle.bsv_tree.specs.declared.steps.Arm.{Arm}
@@ -22,7 +23,7 @@ use Rattle.bsv_tree.specs.carrying.Carrying as carrying
 use Rattle.bsv_tree.specs.carrying.Carrying.{Carried}
 use Rattle.bsv_tree.specs.carrying.Running as running
 use Rattle.bsv_tree.specs.meaning.Evaluation.{Results, Standing, SiteCall, Need}
-use Rattle.bsv_tree.specs.carrying.Running.{Happening, Run, in_turn, run, words_of, nested_run}
+use Rattle.bsv_tree.specs.carrying.Running.{Happening, Run, in_turn, run, nested_run}
 use Rattle.bsv_design.specs.design.Words.{is_one}
 use Rattle.bsv_tree.specs.carrying.Working.{tick, no_steps, at_count, give}
 use Rattle.bsv_tree.specs.meaning.Values.{Value as Val, static, varying, word_of, varied, is_static, is_true, Variables}
@@ -30,7 +31,7 @@ use Rattle.bsv_tree.specs.meaning.Evaluation as evaluation
 use Rattle.bsv_tree.specs.meaning.Evaluation.{Evaluation, Evaluated, yields, in_order, asked, within}
 use Rattle.bsv_tree.specs.meaning.Control.{chosen}
 use Rattle.bsv_tree.specs.meaning.Meaning.{Meant}
-use Rattle.bsv_tree.proofs.meaning.Same.{Shows, AllHold, ran, IsLong, Same, here, got, same_ok, all_hold_within, shows_word}
+use Rattle.bsv_tree.proofs.meaning.Same.{Shows, AllHold, ran, IsLong, Same, here, got, all_hold_within, shows_word}
 use Rattle.bsv_tree.proofs.meaning.Pieces.{tick_is, pushed}
 use Rattle.bsv_tree.proofs.meaning.Operating.{V}
 use Rattle.bsv_tree.proofs.meaning.Nodes.{alternative, alternative_is, choose_is, choice_is}

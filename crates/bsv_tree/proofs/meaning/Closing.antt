@@ -1,6 +1,7 @@
 -- The step of a choice that is not static, and the variables after it.
 use Rattle.std.proofs.Common.{◌≡◌, ℕ, ◌+◌, Bool, true, false, ◌&&◌, List, [], ◌++◌, length, map, Ok, refl, sym, ap, ◌∙◌, subst, append-nil}
 use Rattle.std.specs.Prelude.{slice_get}
+use Rattle.bsv_lemmas.proofs.Choices.{same_ok}
 use Rattle.bsv_bits.specs.Words.{Bits}
 use Rattle.bsv_tree.specs.declared.values.Count.{Count}
 use Rattle.bsv_tree.specs.declared.values.Local.{Local}
@@ -15,10 +16,9 @@ use Rattle.bsv_tree.specs.carrying.Running.{Happening, Run, run, arms_run, step_
 use Rattle.bsv_tree.specs.carrying.Working.{at_count, with_step}
 use Rattle.bsv_tree.specs.meaning.Values.{Variables, restored}
 use Rattle.bsv_tree.specs.meaning.Evaluation as evaluation
-use Rattle.bsv_tree.specs.meaning.Evaluation.{Evaluation, Evaluated, yields, in_order, asked, within}
+use Rattle.bsv_tree.specs.meaning.Evaluation.{Evaluation, yields, within}
 use Rattle.bsv_tree.specs.meaning.Control as control
-use Rattle.bsv_tree.specs.meaning.Control.{Means}
-use Rattle.bsv_tree.proofs.meaning.Same.{AllHold, Same, IsLong, ran, here, got, same_ok, within_append, all_hold_within}
+use Rattle.bsv_tree.proofs.meaning.Same.{AllHold, Same, IsLong, ran, here, got, within_append, all_hold_within}
 use Rattle.bsv_tree.proofs.meaning.Pieces.{ran_more}
 use Rattle.bsv_tree.proofs.meaning.Operating.{V}
 use Rattle.bsv_tree.proofs.meaning.AfterChoice.{after_choice}

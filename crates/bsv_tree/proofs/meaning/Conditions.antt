@@ -1,5 +1,6 @@
 -- The conditions of branches: an expression, and `matches`, which asks for the tag of a Maybe and binds its payload.
 use Rattle.std.proofs.Common.{◌≡◌, ℕ, suc, false, List, [], ◌∷◌, ◌++◌, ◌-◌, length, take, Some, None, Ok, refl, sym, ap, ◌∙◌, subst, append-nil}
+use Rattle.bsv_lemmas.proofs.Choices.{same_ok}
 use Rattle.bsv_fail.specs.Given.{◌>>=◌}
 use Rattle.bsv_bits.specs.Words.{Bits}
 use Rattle.bsv_tree.specs.declared.steps.Atom.TheVariants as atom
@@ -13,7 +14,6 @@ use Rattle.bsv_tree.specs.declared.values.Local.{Local}
 use Rattle.bsv_tree.specs.declared.values.Work.{Work}
 use Rattle.bsv_tree.specs.carrying.Frames as frames
 use Rattle.bsv_tree.specs.carrying.Values as values
-use Rattle.bsv_tree.specs.carrying.Values.{atom_of}
 use Rattle.bsv_tree.specs.carrying.Carrying as carrying
 use Rattle.bsv_tree.specs.carrying.Carrying.{Carry, Acts, Branched, Test}
 use Rattle.bsv_tree.specs.carrying.Running.{in_turn}
@@ -26,7 +26,7 @@ use Rattle.bsv_tree.specs.meaning.Evaluation as evaluation
 use Rattle.bsv_tree.specs.meaning.Evaluation.{Evaluation, yields}
 use Rattle.bsv_tree.specs.meaning.Control as control
 use Rattle.bsv_tree.specs.meaning.Control.{Means}
-use Rattle.bsv_tree.proofs.meaning.Same.{Shows, AllHold, ran, Same, here, got, same_ok, all_hold_within, shows_within}
+use Rattle.bsv_tree.proofs.meaning.Same.{Shows, AllHold, ran, Same, here, got, all_hold_within, shows_within}
 use Rattle.bsv_tree.proofs.meaning.Pieces.{bound, given}
 use Rattle.bsv_tree.proofs.meaning.Operating.{V, sliced_is}
 use Rattle.bsv_tree.proofs.meaning.Expressions.{Carries}

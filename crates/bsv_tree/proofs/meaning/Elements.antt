@@ -1,6 +1,7 @@
 -- The whole: rules and methods of the top do what they mean.
 use Rattle.std.proofs.Common.{◌≡◌, ℕ, zero, suc, Bool, true, false, ◌&&◌, List, [], ◌∷◌, ◌++◌, length, map, Option, Some, None, Ok, Err, refl, sym, ap, ap₂, ◌∙◌, subst, append_assoc, append-nil, length-append, ◌+◌}
 use Rattle.std.specs.Prelude.{slice_get, if◌then◌else◌}
+use Rattle.bsv_lemmas.proofs.Choices.{same_ok}
 use Rattle.bsv_fail.specs.Given.{◌>>=◌}
 use Rattle.bsv_bits.specs.Words.{Bits, bit}
 use Rattle.bsv_types.specs.declared.definitions.Body.{Body}
@@ -32,11 +33,11 @@ use Rattle.bsv_tree.specs.carrying.Values.{atom_of}
 use Rattle.bsv_tree.specs.carrying.Working.{Valued, no_steps, at_count, with_step, fresh}
 use Rattle.bsv_tree.specs.meaning.Values.{word_of, Value as Val, static, nothing, is_static, is_true, Variables, variable, varying}
 use Rattle.bsv_tree.specs.meaning.Evaluation as evaluation
-use Rattle.bsv_tree.specs.meaning.Evaluation.{Evaluation, Evaluated, yields, needed}
+use Rattle.bsv_tree.specs.meaning.Evaluation.{Evaluation, yields, needed}
 use Rattle.bsv_tree.specs.meaning.Control as control
 use Rattle.bsv_tree.specs.meaning.Meaning as meaning
 use Rattle.bsv_tree.specs.meaning.Meaning.{Calling}
-use Rattle.bsv_tree.proofs.meaning.Same.{Shows, AllShow, Holds, AllHold, ran, IsLong, Same, here, got, same_ok, all_show_within, shows_word, all_show_append}
+use Rattle.bsv_tree.proofs.meaning.Same.{got_after, Shows, AllShow, Holds, AllHold, ran, IsLong, Same, here, got, all_show_within, shows_word, all_show_append}
 use Rattle.bsv_tree.proofs.meaning.Pieces.{bound, given, nothing_more, ran_more, fresh_is}
 use Rattle.bsv_tree.proofs.meaning.Operating.{V}
 use Rattle.bsv_tree.proofs.meaning.Nodes.{need_is}
@@ -214,10 +215,6 @@ rule_means r site c ss w e =
 
 -- ---- methods of the top: their arguments are the first words
 
-got_next : (V W : List Bits) (w : Bits) → slice_get (V ++ w ∷ W) (length V) ≡ Some w
-got_next [] W w = refl
-got_next (v ∷ V) W w = got_next V W w
-
 parameters_are : (ps : List Param) (W V ws : List Bits) → W ≡ V ++ ws → length ws ≡ length ps → (xs : List Value) (ys : List Val) → AllShow W xs ys → (c : Count) → c.slots ≡ length V
     → (o : List Value × Count) → carrying.parameters_from xs ps c ≡ Ok o → AllShow W o.0 (ys ++ map varying ws) × (length W ≡ o.1.slots)
 unfolding carrying.parameters_from
@@ -228,7 +225,7 @@ parameters_are [] W V [] e l xs ys s c at o f =
 parameters_are (p ∷ ps) W V (w ∷ ws) e l xs ys s c at o f =
     let shorter : length ws ≡ length ps = cc in
     let g = got (fresh c 1) (λ next. carrying.parameters_from (xs ++ value.Open (atom.Slot c.slots) ∷ []) ps next) o f in
-    let there : slice_get W c.slots ≡ Some w = ap₂ (λ (q : List Bits) i. slice_get q i) e at ∙ got_next V ws w in
+    let there : slice_get W c.slots ≡ Some w = ap₂ (λ (q : List Bits) i. slice_get q i) e at ∙ got_after V ws w in
     let it = parameters_are ps W (V ++ w ∷ []) ws (e ∙ sym (append_assoc V (w ∷ []) ws)) shorter (xs ++ value.Open (atom.Slot c.slots) ∷ []) (ys ++ varying w ∷ [])
     (all_show_append W xs (value.Open (atom.Slot c.slots) ∷ []) ys (varying w ∷ []) s ((w, there, refl), tt)) g.0
     (fresh_is c 1 g.0 g.1 ∙ ap (λ i. i + 1) at ∙ sym (length-append V (w ∷ []))) o g.2 in

@@ -1,6 +1,7 @@
 -- Carrying an expression out gives what it means.
 use Rattle.std.proofs.Common.{◌≡◌, ℕ, zero, suc, Bool, true, false, List, [], ◌∷◌, ◌++◌, length, Option, Some, None, Ok, Err, refl, sym, ap, subst, append_assoc, append-nil}
 use Rattle.std.specs.Prelude.{slice_get, if◌then◌else◌, pos, nat_lt}
+use Rattle.bsv_lemmas.proofs.Choices.{same_ok}
 use Rattle.bsv_bits.specs.Words.{Bits}
 use Rattle.bsv_types.specs.Kinds.{Kind as Sort, bit as bit_kind, down, uint, int, bool, enum, struct, maybe, integer, interface, part, bare}
 use Rattle.bsv_types.specs.Shapes.{Shapes}
@@ -15,7 +16,6 @@ use Rattle.bsv_tree.specs.declared.values.Local.{Local}
 use Rattle.bsv_tree.specs.declared.values.Work.{Work}
 use Rattle.bsv_tree.specs.declared.values.Fault.{Fault}
 use Rattle.bsv_tree.specs.carrying.Values as values
-use Rattle.bsv_tree.specs.carrying.Values.{atom_of}
 use Rattle.bsv_tree.specs.tree.Widths.{width}
 use Rattle.bsv_tree.specs.carrying.Applied.{constant_of}
 use Rattle.bsv_tree.specs.carrying.Calls as calls
@@ -26,12 +26,12 @@ use Rattle.bsv_tree.specs.carrying.Carrying.{Carry, Carried, Placing}
 use Rattle.bsv_tree.specs.meaning.Evaluation.{Results, Standing}
 use Rattle.bsv_tree.specs.meaning.Values.{Value as Val, static, truth, Variable, Variables}
 use Rattle.bsv_tree.specs.meaning.Evaluation as evaluation
-use Rattle.bsv_tree.specs.meaning.Evaluation.{Evaluation, Evaluated, yields, decided, called}
+use Rattle.bsv_tree.specs.meaning.Evaluation.{Evaluation, yields}
 use Rattle.bsv_tree.specs.meaning.Control.{Means}
 use Rattle.bsv_tree.specs.meaning.Operators as means
 use Rattle.bsv_tree.specs.meaning.Meaning as meaning
 use Rattle.bsv_tree.specs.meaning.Meaning.{Meant, Calling}
-use Rattle.bsv_tree.proofs.meaning.Same.{Shows, AllShow, Holds, AllHold, IsLong, Same, here, got, same_ok, all_show_within, all_hold_within, all_show_append}
+use Rattle.bsv_tree.proofs.meaning.Same.{Shows, AllShow, Holds, AllHold, IsLong, Same, here, got, all_show_within, all_hold_within, all_show_append}
 use Rattle.bsv_tree.proofs.meaning.Pieces.{bound, given, nothing_more, by_if}
 use Rattle.bsv_tree.proofs.meaning.Operating.{V}
 

@@ -2,6 +2,7 @@
 -- they mean.
 use Rattle.std.proofs.Common.{◌≡◌, ℕ, ◌+◌, ◌-◌, Bool, true, false, List, [], ◌∷◌, Option, Some, None, Ok, refl, sym, ap, subst}
 use Rattle.std.specs.Prelude.{slice_get, if◌then◌else◌, pos, negsuc, nat_lt}
+use Rattle.bsv_lemmas.proofs.Choices.{same_ok}
 use Rattle.bsv_fail.specs.Given.{◌>>=◌}
 use Rattle.bsv_bits.specs.Words.{Bits}
 use Rattle.bsv_types.specs.declared.operators.Op.{Op}
@@ -29,7 +30,7 @@ use Rattle.bsv_tree.specs.meaning.Values.{Value as Val, static, Variables}
 use Rattle.bsv_tree.specs.meaning.Operators as means
 use Rattle.bsv_tree.specs.meaning.Meaning as meaning
 use Rattle.bsv_tree.specs.meaning.Meaning.{Meant}
-use Rattle.bsv_tree.proofs.meaning.Same.{Shows, AllShow, AllHold, IsLong, Same, here, got, same_ok, shows_within, all_hold_within}
+use Rattle.bsv_tree.proofs.meaning.Same.{Shows, AllShow, AllHold, IsLong, Same, here, got, shows_within, all_hold_within}
 use Rattle.bsv_tree.proofs.meaning.Pieces.{bound, given, nothing_more, by_if}
 use Rattle.bsv_tree.proofs.meaning.Operating.{Is, V, sliced_is, of_two_is}
 use Rattle.bsv_tree.proofs.meaning.Applying.{applied_is, same_fields}

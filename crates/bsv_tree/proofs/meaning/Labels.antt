@@ -1,6 +1,7 @@
 -- Whether the subject of a `case` has one of the labels of an arm is what it means.
 use Rattle.std.proofs.Common.{◌≡◌, ℕ, Bool, true, false, List, [], ◌∷◌, Option, Some, None, Ok, Err, refl, sym, ap, ◌∙◌, subst, append-nil}
 use Rattle.std.specs.Prelude.{if◌then◌else◌}
+use Rattle.bsv_lemmas.proofs.Choices.{same_ok}
 use Rattle.bsv_fail.specs.Given.{◌>>=◌}
 use Rattle.bsv_bits.specs.Words.{Bits}
 use Rattle.bsv_bits.specs.declared.operator.Operator.TheVariants as operator
@@ -19,7 +20,7 @@ use Rattle.bsv_tree.specs.carrying.Carrying as carrying
 use Rattle.bsv_tree.specs.carrying.Carrying.{Carry}
 use Rattle.bsv_tree.specs.carrying.Values as values
 use Rattle.bsv_tree.specs.carrying.Working as work
-use Rattle.bsv_tree.specs.carrying.Working.{Valued, no_steps}
+use Rattle.bsv_tree.specs.carrying.Working.{no_steps}
 use Rattle.bsv_tree.specs.meaning.Evaluation as evaluation
 use Rattle.bsv_tree.specs.meaning.Evaluation.{Results, Standing, Evaluated, yields}
 use Rattle.bsv_tree.specs.meaning.Control.{Means}
@@ -32,7 +33,7 @@ use Rattle.bsv_tree.specs.tree.Contexts.{Context}
 use Rattle.bsv_tree.proofs.meaning.Expressions.{Carries}
 use Rattle.bsv_tree.proofs.meaning.Operating.{V, Is, next, between_is, of_two_is, there}
 use Rattle.bsv_tree.proofs.meaning.Pieces.{bound, given, nothing_more}
-use Rattle.bsv_tree.proofs.meaning.Same.{Shows, AllHold, IsLong, Same, here, got, same_ok, shows_within, all_hold_within}
+use Rattle.bsv_tree.proofs.meaning.Same.{Shows, AllHold, IsLong, Same, here, got, shows_within, all_hold_within}
 
 -- what the labels before gave, where there are any
 abbrev pub FoundShows : List Bits → Option Value → Option Val → Type 0

@@ -1,6 +1,7 @@
 -- Loops give what they mean.
 use Rattle.std.proofs.Common.{◌≡◌, ℕ, zero, suc, Bool, true, false, List, [], ◌∷◌, ◌++◌, length, take, Result, Ok, Err, refl, sym, ap, ◌∙◌, subst}
 use Rattle.std.specs.Prelude.{if◌then◌else◌}
+use Rattle.bsv_lemmas.proofs.Choices.{same_ok}
 use Rattle.bsv_fail.specs.Given.{◌>>=◌}
 use Rattle.bsv_bits.specs.Words.{Bits}
 use Rattle.bsv_tree.specs.declared.values.Constant.{Constant}
@@ -22,10 +23,10 @@ use Rattle.bsv_tree.specs.carrying.Values as values
 use Rattle.bsv_tree.specs.carrying.Working.{no_steps, at_count}
 use Rattle.bsv_tree.specs.meaning.Values.{Value as Val, static, is_true, Variables, variable, assign}
 use Rattle.bsv_tree.specs.meaning.Evaluation as evaluation
-use Rattle.bsv_tree.specs.meaning.Evaluation.{Evaluation, Evaluated, yields}
+use Rattle.bsv_tree.specs.meaning.Evaluation.{Evaluation, yields}
 use Rattle.bsv_tree.specs.meaning.Control as control
 use Rattle.bsv_tree.specs.meaning.Control.{Means}
-use Rattle.bsv_tree.proofs.meaning.Same.{Shows, AllHold, ran, IsLong, Same, here, got, same_ok, all_hold_within}
+use Rattle.bsv_tree.proofs.meaning.Same.{Shows, AllHold, ran, IsLong, Same, here, got, all_hold_within}
 use Rattle.bsv_tree.proofs.meaning.Pieces.{bound, given, nothing_more}
 use Rattle.bsv_tree.proofs.meaning.Operating.{V}
 use Rattle.bsv_tree.proofs.meaning.Expressions.{Carries}

@@ -1,6 +1,7 @@
 -- Calls of methods, of functions and at places give what they mean.
 use Rattle.std.proofs.Common.{◌≡◌, ℕ, Bool, true, false, List, map, Option, Some, None, Ok, refl, sym, ap, ◌∙◌, subst}
 use Rattle.std.specs.Prelude.{slice_get}
+use Rattle.bsv_lemmas.proofs.Choices.{same_ok}
 use Rattle.bsv_bits.specs.Words.{Bits}
 use Rattle.bsv_types.specs.declared.definitions.Function.{Function}
 use Rattle.bsv_types.specs.declared.modules.Method.{Method}
@@ -19,7 +20,7 @@ use Rattle.bsv_tree.specs.carrying.Values as values
 use Rattle.bsv_tree.specs.carrying.Values.{atom_of}
 use Rattle.bsv_tree.specs.carrying.Calls as calls
 use Rattle.bsv_tree.specs.tree.Contexts.{Context, made_of}
-use Rattle.bsv_tree.specs.carrying.Calls.{Caller, static_fault}
+use Rattle.bsv_tree.specs.carrying.Calls.{Caller}
 use Rattle.bsv_tree.specs.carrying.Carrying as carrying
 use Rattle.bsv_tree.specs.carrying.Carrying.{Carried, Placing}
 use Rattle.bsv_tree.specs.meaning.Evaluation.{Results, Standing}
@@ -29,7 +30,7 @@ use Rattle.bsv_tree.specs.meaning.Evaluation as evaluation
 use Rattle.bsv_tree.specs.meaning.Evaluation.{Evaluation, Evaluated, yields, called, in_order}
 use Rattle.bsv_tree.specs.meaning.Meaning as meaning
 use Rattle.bsv_tree.specs.meaning.Meaning.{Meant, Calling}
-use Rattle.bsv_tree.proofs.meaning.Same.{Shows, AllShow, AllHold, ran, IsLong, Same, here, got, same_ok}
+use Rattle.bsv_tree.proofs.meaning.Same.{Shows, AllShow, AllHold, ran, IsLong, Same, here, got}
 use Rattle.bsv_tree.proofs.meaning.Pieces.{counted_is, bound, given, from_alike, alike_long, alike_ran}
 use Rattle.bsv_tree.proofs.meaning.Operating.{V}
 use Rattle.bsv_tree.proofs.meaning.Expressions.{AllMatch, Places, CallsSame, all_is}

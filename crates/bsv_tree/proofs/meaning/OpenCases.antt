@@ -1,5 +1,6 @@
 -- A `case` of a subject that is not static does what it means: a choice whose conditions are made of labels.
 use Rattle.std.proofs.Common.{◌≡◌, ℕ, ◌+◌, Bool, ◌&&◌, List, [], ◌∷◌, ◌++◌, map, Ok, sym, ap, ap₂, ◌∙◌, subst, append_assoc, append-nil}
+use Rattle.bsv_lemmas.proofs.Choices.{same_ok}
 use Rattle.bsv_bits.specs.Words.{Bits}
 use Rattle.bsv_tree.specs.declared.steps.Step.{Step}
 use Rattle.bsv_tree.specs.declared.values.Value.{Value}
@@ -26,7 +27,7 @@ use Rattle.bsv_tree.proofs.meaning.Joins.{AllPlain, Ends, Finishes, Both, last_f
 use Rattle.bsv_tree.proofs.meaning.Labels.{labels_is}
 use Rattle.bsv_tree.proofs.meaning.Nodes.{alternative}
 use Rattle.bsv_tree.proofs.meaning.Operating.{V}
-use Rattle.bsv_tree.proofs.meaning.Same.{Shows, AllHold, IsLong, got, same_ok, shows_word, shows_within}
+use Rattle.bsv_tree.proofs.meaning.Same.{Shows, AllHold, IsLong, got, shows_word, shows_within}
 use Rattle.bsv_tree.proofs.meaning.Statements.{everywhere}
 use Rattle.bsv_tree.proofs.meaning.StaticCases.{Labels, AllLabels}
 use Rattle.bsv_tree.proofs.meaning.Staying.{close_stays}

@@ -2,6 +2,7 @@
 use Rattle.std.proofs.Common.{◌≡◌, ℕ, ◌+◌, Bool, true, false, List, [], ◌∷◌, ◌++◌, length, map, Option, Some, None, Ok, Err, refl, sym, ap, ap₂, ◌∙◌, subst, append_assoc, append-nil, length-append}
 use Rattle.std.specs.Prelude.{slice_get, option_map, if◌then◌else◌, nat_lt, nat_le}
 use Rattle.std.proofs.lemmas.List.{map-append}
+use Rattle.bsv_lemmas.proofs.Choices.{same_ok}
 use Rattle.bsv_bits.specs.Words.{Bits}
 use Rattle.bsv_tree.specs.declared.steps.Atom.TheVariants as atom
 use Rattle.bsv_tree.specs.declared.steps.Compute.{Compute}
@@ -15,12 +16,12 @@ use Rattle.bsv_tree.specs.declared.values.Work.{Work}
 use Rattle.bsv_tree.specs.carrying.Values.{atom_of, known}
 use Rattle.bsv_tree.specs.carrying.Running as running
 use Rattle.bsv_tree.specs.meaning.Evaluation.{Results, Standing}
-use Rattle.bsv_tree.specs.carrying.Running.{Happening, Run, in_turn, run, followed, quiet, computed}
+use Rattle.bsv_tree.specs.carrying.Running.{Happening, Run, in_turn, run, followed, computed}
 use Rattle.bsv_tree.specs.carrying.Working.{Valued, with_step, at_count, fresh, give, settle, of_two, of_three, tick, counted}
 use Rattle.bsv_tree.specs.meaning.Values.{constant_word, Value as Val, static, varying, word_of, one, two, three}
 use Rattle.bsv_tree.specs.meaning.Evaluation as evaluation
 use Rattle.bsv_tree.specs.meaning.Evaluation.{Evaluated, Evaluation, yields, in_order}
-use Rattle.bsv_tree.proofs.meaning.Same.{Within, Shows, Adds, ran, IsLong, Same, here, one_more, got, same_ok, within_append, at_end, shows_word}
+use Rattle.bsv_tree.proofs.meaning.Same.{Within, Shows, Adds, ran, IsLong, Same, here, one_more, got, within_append, at_end, shows_word}
 use Rattle.bsv_tree.proofs.meaning.Nodes.{let_is}
 
 -- ---- counts

@@ -14,7 +14,7 @@ use Rattle.bsv_tree.specs.carrying.Values.{atom_of}
 use Rattle.bsv_tree.specs.carrying.Running as running
 use Rattle.bsv_design.specs.design.Words as the_words
 use Rattle.bsv_tree.specs.meaning.Evaluation.{Results, Standing}
-use Rattle.bsv_tree.specs.carrying.Running.{Happening, Run, in_turn, run, followed, quiet}
+use Rattle.bsv_tree.specs.carrying.Running.{Happening, Run, in_turn, run, followed}
 use Rattle.bsv_tree.specs.meaning.Values.{Value as Val, static, varying, word_of, is_static, Variable, Variables}
 use Rattle.bsv_tree.specs.meaning.Evaluation.{Evaluated, Evaluation}
 
@@ -103,6 +103,10 @@ within_append [] W k w e = absurd cc
 within_append (x ∷ V) W zero w e = e
 within_append (x ∷ V) W (suc k) w e = within_append V W k w e
 
+pub got_after : (V W : List Bits) (w : Bits) → slice_get (V ++ w ∷ W) (length V) ≡ Some w
+got_after [] W w = refl
+got_after (v ∷ V) W w = got_after V W w
+
 pub at_end : (V : List Bits) (w : Bits) → slice_get (V ++ w ∷ []) (length V) ≡ Some w
 at_end [] w = refl
 at_end (x ∷ V) w = at_end V w
@@ -152,6 +156,3 @@ one_more r p ws n k (x ∷ xs) y =
 pub got : {A B E : Type 0} (m : Result A E) (f : A → Result B E) (y : B) → (m >>= f) ≡ Ok y → (x : A) × (m ≡ Ok x) × (f x ≡ Ok y)
 got (Ok x) f y e = (x, refl, e)
 got (Err x) f y e = absurd cc
-
-pub same_ok : {A E : Type 0} (x y : A) → ◌≡◌ {A = Result A E} (Ok x) (Ok y) → x ≡ y
-same_ok x y e = cc

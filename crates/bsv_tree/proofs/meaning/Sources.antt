@@ -2,6 +2,7 @@
 use Rattle.std.proofs.Common.{◌≡◌, ℕ, Bool, true, false, List, [], ◌∷◌, length, map, Option, Some, None, Result, Ok, Err, refl, sym, ap, ap₂, ◌∙◌, subst}
 use Rattle.std.specs.Prelude.{slice_get, nat_lt, option_map, if◌then◌else◌}
 use Rattle.std.proofs.lemmas.List.{length-map}
+use Rattle.std.proofs.lemmas.Option.{same_Some}
 use Rattle.bsv_bits.specs.Words.{Bits}
 use Rattle.bsv_types.specs.declared.modules.Method.{Method}
 use Rattle.bsv_types.specs.declared.modules.Module.{Module}
@@ -44,14 +45,11 @@ record MeansText (x : Text) (s : Source) : Type 0 where
   outline : text_outline x ≡ (let o : Outline = record { name = s.name; role = s.role; ports = s.ports } in o)
   trace : (r : Answers) (ws : List Bits) → length ws ≡ length s.ports → step_trace (context_of x).modules (context_of x).instances s.steps s.gives r ws ≡ text_trace x r ws
 
-same_some : {A : Type 0} (x y : A) → Some x ≡ Some y → x ≡ y
-same_some x y e = cc
-
 rule_text_means : (name : List ℕ) (site : Context) (x : Rule) (o : Result Work Fault) → carrying.rule site x.condition x.body (no_steps (record { weight = 0; slots = 0 })) ≡ o
     → (s : Source) → rule_done name o ≡ Some s → MeansText (Text.rule name site x) s
 unfolding step_trace text_trace
 rule_text_means name site x (Err f) c s e = absurd cc
-rule_text_means name site x (Ok w) c s e = subst (MeansText (Text.rule name site x)) (same_some _ s e) (record { outline = refl; trace = by }) where
+rule_text_means name site x (Ok w) c s e = subst (MeansText (Text.rule name site x)) (same_Some _ s e) (record { outline = refl; trace = by }) where
   by : (r : Answers) (ws : List Bits) → length ws ≡ 0 → step_trace site.modules site.instances w.steps None r ws ≡ text_trace (Text.rule name site x) r ws
   by r [] l =
       let it = rule_means (results site.instances r) site x.condition x.body w c in
@@ -67,7 +65,7 @@ result_is false h x y e = refl
 method_text_means : (site : Context) (m : Method) (o : Valued) → carrying.top_method site m 0 ≡ o → (s : Source) → method_done site.shapes m o ≡ Some s → MeansText (Text.method site m) s
 unfolding step_trace text_trace
 method_text_means site m (Err f) c s e = absurd cc
-method_text_means site m (Ok x) c s e = subst (MeansText (Text.method site m)) (same_some _ s e) (record { outline = refl; trace = by }) where
+method_text_means site m (Ok x) c s e = subst (MeansText (Text.method site m)) (same_Some _ s e) (record { outline = refl; trace = by }) where
   by : (r : Answers) (ws : List Bits) → length ws ≡ length (map (port_of site.shapes) m.params)
       → step_trace site.modules site.instances x.1.steps (if gives_value (role_of m.result) then Some (atom_of x.0) else None) r ws ≡ text_trace (Text.method site m) r ws
   by r ws l =

@@ -1,6 +1,7 @@
 -- Statements give what they mean: declarations, assignments, calls and blocks.
 use Rattle.std.proofs.Common.{◌≡◌, ℕ, zero, suc, Bool, true, List, [], ◌∷◌, ◌++◌, length, take, Option, Some, None, Ok, refl, sym, ap, ◌∙◌, subst, append-nil}
 use Rattle.std.specs.Prelude.{slice_get, slice_set}
+use Rattle.bsv_lemmas.proofs.Choices.{same_ok}
 use Rattle.bsv_fail.specs.Given.{◌>>=◌}
 use Rattle.bsv_bits.specs.Words.{Bits}
 use Rattle.bsv_tree.specs.declared.values.Value.{Value}
@@ -12,10 +13,10 @@ use Rattle.bsv_tree.specs.carrying.Carrying.{Carry, Acts}
 use Rattle.bsv_tree.specs.meaning.Evaluation.{Results, Standing}
 use Rattle.bsv_tree.specs.meaning.Values.{Value as Val, Variable, Variables, variable, assign}
 use Rattle.bsv_tree.specs.meaning.Evaluation as evaluation
-use Rattle.bsv_tree.specs.meaning.Evaluation.{Evaluation, Evaluated, yields}
+use Rattle.bsv_tree.specs.meaning.Evaluation.{yields}
 use Rattle.bsv_tree.specs.meaning.Control as control
 use Rattle.bsv_tree.specs.meaning.Control.{Means}
-use Rattle.bsv_tree.proofs.meaning.Same.{Shows, Holds, AllHold, IsLong, Same, here, got, same_ok, all_hold_within}
+use Rattle.bsv_tree.proofs.meaning.Same.{Shows, Holds, AllHold, IsLong, Same, here, got, all_hold_within}
 use Rattle.bsv_tree.proofs.meaning.Pieces.{bound, given, nothing_more}
 use Rattle.bsv_tree.proofs.meaning.Operating.{V}
 use Rattle.bsv_tree.proofs.meaning.Expressions.{Carries}

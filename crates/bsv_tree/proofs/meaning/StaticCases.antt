@@ -1,6 +1,7 @@
 -- A `case` of a static subject does what it means: the arm of the first equal label.
 use Rattle.std.proofs.Common.{◌≡◌, ℕ, Bool, true, false, not, ◌&&◌, List, [], ◌∷◌, Result, Ok, refl, sym, ap, ◌∙◌, subst}
 use Rattle.std.specs.Prelude.{if◌then◌else◌}
+use Rattle.bsv_lemmas.proofs.Choices.{same_ok}
 use Rattle.bsv_fail.specs.Given.{◌>>=◌}
 use Rattle.bsv_bits.specs.Words.{Bits}
 use Rattle.bsv_tree.specs.declared.values.Value.{Value}
@@ -26,7 +27,7 @@ use Rattle.bsv_tree.proofs.meaning.Tails.{Exactly}
 use Rattle.bsv_tree.proofs.meaning.Labels.{AllCarry, labels_is, labels_static}
 use Rattle.bsv_tree.proofs.meaning.Operating.{V}
 use Rattle.bsv_tree.proofs.meaning.Pieces.{Alike, to_alike}
-use Rattle.bsv_tree.proofs.meaning.Same.{Shows, AllHold, IsLong, ran, Same, here, got, same_ok}
+use Rattle.bsv_tree.proofs.meaning.Same.{Shows, AllHold, IsLong, ran, Same, here, got}
 use Rattle.bsv_tree.proofs.meaning.Statements.{kept_all, kept_then}
 use Rattle.bsv_tree.proofs.meaning.Stays.{Stays}
 

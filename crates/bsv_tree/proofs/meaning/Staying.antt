@@ -1,6 +1,7 @@
 -- After the step of a choice the same variables are there.
 use Rattle.std.proofs.Common.{◌≡◌, ℕ, suc, Bool, true, false, List, [], ◌∷◌, ◌++◌, length, Ok, refl, sym, ap, ◌∙◌, subst, append_assoc, append-nil}
 use Rattle.std.specs.Prelude.{if◌then◌else◌}
+use Rattle.bsv_lemmas.proofs.Choices.{same_ok}
 use Rattle.bsv_fail.specs.Given.{◌>>=◌}
 use Rattle.bsv_tree.specs.declared.steps.Atom.TheVariants as atom
 use Rattle.bsv_tree.specs.declared.values.Value.TheVariants as value
@@ -11,7 +12,7 @@ use Rattle.bsv_tree.specs.declared.values.Work.{Work}
 use Rattle.bsv_tree.specs.carrying.Arms as carried
 use Rattle.bsv_tree.specs.carrying.Arms.{joined_as, joined_from}
 use Rattle.bsv_tree.specs.carrying.Working.{fresh}
-use Rattle.bsv_tree.proofs.meaning.Same.{got, same_ok}
+use Rattle.bsv_tree.proofs.meaning.Same.{got}
 use Rattle.bsv_tree.proofs.meaning.Statements.{Kept}
 
 -- the mark `integer` of a variable that is joined is as before

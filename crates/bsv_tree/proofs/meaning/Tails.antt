@@ -8,14 +8,13 @@ use Rattle.bsv_tree.specs.declared.values.Work.{Work}
 use Rattle.bsv_tree.specs.carrying.Arms as carried
 use Rattle.bsv_tree.specs.carrying.Frames as frames
 use Rattle.bsv_tree.specs.carrying.Carrying as carrying
-use Rattle.bsv_tree.specs.carrying.Carrying.{Carry, Acts, Branched, Test}
+use Rattle.bsv_tree.specs.carrying.Carrying.{Acts}
 use Rattle.bsv_tree.specs.meaning.Evaluation.{Results, Standing}
 use Rattle.bsv_tree.specs.carrying.Running.{run, arms_run}
 use Rattle.bsv_tree.specs.carrying.Working.{no_steps}
 use Rattle.bsv_tree.specs.meaning.Values.{Variables, begun}
 use Rattle.bsv_tree.specs.meaning.Evaluation.{Evaluation, within}
 use Rattle.bsv_tree.specs.meaning.Control as control
-use Rattle.bsv_tree.specs.meaning.Control.{Means}
 use Rattle.bsv_tree.proofs.meaning.Same.{AllHold, got}
 use Rattle.bsv_tree.proofs.meaning.Operating.{V}
 use Rattle.bsv_tree.proofs.meaning.Nodes.{alternative}

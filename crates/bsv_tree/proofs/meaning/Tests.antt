@@ -15,7 +15,7 @@ use Rattle.bsv_tree.specs.carrying.Arms as carried
 use Rattle.bsv_tree.specs.carrying.Frames as frames
 use Rattle.bsv_tree.specs.carrying.Values as values
 use Rattle.bsv_tree.specs.carrying.Carrying as carrying
-use Rattle.bsv_tree.specs.carrying.Carrying.{Carry, Acts, Branched, Test}
+use Rattle.bsv_tree.specs.carrying.Carrying.{Acts, Branched, Test}
 use Rattle.bsv_tree.specs.meaning.Evaluation.{Results, Standing}
 use Rattle.bsv_tree.specs.carrying.Running.{in_turn, run, arms_run}
 use Rattle.bsv_tree.specs.carrying.Working.{no_steps}

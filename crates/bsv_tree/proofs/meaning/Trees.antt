@@ -1,6 +1,7 @@
 -- Carrying out any expression, and any place, gives what it means.
 use Rattle.std.proofs.Common.{◌≡◌, ℕ, true, false, List, [], ◌∷◌, length, map, Option, Some, None, Ok, refl, sym, ap, ◌∙◌, subst}
 use Rattle.std.specs.Prelude.{slice_get, pos, negsuc}
+use Rattle.bsv_lemmas.proofs.Choices.{same_ok}
 use Rattle.bsv_fail.specs.Given.{◌>>=◌}
 use Rattle.bsv_bits.specs.Words.{Bits}
 use Rattle.bsv_types.specs.declared.operators.Op.{Op}
@@ -33,7 +34,7 @@ use Rattle.bsv_tree.specs.meaning.Control.{Means, chosen}
 use Rattle.bsv_tree.specs.meaning.Operators as means
 use Rattle.bsv_tree.specs.meaning.Meaning as meaning
 use Rattle.bsv_tree.specs.meaning.Meaning.{Meant, Calling}
-use Rattle.bsv_tree.proofs.meaning.Same.{Shows, AllShow, AllHold, Same, here, got, same_ok}
+use Rattle.bsv_tree.proofs.meaning.Same.{Shows, AllShow, AllHold, Same, here, got}
 use Rattle.bsv_tree.proofs.meaning.Pieces.{counted_is, bound, given, nothing_more, from_alike, alike_long, alike_ran}
 use Rattle.bsv_tree.proofs.meaning.Operating.{V}
 use Rattle.bsv_tree.proofs.meaning.InTurn.{operated_is}
