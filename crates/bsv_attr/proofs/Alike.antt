@@ -1,47 +1,19 @@
 -- What holds of the attributes of a scheme holds of those of one that does the same.
-use Rattle.std.proofs.Common.{◌≡◌, ◌∙◌, ℕ, Bool, true, false, ◌&&◌, List, [], ◌++◌, map, sym, ap, subst, inl, inr, IsTrue}
-use Rattle.std.specs.Prelude.{◌↔◌, IsFalse, slice_get}
+use Rattle.std.proofs.Common.{◌≡◌, ◌∙◌, ℕ, Bool, true, false, ◌&&◌, [], ◌++◌, map, sym, ap, subst}
+use Rattle.std.specs.Prelude.{◌↔◌, slice_get}
 use Rattle.bsv_design.specs.declared.schedule.Schedule.{Schedule}
 use Rattle.bsv_design.specs.declared.attributes.Attribute.{Attribute}
-use Rattle.bsv_design.specs.scheme.Relations.{goes, for_all, may_precede, no_answers}
+use Rattle.bsv_design.specs.scheme.Relations.{no_answers}
 use Rattle.bsv_design.specs.scheme.Schemes.{Scheme, Asking, Look, AreAlike, answers, filled, given, ports_of, ready, seen, all_hold, all_open}
 use Rattle.bsv_design.specs.scheme.Traces.{Trace}
-use Rattle.bsv_schedule.specs.relating.Relating.{Relating}
-use Rattle.bsv_schedule.specs.stopping.Stops.{Stops}
 use Rattle.bsv_attr.specs.Asserting.{IsExplicit, IsUnstopped, IsAccepted, NamesImplicit, NamesStopper}
 use Rattle.bsv_design.specs.scheme.Traces.{has_name}
 use Rattle.bsv_attr.specs.Implicit.{are_implicit, has_guard, IsFirstTrue, NoneTrue}
 use Rattle.bsv_schedule.specs.relating.Marks.{IsMarked, IsPaired}
-use Rattle.bsv_clock.specs.Obeying.{own, Obeys}
-use Rattle.bsv_schedule.specs.stopping.Firing.{StopsIn}
-use Rattle.bsv_schedule.specs.relating.Elements.{relating}
+use Rattle.bsv_attr.specs.Obeying.{own, Obeys}
+use Rattle.bsv_clock.proofs.Belonging.{fit_alike}
+use Rattle.bsv_clock.proofs.HappenAlike.{clock_to, ready_same}
 use Rattle.bsv_design.proofs.Elements.{length-filled}
-
--- ---- stops
-
-stops_as : (P Q : Relating) (x u : List ℕ) (a b : ℕ) → ((m n : ℕ) → P.goes m n ≡ Q.goes m n) → ((m n : ℕ) → P.preempts m n ≡ Q.preempts m n)
-    → Stops P x u a b → Stops Q x u a b
-stops_as P Q x u a b go pre (inl (h, inl k)) = inl (h, inl (k.0, subst IsFalse (go a b) k.1))
-stops_as P Q x u a b go pre (inl (h, inr k)) = inl (h, inr (k.0, subst IsFalse (go b a) k.1))
-stops_as P Q x u a b go pre (inr h) = inr (subst IsTrue (pre a b) h)
-
-goes_alike : (S T : Scheme) → AreAlike S T → (a b : ℕ) → (relating S).goes a b ≡ (relating T).goes a b
-unfolding relating goes
-goes_alike S T h a b =
-    ap (λ ks. for_all (λ x. for_all (may_precede ks x) (S.uses b)) (S.uses a)) h.kinds
-    ∙ (ap (λ us. for_all (λ x. for_all (may_precede T.kinds x) us) (S.uses a)) (h.uses b)
-    ∙ ap (λ us. for_all (λ x. for_all (may_precede T.kinds x) (T.uses b)) us) (h.uses a))
-
-preempts_alike : (S T : Scheme) → AreAlike S T → (a b : ℕ) → (relating S).preempts a b ≡ (relating T).preempts a b
-unfolding relating
-preempts_alike S T h a b = ap (λ ps. (relating (record S { pairs = ps })).preempts a b) h.pairs
-
-stops_to : (S T : Scheme) (s : Schedule) → AreAlike S T → (a b : ℕ) → StopsIn S s a b → StopsIn T s a b
-stops_to S T s h a b = stops_as (relating S) (relating T) s.execution s.urgency a b (goes_alike S T h) (preempts_alike S T h)
-
-stops_from : (S T : Scheme) (s : Schedule) → AreAlike S T → (a b : ℕ) → StopsIn T s a b → StopsIn S s a b
-stops_from S T s h a b =
-    stops_as (relating T) (relating S) s.execution s.urgency a b (λ m n. sym (goes_alike S T h m n)) (λ m n. sym (preempts_alike S T h m n))
 
 -- ---- readiness
 
@@ -65,9 +37,11 @@ obeys_alike S T s h o = record {
   descending_urgency = λ a b p. o.descending_urgency a b (paired _ a b p);
   execution_order = λ a b p. o.execution_order a b (paired _ a b p);
   preempts = λ a b p. o.preempts a b (paired _ a b p);
-  preempted = λ a b p fired none. o.preempted a b (paired _ a b p) fired (λ m n i j k. none m n i j (stops_from S T s h m n k));
-  fires = λ r m is_ready fired others. o.fires r (marked true r m) is_ready fired
-      (λ n out is. let k = others n out is in (k.0, k.1, stops_to S T s h k.0 n k.2));
+  preempted = λ a b p g q st fired after fit clock.
+      o.preempted a b (paired _ a b p) g q st fired after (fit_alike S T h q st fit) (clock_to g S T s q st fired after h clock);
+  fires = λ r m g q st fired after fit clock is.
+      o.fires r (marked true r m) g q st fired after (fit_alike S T h q st fit) (clock_to g S T s q st fired after h clock)
+      (sym (ready_same S T h g q st fired r) ∙ is);
   no_implicit = λ r m aggressive q look. ready_alike S T h aggressive q r look
       ∙ (o.no_implicit r (marked false r m) aggressive q look
       ∙ sym (ap (λ (t : Trace). all_hold aggressive (own t.demands)) (seen_alike S T h q r look)));

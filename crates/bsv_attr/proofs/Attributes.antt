@@ -1,23 +1,29 @@
 -- An accepted schedule obeys all attributes.
-use Rattle.std.proofs.Common.{◌≡◌, ◌∙◌, ℕ, Bool, true, false, cond, not, ◌&&◌, List, [], ◌∷◌, map, Some, None, refl, sym, ap, subst, inl, inr, zero, suc, IsTrue, nat_eq}
-use Rattle.std.specs.Prelude.{slice_get, Option, filter, is_some}
-use Rattle.std.proofs.Math.Bool.{and-true}
-use Rattle.std.proofs.lemmas.Option.{same_Some}
+use Rattle.std.proofs.Common.{◌≡◌, ◌∙◌, ℕ, Bool, true, false, cond, not, ◌&&◌, ◌||◌, List, [], ◌∷◌, map, Some, None, refl, sym, ap, subst, inl, inr, zero, suc, IsTrue, nat_eq}
+use Rattle.std.specs.Prelude.{slice_get, Option, filter, is_some, option_map}
+use Rattle.std.proofs.Math.Bool.{and-true, Bool-set}
+use Rattle.std.proofs.Math.Logic.{∥∥₁_elim}
+use Rattle.std.proofs.lemmas.Option.{same_Some, slice_get-map}
 use Rattle.std.proofs.lemmas.Bool.{eq-eqb}
 use Rattle.std.proofs.lemmas.Map.Keys.{any_passes_from_place}
 use Rattle.bsv_bits.specs.Words.{Bits}
+use Rattle.bsv_prim.specs.declared.part.Part.{Part}
+use Rattle.bsv_design.specs.declared.design.Design.{Design}
 use Rattle.bsv_design.specs.declared.design.NamedPart.{NamedPart}
 use Rattle.bsv_design.specs.declared.element.Call.{Call}
 use Rattle.bsv_design.specs.declared.element.Condition.{Condition}
 use Rattle.bsv_design.specs.declared.element.Element.{Element}
+use Rattle.bsv_design.specs.declared.element.Role.{Role}
 use Rattle.bsv_design.specs.declared.kind.Kind.{Kind}
 use Rattle.bsv_design.specs.declared.schedule.Schedule.{Schedule}
 use Rattle.bsv_design.specs.declared.attributes.Attribute.{Attribute}
 use Rattle.bsv_design.specs.declared.attributes.Attribute.TheVariants as attribute
 use Rattle.bsv_design.specs.declared.attributes.Pair.{Pair}
 use Rattle.bsv_design.specs.design.Bodies.{target, words}
-use Rattle.bsv_design.specs.design.Designs.{DesignData}
-use Rattle.bsv_design.specs.scheme.Schemes.{Scheme, Look, Asking, design_scheme, kinds_of, trace_of, answers, given, seen, ready, is_open, required, all_hold, all_open}
+use Rattle.bsv_design.specs.design.Designs.{DesignData, IsDesign, IsRuleIn}
+use Rattle.bsv_design.specs.design.Roles.{is_rule}
+use Rattle.bsv_design.specs.scheme.Seen.{design_data}
+use Rattle.bsv_design.specs.scheme.Schemes.{Scheme, Look, Asking, design_scheme, kinds_of, outline, trace_of, answers, given, seen, ready, is_open, required, all_hold, all_open}
 use Rattle.bsv_design.specs.scheme.Traces.{Trace, kind_at, site_at, demand_at, body_trace}
 use Rattle.bsv_schedule.specs.execution_order.Orders.{ExecutionOrder}
 use Rattle.bsv_graph.specs.Orders.{In, IsBefore}
@@ -28,8 +34,10 @@ use Rattle.bsv_graph.specs.Walks.{HasEdge}
 use Rattle.bsv_attr.specs.Asserting.{IsAccepted}
 use Rattle.bsv_attr.specs.Calling.{condition_named, call_guarded, implicit_places}
 use Rattle.bsv_attr.specs.Implicit.{NoneTrue, are_implicit}
-use Rattle.bsv_schedule.specs.relating.Marks.{IsPaired}
-use Rattle.bsv_clock.specs.Obeying.{own, Obeys}
+use Rattle.bsv_schedule.specs.relating.Marks.{IsMarked, IsPaired}
+use Rattle.bsv_clock.specs.Clocks.{IsClock, is_asked, is_candidate, may_fire, may_fire_as}
+use Rattle.bsv_clock.specs.Looks.{clock_look}
+use Rattle.bsv_attr.specs.Obeying.{own, Obeys}
 use Rattle.bsv_schedule.specs.stopping.Firing.{StopsIn, OthersAreStopped}
 use Rattle.bsv_schedule.specs.relating.Elements.{relating, edge_of, edges_of, is_ordering, is_urging, is_preempting, preempts}
 use Rattle.bsv_attr.specs.Stopping.{ListStops}
@@ -37,6 +45,7 @@ use Rattle.bsv_attr.proofs.Elements.{implicit_is}
 use Rattle.bsv_attr.proofs.Truths.{none_left, none_right}
 use Rattle.bsv_graph.proofs.Fronts.{is_or_not}
 use Rattle.bsv_design.proofs.Elements.{unguarded}
+use Rattle.bsv_schedule.proofs.RelationsLemmas.{agrees_design}
 use Rattle.bsv_clock.proofs.Stopping.{picks}
 use Rattle.bsv_graph.proofs.OrderedLemmas.{before_in}
 
@@ -115,12 +124,33 @@ stops_listed R s f r u are h =
     let same : h.1.stopped ≡ one.0 = same_Some h.1.stopped one.0 (sym h.1.at ∙ one.1) in
     picks_have (Stops R s.execution s.urgency f) s.urgency one.0 r one.2 (subst (λ ys. In ys r) same h.1.has)
 
+-- what nothing stops fires where it is ready
 fires_where : (S : Scheme) (s : Schedule) (r : ℕ) → ((f : ℕ) → ¬ StopsIn S s f r) → (is_ready : ℕ → Bool) (fired : List ℕ)
     → OthersAreStopped S s is_ready fired → is_ready r ≡ true → In fired r
 fires_where S s r never is_ready fired others h = elim (is_or_not fired r) [
   | inl i ↦ i
   | inr out ↦ let o = others r out h in absurd (never o.0 o.2)
 ]
+
+-- and so does a rule in each clock in whose look it is ready
+rule_fires : (g : Bool) (S : Scheme) (s : Schedule) (r : ℕ) (q : Asking) (st : List Part) (fired : List ℕ) (after : List Part)
+    → ((f : ℕ) → ¬ StopsIn S s f r) → may_fire S q r ≡ true → IsClock g S s q st fired after
+    → ready g S q r (clock_look S q st fired) ≡ true → In fired r
+unfolding is_candidate
+rule_fires g S s r q st fired after never may clock is =
+    fires_where S s r never (is_candidate g S q st fired) fired clock.others_stopped
+    (ap (λ b. b && ready g S q r (clock_look S q st fired)) may ∙ is)
+
+-- a rule may fire, whatever is asked
+rule_may : (es : List Element) (n : ℕ) → IsRuleIn es n → (q : Asking) → may_fire_as q n (slice_get (map outline es) n) ≡ true
+rule_may es n r q = ap (may_fire_as q n) (slice_get-map outline es n ∙ ap (option_map outline) r.at) ∙ ap (λ (x : Role). is_rule x || is_asked q n) r.rule
+
+-- a mark is one of a rule
+marked_may : (d : Design) (fires : Bool) (r : ℕ) → IsMarked d.asserts fires r → (q : Asking) → may_fire (design_scheme (design_data d)) q r ≡ true
+unfolding may_fire design_scheme
+marked_may d fires r m q =
+    ∥∥₁_elim d.right (Bool-set _ _)
+    (λ (right : IsDesign (design_data d)). rule_may d.elements r (subst (IsRuleIn d.elements) m.is.rule (right.asserts m.place m.mark m.at)) q)
 
 -- ---- readiness
 
@@ -179,17 +209,22 @@ explicit_ready b n (Some e) at none aggressive q look =
 abbrev pub Ordering : Type 0
 Ordering = (r : Relating) (xs : List ℕ) (a b : ℕ) → Agrees r → ExecutionOrder r xs → HasEdge r.ordering a b → IsBefore xs a b
 
-pub obeys : Ordering → Urged → (b : DesignData) (s : Schedule) → Agrees (relating (design_scheme b))
-    → ExecutionOrder (relating (design_scheme b)) s.execution → UrgencyOrder (relating (design_scheme b)) s.urgency
-    → AreStops (relating (design_scheme b)) s.execution s.urgency s.stops → IsAccepted (design_scheme b) s → Obeys (design_scheme b) s
-obeys ordering urged b s g x u are accepted =
-    let S = design_scheme b in
+pub obeys : Ordering → Urged → (d : Design) (s : Schedule)
+    → ExecutionOrder (relating (design_scheme (design_data d))) s.execution → UrgencyOrder (relating (design_scheme (design_data d))) s.urgency
+    → AreStops (relating (design_scheme (design_data d))) s.execution s.urgency s.stops → IsAccepted (design_scheme (design_data d)) s
+    → Obeys (design_scheme (design_data d)) s
+unfolding design_scheme
+obeys ordering urged d s x u are accepted =
+    let S = design_scheme (design_data d) in
     let R = relating S in
+    let g = agrees_design d in
     record {
       descending_urgency = λ m n p. urged R s.urgency m n g u (paired_descending S m n p);
       execution_order = λ m n p. ordering R s.execution m n g x (paired_ordering S m n p);
       preempts = λ m n p. urged R s.urgency m n g u (paired_preempting S m n p);
-      preempted = λ m n p fired none i j. none m n i j (inr (paired_preempts S m n p));
-      fires = λ r m. fires_where S s r (λ f h. let k = list_stops R s f r urged g u are h in accepted.1 r m f k.0 k.1);
-      no_implicit = λ r m. explicit_ready b r (slice_get b.elements r) refl (accepted.0 r m);
+      preempted = λ m n p aggressive q st fired after fit clock i j. clock.none_stopped m n i j (inr (paired_preempts S m n p));
+      fires = λ r m aggressive q st fired after fit clock.
+          rule_fires aggressive S s r q st fired after
+          (λ f h. let k = list_stops R s f r urged g u are h in accepted.1 r m f k.0 k.1) (marked_may d true r m q) clock;
+      no_implicit = λ r m. explicit_ready (design_data d) r (slice_get d.elements r) refl (accepted.0 r m);
     }

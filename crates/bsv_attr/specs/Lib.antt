@@ -2,3 +2,4 @@ pub mod Implicit
 pub mod Stopping
 pub mod Asserting
 pub mod Calling
+pub mod Obeying

@@ -1,12 +1,13 @@
 ghost use Rattle.std.specs.Prelude.{◌≡◌, ◌↔◌, ℕ, Result};
 ghost use Rattle.bsv_attr.specs.declared.fault.AttrFault.{AttrFault};
 ghost use Rattle.bsv_attr.specs.Asserting.{IsAccepted, IsAnswer, NamesImplicit, NamesStopper};
-ghost use Rattle.bsv_clock.specs.Obeying.{Obeys};
+ghost use Rattle.bsv_attr.specs.Obeying.{Obeys};
 ghost use Rattle.bsv_schedule.specs.relating.Elements.{relating};
 ghost use Rattle.bsv_attr.specs.Stopping.{ListStops};
 ghost use Rattle.bsv_design.specs.declared.schedule.Schedule.{Schedule};
-ghost use Rattle.bsv_design.specs.design.Designs.{DesignData};
+ghost use Rattle.bsv_design.specs.declared.design.Design.{Design as TheDesign};
 ghost use Rattle.bsv_design.specs.scheme.Schemes.{Scheme, AreAlike, design_scheme};
+ghost use Rattle.bsv_design.specs.scheme.Seen.{design_data};
 ghost use Rattle.bsv_schedule.specs.execution_order.Orders.{ExecutionOrder};
 ghost use Rattle.bsv_graph.specs.Orders.{In};
 ghost use Rattle.bsv_schedule.specs.relating.Relating.{Relating, Agrees};
@@ -36,11 +37,11 @@ pub fn listed()
 /// The schedule of a design obeys the attributes, where both orders are the design's, its lists have what each element
 /// stops, and the asserting attributes are accepted.
 pub fn obeyed()
-    ensures { (b : DesignData) (s : Schedule) → Agrees (relating (design_scheme b))
-        → ExecutionOrder (relating (design_scheme b)) s.execution
-        → UrgencyOrder (relating (design_scheme b)) s.urgency
-        → AreStops (relating (design_scheme b)) s.execution s.urgency s.stops
-        → IsAccepted (design_scheme b) s → Obeys (design_scheme b) s }
+    ensures { (d : TheDesign) (s : Schedule)
+        → ExecutionOrder (relating (design_scheme (design_data d))) s.execution
+        → UrgencyOrder (relating (design_scheme (design_data d))) s.urgency
+        → AreStops (relating (design_scheme (design_data d))) s.execution s.urgency s.stops
+        → IsAccepted (design_scheme (design_data d)) s → Obeys (design_scheme (design_data d)) s }
 {
     pairs_obeyed();
 }
