@@ -1,12 +1,11 @@
 -- A net that carries a scheme carries each scheme that is alike.
-use Rattle.std.proofs.Common.{◌≡◌, ◌∙◌, ℕ, ◌+◌, ◌<◌, Bool, false, List, [], ◌∷◌, ◌++◌, Some, length, map, refl, sym, ap, ap₂, subst}
-use Rattle.std.specs.Prelude.{cond, slice_get}
+use Rattle.std.proofs.Common.{◌≡◌, ◌∙◌, ℕ, ◌<◌, Bool, List, Some, length, map, sym, ap, subst}
+use Rattle.std.specs.Prelude.{slice_get}
 use Rattle.bsv_bits.specs.Words.{Bits, bit}
 use Rattle.bsv_prim.specs.declared.part.Part.{Part}
 use Rattle.bsv_design.specs.declared.kind.Kind.{Kind}
 use Rattle.bsv_design.specs.declared.schedule.Schedule.{Schedule}
-use Rattle.bsv_design.specs.design.Roles.{is_rule}
-use Rattle.bsv_design.specs.scheme.Schemes.{Scheme, Outline, Asking, AreAlike, given, ports_of, value}
+use Rattle.bsv_design.specs.scheme.Schemes.{Scheme, Outline, Asking, AreAlike, ports_of, value}
 use Rattle.bsv_design.specs.scheme.States.{AreWordsOf}
 use Rattle.bsv_guard.proofs.Alike.{alike, alike_back}
 use Rattle.bsv_clock.specs.Shows.{Cell, Given, Shows, cell}

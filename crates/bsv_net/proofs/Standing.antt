@@ -1,21 +1,17 @@
 -- The scheme in which each element has certain arguments, whatever is given: where all that fire have what they are given, the
 -- same clock is one of it.
-use Rattle.std.proofs.Common.{◌≡◌, ◌∙◌, ◌<◌, ◌⊎◌, inl, inr, ℕ, Bool, true, false, not, ◌&&◌, ◌||◌, List, [], ◌∷◌, ◌++◌, Option, Some, None, map, length, refl, sym, ap, ap₂, subst}
-use Rattle.std.specs.Prelude.{slice_get, filter}
+use Rattle.std.proofs.Common.{◌≡◌, ◌∙◌, inl, inr, ℕ, Bool, true, false, not, ◌&&◌, ◌||◌, List, [], ◌∷◌, ◌++◌, Option, Some, None, map, refl, sym, ap, ap₂, subst}
+use Rattle.std.specs.Prelude.{slice_get}
 use Rattle.bsv_lemmas.proofs.Places.{mapped_at}
 use Rattle.bsv_bits.specs.Words.{Bits, bit}
 use Rattle.bsv_prim.specs.declared.part.Part.{Part}
-use Rattle.bsv_design.specs.declared.kind.Kind.{Kind}
-use Rattle.bsv_design.specs.declared.node.Branch.{Branch}
 use Rattle.bsv_design.specs.declared.schedule.Schedule.{Schedule}
-use Rattle.bsv_design.specs.design.Bodies.{Target}
-use Rattle.bsv_design.specs.design.Branches.{apart}
 use Rattle.bsv_design.specs.design.Roles.{is_rule, is_value}
-use Rattle.bsv_design.specs.scheme.Relations.{IsBreach, KeepsTheRule, break_the_rule, feeds, goes, may_stand, no_answers, sites_of}
+use Rattle.bsv_design.specs.scheme.Relations.{break_the_rule, feeds, goes, no_answers, sites_of}
 use Rattle.bsv_design.specs.scheme.Schemes.{Scheme, Outline, Asking, AreArgumentsOf, Called, Look, all_hold, all_open, answers, calls, filled, given, ports_of, ready, seen, taken_actions, value}
 use Rattle.bsv_design.specs.scheme.Serial.{Serial, by_rank, calls_made, done, run_whole, turn}
 use Rattle.bsv_design.specs.scheme.States.{AreWordsOf, after_calls, emptied, plain}
-use Rattle.bsv_design.specs.scheme.Traces.{Site, Trace, kind_at}
+use Rattle.bsv_design.specs.scheme.Traces.{Site, Trace}
 use Rattle.bsv_design.proofs.Elements.{length-filled, length-words}
 use Rattle.bsv_graph.specs.Orders.{In}
 use Rattle.bsv_guard.specs.Sound.{IsSound, Place, place}
