@@ -38,7 +38,7 @@ pub record IsGround (z : Scene) (g : Ground) : Type 0 where
       × ((n : ℕ) → n < (kind_table k).registers → z.V (node_at g.base.registers i + n) ≡ r n)
   -- the inputs of an element are what it is given, and whether it is asked
   pub arguments : (n : ℕ) (e : Element) → slice_get z.b.elements n ≡ Some e → (k : ℕ) → k < length e.arguments
-      → z.V (node_at g.inputs n + k) ≡ at (given (S z) z.q n) k
+      → z.V (node_at g.inputs n + k) ≡ at (z.xs n) k
   pub asked : (n : ℕ) (e : Element) → slice_get z.b.elements n ≡ Some e → is_rule e.role ≡ false
       → z.V (node_at g.inputs n + length e.arguments) ≡ bit (is_asked z.q n)
   pub none : z.V g.base.none ≡ bit false
