@@ -16,7 +16,7 @@ use Rattle.bsv_net.specs.declared.net_data.NetData.{NetData}
 use Rattle.bsv_net.specs.declared.net.Net.{Net}
 use Rattle.bsv_net.specs.AtHand.{net_data}
 use Rattle.bsv_net.specs.Nets.{IsNet}
-use Rattle.bsv_net.specs.ShowsByNet.{WordsCarry}
+use Rattle.bsv_net.specs.ShowsByNet.{WordsCarry, WordsIgnore}
 use Rattle.bsv_vtext.specs.declared.tree.Assign.{Assign}
 use Rattle.bsv_vtext.specs.declared.tree.Atom.{Atom}
 use Rattle.bsv_vtext.specs.declared.tree.VMethod.{VMethod}
@@ -24,12 +24,12 @@ use Rattle.bsv_vtext.specs.declared.tree.VRegister.{VRegister}
 use Rattle.bsv_vtext.specs.declared.tree.VWire.{VWire}
 use Rattle.bsv_vtext.specs.Modules.{IsModule}
 use Rattle.bsv_vtext.specs.Signals.{VModuleData}
-use Rattle.bsv_vgen.specs.ShowsByModule.{ModuleCarries}
+use Rattle.bsv_vgen.specs.ShowsByModule.{ModuleCarries, ModuleIgnores}
 use Rattle.bsv_vgen.specs.Interfaces.{IsModuleOf, cell}
 use Rattle.bsv_vgen.specs.Modules.{module_of}
 use Rattle.bsv_vgen.specs.Resetting.{BeginsOpen, Resets}
 use Rattle.bsv_vgen.specs.Runs.{RunsAs}
-use Rattle.bsv_vgen.proofs.Carried.{carries}
+use Rattle.bsv_vgen.proofs.Carried.{carries, ignores}
 use Rattle.bsv_vgen.proofs.ModuleRuns.{runs_as}
 use Rattle.bsv_vgen.proofs.Registers.{begins_open, resets}
 use Rattle.bsv_vgen.proofs.Whole as whole
@@ -70,6 +70,13 @@ module _ (d : Design) (n : Net) (v : VModuleData) (is : v ≡ module_of (design_
       subst (ModuleCarries aggressive S made) same
       (carries b d.right n (whole.m b c registers widths) (whole.computes b c registers widths d.right n.right) (whole.methods_count b c registers widths)
       aggressive S made alike lawful scheduled net_carries)
+
+  pub ignores_too : (aggressive : Bool) (S : Scheme) (made : Schedule) → AreAlike S (design_scheme b) → IsLawful S → IsScheduleOf S made
+      → WordsCarry aggressive S made n → WordsIgnore aggressive S made n → ModuleIgnores aggressive S made v
+  ignores_too aggressive S made alike lawful scheduled net_carries net_ignores =
+      subst (ModuleIgnores aggressive S made) same
+      (ignores b d.right n (whole.m b c registers widths) (whole.computes b c registers widths d.right n.right) (whole.methods_count b c registers widths)
+      aggressive S made alike lawful scheduled net_carries net_ignores)
 
   cells_are : map cell v.registers ≡ cells_of (kinds_of b)
   cells_are = is_its_module.cells

@@ -4,10 +4,10 @@ ghost use Rattle.bsv_clock.specs.Grounds.{IsLawful, IsScheduleOf};
 ghost use Rattle.bsv_design.specs.scheme.Schemes.{Scheme, AreAlike, design_scheme, kinds_of, outline};
 ghost use Rattle.bsv_design.specs.scheme.Seen.{design_data};
 ghost use Rattle.bsv_design.specs.declared.schedule.Schedule.{Schedule};
-ghost use Rattle.bsv_net.specs.ShowsByNet.{WordsCarry};
+ghost use Rattle.bsv_net.specs.ShowsByNet.{WordsCarry, WordsIgnore};
 ghost use Rattle.bsv_net.specs.AtHand.{net_data};
 ghost use Rattle.bsv_vgen.specs.AtHand as hand;
-ghost use Rattle.bsv_vgen.specs.ShowsByModule.{ModuleCarries};
+ghost use Rattle.bsv_vgen.specs.ShowsByModule.{ModuleCarries, ModuleIgnores};
 ghost use Rattle.bsv_vgen.specs.Interfaces.{IsModuleOf};
 ghost use Rattle.bsv_vgen.specs.Modules as spec;
 ghost use Rattle.bsv_vgen.specs.Resetting.{BeginsOpen, Resets};
@@ -115,6 +115,12 @@ pub fn generate(alloc: Global, design: &Design, net: &Net) -> Result<VModule, Ou
         → AreAlike S (design_scheme (design_data design.now)) → IsLawful S
         → IsScheduleOf S made_by → WordsCarry aggressive S made_by net.now
         → ModuleCarries aggressive S made_by (module_data made)) }
+    // Of methods that act, words at the arguments count only while they are asked.
+    ensures ignores { IfOk result (λ made. (aggressive : Bool) (S : Scheme) (made_by : Schedule)
+        → AreAlike S (design_scheme (design_data design.now)) → IsLawful S
+        → IsScheduleOf S made_by → WordsCarry aggressive S made_by net.now
+        → WordsIgnore aggressive S made_by net.now
+        → ModuleIgnores aggressive S made_by (module_data made)) }
     // And from its initial words on it runs as they do, clock after clock.
     ensures runs { IfOk result (λ made. (aggressive : Bool) (S : Scheme) (made_by : Schedule)
         → AreAlike S (design_scheme (design_data design.now)) → IsLawful S
