@@ -10,7 +10,7 @@ use Rattle.bsv_design.specs.design.Bodies.{at}
 use Rattle.bsv_design.specs.design.Guards.{needs_of}
 use Rattle.bsv_design.specs.parts.Kinds.{kind_table}
 use Rattle.bsv_design.specs.design.Roles.{is_rule}
-use Rattle.bsv_design.specs.scheme.Schemes.{kinds_of, given, ready, value}
+use Rattle.bsv_design.specs.scheme.Schemes.{kinds_of, ready, value}
 use Rattle.bsv_design.specs.scheme.States.{part_at}
 use Rattle.bsv_graph.specs.Orders.{In}
 use Rattle.bsv_clock.specs.Clocks.{is_asked}

@@ -13,7 +13,7 @@ use Rattle.bsv_design.specs.declared.schedule.Need.{Need}
 use Rattle.bsv_design.specs.design.Bodies.{Answers, at, target, words}
 use Rattle.bsv_design.specs.design.Guards.{is_guarded, needs_from, needs_of}
 use Rattle.bsv_design.specs.design.Words.{is_one}
-use Rattle.bsv_design.specs.scheme.Schemes.{Look, all_hold, all_open, design_scheme, guard_of, is_open, ready, required}
+use Rattle.bsv_design.specs.scheme.Schemes.{Look, all_hold, all_open, design_scheme, is_open, ready, required}
 use Rattle.bsv_design.specs.scheme.Traces.{Site, Demand, demand_at, kind_at, site_at}
 use Rattle.bsv_guard.proofs.Extends.{each_open}
 use Rattle.bsv_net.specs.declared.node.NetNode.{NetNode}
