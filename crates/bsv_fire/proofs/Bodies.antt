@@ -17,7 +17,7 @@ use Rattle.bsv_design.specs.declared.node.Node.TheVariants as node
 use Rattle.bsv_design.specs.design.Bodies.{Answers, answer, at, node_word, target, values, words, words_after}
 use Rattle.bsv_design.specs.design.Computing as computing
 use Rattle.bsv_design.specs.parts.Kinds.{kind_table}
-use Rattle.bsv_design.specs.scheme.Schemes.{design_scheme, given, kinds_of, calls_of}
+use Rattle.bsv_design.specs.scheme.Schemes.{design_scheme, kinds_of, calls_of}
 use Rattle.bsv_design.specs.scheme.Traces.{kind_at}
 use Rattle.bsv_design.specs.design.Widths.{args_fit, gives_word, has_width, method_fits, node_width, result_width, widths_from}
 use Rattle.bsv_guard.specs.ElementLaws.{IsUse}
@@ -143,7 +143,7 @@ use_of z n e is k c there = record {
 }
 
 module _ (z : Scene) (g : Ground) (ground : IsGround z g) (ports : Ports) (n : ℕ) (e : Element) (is : slice_get z.b.elements n ≡ Some e) (r : Answers) (wiring : IsWired z g.base ports n r) where
-  body_ground : IsBodyGround g.base ports z.V z.full (kinds_of z.b) e.calls e.arguments (given (S z) z.q n) (node_at g.inputs n) r
+  body_ground : IsBodyGround g.base ports z.V z.full (kinds_of z.b) e.calls e.arguments (z.xs n) (node_at g.inputs n) r
   unfolding design_scheme
   body_ground = record {
     arguments_told = ground.arguments n e is;
@@ -151,7 +151,7 @@ module _ (z : Scene) (g : Ground) (ground : IsGround z g) (ports : Ports) (n : �
   }
 
   pub body_told : (ns : List NetNode) → Grows (body g.base ports (node_at g.inputs n) e.calls [] ns e.nodes).nodes z.full
-      → map z.V (body g.base ports (node_at g.inputs n) e.calls [] ns e.nodes).places ≡ words e r (given (S z) z.q n)
+      → map z.V (body g.base ports (node_at g.inputs n) e.calls [] ns e.nodes).places ≡ words e r (z.xs n)
   body_told ns grows =
       let fits = (z.right.elements n e is).fits in
-      nodes_mean z.inputs z.registers z.V z.full z.widths z.solved g.base ports (kinds_of z.b) e.calls e.arguments (given (S z) z.q n) (node_at g.inputs n) r body_ground e.nodes [] fits.widths [] ns refl fits.nodes grows
+      nodes_mean z.inputs z.registers z.V z.full z.widths z.solved g.base ports (kinds_of z.b) e.calls e.arguments (z.xs n) (node_at g.inputs n) r body_ground e.nodes [] fits.widths [] ns refl fits.nodes grows

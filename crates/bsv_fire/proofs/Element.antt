@@ -12,7 +12,7 @@ use Rattle.bsv_bits.specs.Words.{Bits, bit}
 use Rattle.bsv_design.specs.declared.element.Element.{Element}
 use Rattle.bsv_design.specs.design.Bodies.{Answers, Target, at, target, words}
 use Rattle.bsv_design.specs.design.Roles.{gives_value}
-use Rattle.bsv_design.specs.scheme.Schemes.{calls_of, design_scheme, given, kinds_of, outline, ready, seen, value}
+use Rattle.bsv_design.specs.scheme.Schemes.{calls_of, design_scheme, kinds_of, outline, ready, seen, value}
 use Rattle.bsv_design.specs.scheme.Traces.{Site, kind_at}
 use Rattle.bsv_design.specs.design.Widths.{has_width, method_fits, result_fits}
 use Rattle.bsv_graph.specs.Orders.{In}
@@ -76,7 +76,7 @@ module _ (z : Scene) (g : Ground) (ground : IsGround z g) (stand rest : List ℕ
 
   -- ---- what it tells
 
-  places_told : map z.V bodied.places ≡ words e r (given (S z) z.q n)
+  places_told : map z.V bodied.places ≡ words e r (z.xs n)
   places_told = body_told z g ground x.ports n e is r wiring x.nodes bodied_grows
 
   readied_told : z.V readied.place ≡ bit (ready false (S z) z.q n (looks z))

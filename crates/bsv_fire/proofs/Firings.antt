@@ -14,7 +14,7 @@ use Rattle.bsv_design.specs.declared.schedule.Schedule.{Schedule}
 use Rattle.bsv_design.specs.design.Bodies.{Target, at}
 use Rattle.bsv_design.specs.design.Designs.{DesignData, IsDesign}
 use Rattle.bsv_design.specs.design.Guards.{needs_of}
-use Rattle.bsv_design.specs.scheme.Schemes.{Scheme, Outline, Asking, Look, design_scheme, kinds_of, outline, ports_of, trace_of, answers, given, ready, seen, value}
+use Rattle.bsv_design.specs.scheme.Schemes.{Scheme, Asking, Look, design_scheme, kinds_of, outline, ports_of, trace_of, answers, given, ready, seen, value}
 use Rattle.bsv_design.specs.scheme.States.{AreWordsOf}
 use Rattle.bsv_design.specs.scheme.Traces.{Site, kind_at}
 use Rattle.bsv_graph.specs.Orders.{In}
@@ -24,7 +24,8 @@ use Rattle.bsv_guard.proofs.Given.{given_arguments}
 use Rattle.bsv_clock.proofs.Clocks.{clock_fed}
 use Rattle.bsv_clock.proofs.Steadily.{steady_scheme}
 use Rattle.bsv_design.specs.declared.kind.Kind.{Kind}
-use Rattle.bsv_clock.specs.Shows.{TellsElements, cells_of, cell_widths, inputs_of}
+use Rattle.bsv_clock.specs.Shows.{TellsElements, cells_of, cell_widths, input_widths}
+use Rattle.bsv_net.specs.Unasked.{Arguments, inputs_with, with_arguments}
 use Rattle.bsv_clock.specs.Clocks.{IsClock, is_in}
 use Rattle.bsv_clock.specs.Grounds.{BelongTogether, Fit, IsLawful, IsScheduleOf}
 use Rattle.bsv_clock.specs.Looks.{clock_look}
@@ -42,7 +43,7 @@ use Rattle.bsv_fire.specs.FireBuilder.{FireBuilder}
 use Rattle.bsv_ports.specs.CallSites.{or_none}
 use Rattle.bsv_ports.proofs.Scene.{Scene, looks}
 use Rattle.bsv_fire.proofs.Frame.{Tells}
-use Rattle.bsv_net.proofs.WidthsFit.{cells_have, inputs_have}
+use Rattle.bsv_net.proofs.WidthsFit.{cells_have, inputs_of_scheme}
 use Rattle.bsv_fire.proofs.Whole.{fires_is, fired_fires, fired_below, look_is}
 
 -- ---- lists
@@ -63,30 +64,30 @@ same_words V (n ∷ ns) (w ∷ ws) l h = ap₂ (λ (x : Bits) (xs : List Bits). 
 
 -- ---- a clock
 
-module _ (b : DesignData) (right : IsDesign b) (needs : List (List Need)) (made : Schedule) (lawful : IsLawful (design_scheme b)) (scheduled : IsScheduleOf (design_scheme b) made)
+module _ (b : DesignData) (right : IsDesign b) (needs : List (List Need)) (made : Schedule) (xs : Arguments)
+    (stands : (n : ℕ) → AreWordsOf (ports_of (slice_get (design_scheme b).elements n)) (xs n))
+    (lawful : IsLawful (with_arguments (design_scheme b) xs)) (scheduled : IsScheduleOf (with_arguments (design_scheme b) xs) made)
     (are : needs ≡ needs_of (kinds_of b) b.elements) (c : NetData) (is : IsFiringNet b needs made c) (ordered : IsNet c)
-    (q : Asking) (s : List Part) (ws : List Bits) (fit : Fit (design_scheme b) q s) (have : HaveWidths (cell_widths (cells_of (kinds_of b))) ws) where
+    (q : Asking) (s : List Part) (ws : List Bits) (fit : Fit (with_arguments (design_scheme b) xs) q s) (have : HaveWidths (cell_widths (cells_of (kinds_of b))) ws) where
   abbrev T : Scheme
-  T = design_scheme b
+  T = with_arguments (design_scheme b) xs
 
-  pub inputs_fit : HaveWidths c.inputs (inputs_of T q)
-  unfolding inputs_of design_scheme
-  inputs_fit =
-      subst (λ (us : List ℕ). HaveWidths us (inputs_of T q)) (sym is.inputs_are)
-      (inputs_have T q 0 (map outline b.elements) (λ j o there.
-      subst (λ n. AreWordsOf o.ports (given T q n)) (omega arith)
-      (subst (λ (x : Option Outline). AreWordsOf (ports_of x) (given T q j)) there (fit.requests j))))
+  pub inputs_fit : HaveWidths c.inputs (inputs_with T q xs)
+  unfolding design_scheme input_widths
+  inputs_fit = subst (λ (us : List ℕ). HaveWidths us (inputs_with T q xs)) (sym is.inputs_are) (inputs_of_scheme T q xs stands)
 
   pub registers_fit : HaveWidths (register_widths c.registers) ws
   registers_fit = subst (λ (us : List ℕ). HaveWidths us ws) (sym (ap cell_widths is.registers) ∙ cells_have c.registers) have
 
   abbrev pub vs : List Bits
-  vs = words c.nodes (inputs_of T q) ws
+  vs = words c.nodes (inputs_with T q xs) ws
 
   abbrev pub scene : Scene
   scene = record {
     b = b;
     right = right;
+    xs = xs;
+    stands = stands;
     made = made;
     lawful = lawful;
     scheduled = scheduled;
@@ -96,9 +97,9 @@ module _ (b : DesignData) (right : IsDesign b) (needs : List (List Need)) (made 
     full = c.nodes;
     widths = ordered.widths;
     V = at vs;
-    inputs = inputs_of T q;
+    inputs = inputs_with T q xs;
     registers = ws;
-    solved = satisfies c ordered (inputs_of T q) ws inputs_fit registers_fit;
+    solved = satisfies c ordered (inputs_with T q xs) ws inputs_fit registers_fit;
   }
 
   module _ (told : Tells scene (net b needs made) made.urgency) (fired : List ℕ) (after : List Part) (clock : IsClock false T made q s fired after) where
@@ -133,7 +134,7 @@ module _ (b : DesignData) (right : IsDesign b) (needs : List (List Need)) (made 
     no_value : (n : ℕ) (a : Look) → length T.elements ≤ n → value T q n a ≡ None
     unfolding value seen design_scheme
     no_value n a l =
-        ap (λ (o : Option Element). (trace_of (kinds_of b) o (answers (kinds_of b) a) (given T q n)).result)
+        ap (λ (o : Option Element). (trace_of (kinds_of b) o (answers (kinds_of b) a) (xs n)).result)
         (slice_get_past b.elements n (omega (arith, count)))
 
     result_word : (n : ℕ) (w : Bits) → ready false T q n (clock_look T q s fired) ≡ true → value T q n (clock_look T q s fired) ≡ Some w

@@ -10,7 +10,7 @@ use Rattle.bsv_design.specs.design.Bodies.{at}
 use Rattle.bsv_design.specs.design.Guards.{needs_of}
 use Rattle.bsv_design.specs.parts.Kinds.{kind_table}
 use Rattle.bsv_design.specs.design.Roles.{is_rule}
-use Rattle.bsv_design.specs.scheme.Schemes.{kinds_of, given, ready, value}
+use Rattle.bsv_design.specs.scheme.Schemes.{kinds_of, ready, value}
 use Rattle.bsv_design.specs.scheme.States.{part_at}
 use Rattle.bsv_graph.specs.Orders.{In}
 use Rattle.bsv_clock.specs.Clocks.{is_asked}
@@ -38,7 +38,7 @@ pub record IsGround (z : Scene) (g : Ground) : Type 0 where
       × ((n : ℕ) → n < (kind_table k).registers → z.V (node_at g.base.registers i + n) ≡ r n)
   -- the inputs of an element are what it is given, and whether it is asked
   pub arguments : (n : ℕ) (e : Element) → slice_get z.b.elements n ≡ Some e → (k : ℕ) → k < length e.arguments
-      → z.V (node_at g.inputs n + k) ≡ at (given (S z) z.q n) k
+      → z.V (node_at g.inputs n + k) ≡ at (z.xs n) k
   pub asked : (n : ℕ) (e : Element) → slice_get z.b.elements n ≡ Some e → is_rule e.role ≡ false
       → z.V (node_at g.inputs n + length e.arguments) ≡ bit (is_asked z.q n)
   pub none : z.V g.base.none ≡ bit false

@@ -18,15 +18,16 @@ use Rattle.bsv_design.specs.design.Guards.{needs_of}
 use Rattle.bsv_design.specs.parts.Kinds.{kind_table}
 use Rattle.bsv_design.specs.design.Roles.{is_rule}
 use Rattle.bsv_design.specs.design.Words.{or_zero}
-use Rattle.bsv_design.specs.scheme.Schemes.{Scheme, Outline, Asking, given, outline, ports_of, kinds_of, design_scheme}
+use Rattle.bsv_design.specs.scheme.Schemes.{Outline, Asking, outline, ports_of, kinds_of, design_scheme}
 use Rattle.bsv_design.specs.scheme.States.{part_at}
 use Rattle.bsv_graph.specs.Edges.{numbers_below}
-use Rattle.bsv_guard.proofs.Given.{given_arguments}
-use Rattle.bsv_clock.specs.Shows.{Shows, cells_in, cells_of, inputs_from, inputs_of, input_widths_of}
+use Rattle.bsv_design.proofs.Elements.{length-words}
+use Rattle.bsv_clock.specs.Shows.{Shows, cells_in, cells_of, input_widths_of}
 use Rattle.bsv_clock.specs.Clocks.{is_asked}
 use Rattle.bsv_net.specs.declared.node.NetNode.{NetNode}
 use Rattle.bsv_net.specs.declared.node.NetNode.TheVariants as net
 use Rattle.bsv_net.specs.Placing.{node_at}
+use Rattle.bsv_net.specs.Unasked.{Arguments, inputs_with, inputs_with_from}
 use Rattle.bsv_net.proofs.Grows.{Grows, kept}
 use Rattle.bsv_fire.specs.Nets as nets
 use Rattle.bsv_ports.specs.Starts.{first_nodes}
@@ -80,24 +81,24 @@ module _ (inputs registers : ℕ) where
 
 -- ---- how many there are
 
-abbrev LongAt : Scheme → Asking → ℕ → List Outline → Type 0
-LongAt T q n os = (j : ℕ) (o : Outline) → slice_get os j ≡ Some o → length (given T q (n + j)) ≡ length o.ports
+abbrev LongAt : Arguments → ℕ → List Outline → Type 0
+LongAt xs n os = (j : ℕ) (o : Outline) → slice_get os j ≡ Some o → length (xs (n + j)) ≡ length o.ports
 
-inputs_more : (T : Scheme) (q : Asking) (n : ℕ) (o : Outline) (os : List Outline) (b : Bool) → length (inputs_from T q (n + 1) os) ≡ length (input_widths_of os)
-    → length (given T q n) ≡ length o.ports
-    → length (cond b [] (given T q n ++ (bit (is_asked q n) ∷ inputs_from T q (n + 1) os)))
+inputs_more : (q : Asking) (xs : Arguments) (n : ℕ) (o : Outline) (os : List Outline) (b : Bool) → length (inputs_with_from q xs (n + 1) os) ≡ length (input_widths_of os)
+    → length (xs n) ≡ length o.ports
+    → length (cond b [] (xs n ++ (bit (is_asked q n) ∷ inputs_with_from q xs (n + 1) os)))
     ≡ length (cond b [] (map (λ p. p.width) o.ports ++ (1 ∷ input_widths_of os)))
-inputs_more T q n o os true rest first = refl
-inputs_more T q n o os false rest first =
-    length-append (given T q n) (bit (is_asked q n) ∷ inputs_from T q (n + 1) os)
+inputs_more q xs n o os true rest first = refl
+inputs_more q xs n o os false rest first =
+    length-append (xs n) (bit (is_asked q n) ∷ inputs_with_from q xs (n + 1) os)
     ∙ (omega (arith, rest, first, length-map o.ports (λ p. p.width)) ∙ sym (length-append (map (λ p. p.width) o.ports) (1 ∷ input_widths_of os)))
 
-pub long_inputs : (T : Scheme) (q : Asking) (n : ℕ) (os : List Outline) → LongAt T q n os → length (inputs_from T q n os) ≡ length (input_widths_of os)
-long_inputs T q n [] long = refl
-long_inputs T q n (o ∷ os) long =
-    inputs_more T q n o os (is_rule o.role)
-    (long_inputs T q (n + 1) os (λ j p there. ap (λ k. length (given T q k)) (omega arith) ∙ long (suc j) p there))
-    (ap (λ k. length (given T q k)) (omega arith) ∙ long 0 o refl)
+pub long_inputs : (q : Asking) (xs : Arguments) (n : ℕ) (os : List Outline) → LongAt xs n os → length (inputs_with_from q xs n os) ≡ length (input_widths_of os)
+long_inputs q xs n [] long = refl
+long_inputs q xs n (o ∷ os) long =
+    inputs_more q xs n o os (is_rule o.role)
+    (long_inputs q xs (n + 1) os (λ j p there. ap (λ k. length (xs k)) (omega arith) ∙ long (suc j) p there))
+    (ap (λ k. length (xs k)) (omega arith) ∙ long 0 o refl)
 
 long_cells : (k : Kind) → length (cells_in k) ≡ (kind_table k).registers
 long_cells k = length-map (numbers_below (kind_table k).registers) _ ∙ count_below (kind_table k).registers
@@ -143,8 +144,12 @@ methods_first b right m n d e p q l h = is_rule_again e.role (right.methods_firs
 outlined : (es : List Element) (n : ℕ) (e : Element) → slice_get es n ≡ Some e → slice_get (map outline es) n ≡ Some (outline e)
 outlined es n e there = mapped_at outline es n e there
 
+-- an element has as many words as arguments
+words_long : (z : Scene) (n : ℕ) → length (z.xs n) ≡ length (ports_of (slice_get (S z).elements n))
+words_long z n = length-words (ports_of (slice_get (S z).elements n)) (z.xs n) (z.stands n)
+
 module _ (z : Scene) (needs : List (List Need)) (are : needs ≡ needs_of (kinds_of z.b) z.b.elements)
-    (inputs_are : z.inputs ≡ inputs_of (S z) z.q) (shows : Shows (kinds_of z.b) z.s z.registers)
+    (inputs_are : z.inputs ≡ inputs_with (S z) z.q z.xs) (shows : Shows (kinds_of z.b) z.s z.registers)
     (first : Grows (first_nodes (length (nets.inputs z.b needs z.made)) (nets.count z.b needs z.made)) z.full) where
   abbrev es : List Element
   es = z.b.elements
@@ -152,32 +157,32 @@ module _ (z : Scene) (needs : List (List Need)) (are : needs ≡ needs_of (kinds
   abbrev count_inputs : ℕ
   count_inputs = length (nets.inputs z.b needs z.made)
 
-  given_long : (n : ℕ) (e : Element) → slice_get es n ≡ Some e → length (given (S z) z.q n) ≡ length e.arguments
+  given_long : (n : ℕ) (e : Element) → slice_get es n ≡ Some e → length (z.xs n) ≡ length e.arguments
   unfolding design_scheme
   given_long n e there =
-      given_arguments (S z) z.q n ∙ ap (λ (o : Option Outline). length (ports_of o)) (outlined es n e there)
+      words_long z n ∙ ap (λ (o : Option Outline). length (ports_of o)) (outlined es n e there)
 
   long_all : length z.inputs ≡ count_inputs
-  unfolding design_scheme inputs_of
-  long_all = ap length inputs_are ∙ long_inputs (S z) z.q 0 (map outline es) (λ j o there. ap (λ n. length (given (S z) z.q n)) (omega arith) ∙ (given_arguments (S z) z.q j ∙ ap (λ (x : Option Outline). length (ports_of x)) there))
+  unfolding design_scheme inputs_with
+  long_all = ap length inputs_are ∙ long_inputs z.q z.xs 0 (map outline es) (λ j o there. ap (λ n. length (z.xs n)) (omega arith) ∙ (words_long z j ∙ ap (λ (x : Option Outline). length (ports_of x)) there))
 
-  long_each : (j : ℕ) (e : Element) → slice_get es j ≡ Some e → length (given (S z) z.q (0 + j)) ≡ length e.arguments
-  long_each j e there = ap (λ n. length (given (S z) z.q n)) (omega arith) ∙ given_long j e there
+  long_each : (j : ℕ) (e : Element) → slice_get es j ≡ Some e → length (z.xs (0 + j)) ≡ length e.arguments
+  long_each j e there = ap (λ n. length (z.xs n)) (omega arith) ∙ given_long j e there
 
   argument_in : (n : ℕ) (e : Element) → slice_get es n ≡ Some e → is_rule e.role ≡ false → (k : ℕ) → k < length e.arguments
-      → slice_get z.inputs (inputs_before es n + k) ≡ slice_get (given (S z) z.q n) k
-  unfolding design_scheme inputs_of
+      → slice_get z.inputs (inputs_before es n + k) ≡ slice_get (z.xs n) k
+  unfolding design_scheme inputs_with
   argument_in n e there rule k l =
       ap (λ (ws : List Bits). slice_get ws (inputs_before es n + k)) inputs_are
-      ∙ (argument_at (S z) z.q 0 es (methods_first z.b z.right) long_each n e there rule k l
-      ∙ ap (λ m. slice_get (given (S z) z.q m) k) (omega arith))
+      ∙ (argument_at z.q z.xs 0 es (methods_first z.b z.right) long_each n e there rule k l
+      ∙ ap (λ m. slice_get (z.xs m) k) (omega arith))
 
   asked_in : (n : ℕ) (e : Element) → slice_get es n ≡ Some e → is_rule e.role ≡ false
       → slice_get z.inputs (inputs_before es n + length e.arguments) ≡ slice_get (bit (is_asked z.q n) ∷ []) 0
-  unfolding design_scheme inputs_of
+  unfolding design_scheme inputs_with
   asked_in n e there rule =
       ap (λ (ws : List Bits). slice_get ws (inputs_before es n + length e.arguments)) inputs_are
-      ∙ (asked_at (S z) z.q 0 es (methods_first z.b z.right) long_each n e there rule
+      ∙ (asked_at z.q z.xs 0 es (methods_first z.b z.right) long_each n e there rule
       ∙ ap (λ m. Some (bit (is_asked z.q m))) (omega arith))
 
   -- a node that is an input has its word
@@ -195,11 +200,11 @@ module _ (z : Scene) (needs : List (List Need)) (are : needs ≡ needs_of (kinds
   g = nets.ground z.b needs z.made
 
   arguments_told : (n : ℕ) (e : Element) → slice_get es n ≡ Some e → (k : ℕ) → k < length e.arguments → (b : Bool) → is_rule e.role ≡ b
-      → z.V (node_at g.inputs n + k) ≡ at (given (S z) z.q n) k
+      → z.V (node_at g.inputs n + k) ≡ at (z.xs n) k
   arguments_told n e there k l true rule = absurd (omega (arith, l, has_no_arguments z.b z.right n e there rule))
   arguments_told n e there k l false rule =
       ap (λ m. z.V (m + k)) (start_of 0 es n (slice_get_within es n e there) ∙ omega arith)
-      ∙ input_word (inputs_before es n + k) k (given (S z) z.q n)
+      ∙ input_word (inputs_before es n + k) k (z.xs n)
       (argument_in n e there rule k l) (omega (arith, given_long n e there))
 
   shown_told : (i : ℕ) (k : Kind) → slice_get (kinds_of z.b) i ≡ Some k

@@ -18,7 +18,7 @@ use Rattle.bsv_fire.specs.FireBuilder.{none_placed}
 use Rattle.bsv_fire.proofs.AllTold.{net_told}
 use Rattle.bsv_fire.proofs.Firings.{scene}
 use Rattle.bsv_fire.proofs.GroundTold.{ground_told}
-use Rattle.bsv_fire.proofs.Promise.{fires, lawful}
+use Rattle.bsv_fire.proofs.Promise.{fires, lawful_too, scheduled_too}
 use Rattle.bsv_fire.proofs.Steps.{grown_grows}
 use Rattle.bsv_fire.proofs.Structure.{Holds, grown_holds, none_holds}
 
@@ -41,8 +41,10 @@ module _ (d : Design) (needs : List (List Need)) (made : Schedule) where
   unfolding net design_scheme
   kept rules scheduled are c is ordered =
       fires d needs made rules scheduled are c is ordered holds here
-      (λ right in_order q s ws fit have shows.
-      let z = scene (design_data d) right needs made (lawful d needs made rules scheduled are c is ordered holds here) scheduled are c is in_order q s ws fit have in
+      (λ right in_order xs stands q s ws fit have shows.
+      let lawful = lawful_too d needs made rules scheduled are c is ordered holds here xs stands in
+      let scheduled_with = scheduled_too d needs made rules scheduled are c is ordered holds here xs stands in
+      let z = scene (design_data d) right needs made xs stands lawful scheduled_with are c is in_order q s ws fit have in
       net_told z (ground (design_data d) needs made) (ground_told z needs are refl shows here) first (subst (λ (ns : List NetNode). Grows ns c.nodes) is.nodes (grows_refl c.nodes)))
     where
       here : Grows first c.nodes

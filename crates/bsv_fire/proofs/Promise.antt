@@ -21,7 +21,8 @@ use Rattle.bsv_design.specs.design.Bodies.{Target, target, at}
 use Rattle.bsv_design.specs.design.Designs.{DesignData, IsDesign}
 use Rattle.bsv_design.specs.design.Guards.{needs_of}
 use Rattle.bsv_design.specs.design.Roles.{gives_value}
-use Rattle.bsv_design.specs.scheme.Schemes.{Scheme, Outline, Asking, calls_of, design_scheme, kinds_of, outline}
+use Rattle.bsv_design.specs.scheme.Schemes.{Scheme, Outline, Asking, calls_of, design_scheme, kinds_of, outline, ports_of}
+use Rattle.bsv_design.specs.scheme.States.{AreWordsOf}
 use Rattle.bsv_design.specs.scheme.Seen.{design_data}
 use Rattle.bsv_design.specs.parts.Kinds.{kind_table}
 use Rattle.bsv_design.specs.scheme.Traces.{kind_at}
@@ -30,7 +31,7 @@ use Rattle.bsv_graph.specs.Edges.{numbers_below}
 use Rattle.bsv_graph.specs.Orders.{In}
 use Rattle.bsv_guard.specs.Fitting.{HaveWidths}
 use Rattle.bsv_guard.proofs.Lists.{item_of, holds_at_all}
-use Rattle.bsv_clock.specs.Shows.{Shows, cell, cells_of, cell_widths, inputs_of, input_widths}
+use Rattle.bsv_clock.specs.Shows.{Shows, cell, cells_of, cell_widths, input_widths}
 use Rattle.bsv_clock.specs.Clocks.{IsClock}
 use Rattle.bsv_clock.specs.Grounds.{Fit, IsLawful, IsScheduleOf, KeepsRules}
 use Rattle.bsv_clock.proofs.Belonging.{lawful_design}
@@ -41,7 +42,9 @@ use Rattle.bsv_net.specs.declared.node.NetNode.TheVariants as net_node
 use Rattle.bsv_net.specs.declared.node.Site.{Site as NetSite}
 use Rattle.bsv_net.specs.Nets.{IsNet, register_widths, words}
 use Rattle.bsv_net.specs.Placing.{node_at, or_first}
+use Rattle.bsv_net.specs.Unasked.{Arguments, MayStand, inputs_with, with_arguments}
 use Rattle.bsv_net.proofs.Grows.{Grows, kept}
+use Rattle.bsv_net.proofs.Standing.{clock_with, each_gets, fit_with, lawful_with, schedule_with}
 use Rattle.bsv_net.proofs.Solution.{satisfies, same_length}
 use Rattle.bsv_ports.specs.CallSites.{or_none}
 use Rattle.bsv_fire.specs.Bodies.{site, sites}
@@ -211,18 +214,30 @@ module _ (d : Design) (needs : List (List Need)) (made : Schedule) (rules : Keep
 
   -- ---- the whole
 
-  module _ (told : (right : IsDesign b) (in_order : IsNet c) (q : Asking) (s : List Part) (ws : List Bits) (fit : Fit T q s)
+  -- the elements with these arguments are a scheme that belongs to the schedule as the design does
+  module _ (xs : Arguments) (stands : (n : ℕ) → AreWordsOf (ports_of (slice_get T.elements n)) (xs n)) where
+    pub lawful_too : IsLawful (with_arguments T xs)
+    lawful_too = lawful_with T xs stands lawful
+
+    pub scheduled_too : IsScheduleOf (with_arguments T xs) made
+    scheduled_too = schedule_with T xs stands made scheduled
+
+  module _ (told : (right : IsDesign b) (in_order : IsNet c) (xs : Arguments) (stands : (n : ℕ) → AreWordsOf (ports_of (slice_get T.elements n)) (xs n))
+      (q : Asking) (s : List Part) (ws : List Bits) (fit : Fit (with_arguments T xs) q s)
       (have : HaveWidths (cell_widths (cells_of (kinds_of b))) ws) → Shows T.kinds s ws
-      → Tells (scene b right needs made lawful scheduled are c is in_order q s ws fit have) (net b needs made) made.urgency) where
-    clock_told : (q : Asking) (s : List Part) (ws : List Bits) (fired : List ℕ) (after : List Part) → Fit T q s
+      → Tells (scene b right needs made xs stands (lawful_too xs stands) (scheduled_too xs stands) are c is in_order q s ws fit have) (net b needs made) made.urgency) where
+    clock_told : (q : Asking) (s : List Part) (ws : List Bits) (fired : List ℕ) (after : List Part) (xs : Arguments) → Fit T q s → MayStand T q xs
         → HaveWidths (cell_widths (cells_of T.kinds)) ws → Shows T.kinds s ws → IsClock false T made q s fired after
-        → TellsFiring false T q s fired c (words c.nodes (inputs_of T q) ws)
-    unfolding design_scheme
-    clock_told q s ws fired after fit have shows clock =
-        ∥∥₁_elim d.right (told_prop T q s fired c _) (λ (right : IsDesign b).
-        ∥∥₁_elim ordered (told_prop T q s fired c _) (λ (in_order : IsNet c).
-        tells_firing b right needs made lawful scheduled are c is in_order q s ws fit have
-        (told right in_order q s ws fit have shows) fired after clock))
+        → TellsFiring false (with_arguments T xs) q s fired c (words c.nodes (inputs_with T q xs) ws)
+    unfolding design_scheme inputs_with
+    clock_told q s ws fired after xs fit stand have shows clock =
+        let stands = stand.widths in
+        let fit_too = fit_with T xs stands q s fit in
+        ∥∥₁_elim d.right (told_prop (with_arguments T xs) q s fired c _) (λ (right : IsDesign b).
+        ∥∥₁_elim ordered (told_prop (with_arguments T xs) q s fired c _) (λ (in_order : IsNet c).
+        tells_firing b right needs made xs stands (lawful_too xs stands) (scheduled_too xs stands) are c is in_order q s ws fit_too have
+        (told right in_order xs stands q s ws fit_too have shows) fired after
+        (clock_with T q xs (each_gets T q xs stand) false made s fired after clock)))
 
     pub fires : Fires false T made c
     fires = record {

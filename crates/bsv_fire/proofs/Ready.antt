@@ -13,7 +13,7 @@ use Rattle.bsv_design.specs.declared.schedule.Need.{Need}
 use Rattle.bsv_design.specs.design.Bodies.{Answers, at, target, words}
 use Rattle.bsv_design.specs.design.Guards.{is_guarded, needs_from, needs_of}
 use Rattle.bsv_design.specs.design.Words.{is_one}
-use Rattle.bsv_design.specs.scheme.Schemes.{Look, all_hold, all_open, design_scheme, given, guard_of, is_open, ready, required}
+use Rattle.bsv_design.specs.scheme.Schemes.{Look, all_hold, all_open, design_scheme, is_open, ready, required}
 use Rattle.bsv_design.specs.scheme.Traces.{Site, Demand, demand_at, kind_at, site_at}
 use Rattle.bsv_guard.proofs.Extends.{each_open}
 use Rattle.bsv_net.specs.declared.node.NetNode.{NetNode}
@@ -128,7 +128,7 @@ module _ (z : Scene) (n : ℕ) (e : Element) (is : slice_get z.b.elements n ≡ 
     ready_of ns places needs =
         all_of (g.base.none + 1) (guards g.base ports e.calls ns [] needs).nodes ((guards g.base ports e.calls ns [] needs).places ++ truths places e.conditions)
 
-    ready_at : (ns : List NetNode) (places : List ℕ) → map z.V places ≡ words e r (given (S z) z.q n) → Grows (ready_of ns places (needs_from (ks z n e is) 0 e.calls)).nodes z.full
+    ready_at : (ns : List NetNode) (places : List ℕ) → map z.V places ≡ words e r (z.xs n) → Grows (ready_of ns places (needs_from (ks z n e is) 0 e.calls)).nodes z.full
         → z.V (ready_of ns places (needs_from (ks z n e is) 0 e.calls)).place ≡ bit (ready false (S z) z.q n (looks z))
     ready_at ns places told grows =
         let needs = needs_from (ks z n e is) 0 e.calls in
@@ -141,7 +141,7 @@ module _ (z : Scene) (n : ℕ) (e : Element) (is : slice_get z.b.elements n ≡ 
         (told ∙ sym (same_as_wired z n e is g ports r wiring (all_are_open h))) e.conditions (condition_is_fit z n e is)) grows
         ∙ ap bit (sym ready_is)
 
-    pub ready_told : (ns : List NetNode) (places : List ℕ) → map z.V places ≡ words e r (given (S z) z.q n) → Grows (ready_of ns places (or_none (slice_get g.needs n))).nodes z.full
+    pub ready_told : (ns : List NetNode) (places : List ℕ) → map z.V places ≡ words e r (z.xs n) → Grows (ready_of ns places (or_none (slice_get g.needs n))).nodes z.full
         → z.V (ready_of ns places (or_none (slice_get g.needs n))).place ≡ bit (ready false (S z) z.q n (looks z))
     ready_told ns places told =
         subst (λ (needs : List Need). Grows (ready_of ns places needs).nodes z.full → z.V (ready_of ns places needs).place ≡ bit (ready false (S z) z.q n (looks z)))

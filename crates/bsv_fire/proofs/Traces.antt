@@ -16,7 +16,7 @@ use Rattle.bsv_design.specs.design.Bodies.{Answers, at, target, words}
 use Rattle.bsv_design.specs.design.Designs.{HasWidths}
 use Rattle.bsv_design.specs.parts.Kinds.{kind_table}
 use Rattle.bsv_design.specs.design.Words.{is_one}
-use Rattle.bsv_design.specs.scheme.Schemes.{answers, design_scheme, given, is_open, kinds_of, outline, ports_of, seen, trace_of, value}
+use Rattle.bsv_design.specs.scheme.Schemes.{answers, design_scheme, is_open, kinds_of, outline, ports_of, seen, trace_of, value}
 use Rattle.bsv_design.specs.scheme.States.{AreWordsOf, FitLook}
 use Rattle.bsv_design.specs.scheme.Traces.{Site, Trace, acts, body_trace, demand_at, kind_at, site_at}
 use Rattle.bsv_design.specs.design.Widths.{args_fit, call_fits, condition_fits, has_width, method_fits}
@@ -122,7 +122,7 @@ module _ (z : Scene) (n : ℕ) (e : Element) (is : slice_get z.b.elements n ≡ 
 
   -- the words of its flat body under the look of the clock
   abbrev pub own_words : List Bits
-  own_words = words e (answers ks (looks z)) (given (S z) z.q n)
+  own_words = words e (answers ks (looks z)) (z.xs n)
 
   pub fits : HasWidths ks e
   fits = (z.right.elements n e is).fits
@@ -133,14 +133,14 @@ module _ (z : Scene) (n : ℕ) (e : Element) (is : slice_get z.b.elements n ≡ 
       let together : BelongTogether (S z) z.made z.q z.s = record { lawful = z.lawful; schedule = z.scheduled; fit = z.fit } in
       (clock_fed false (S z) z.made z.q z.s together (steady_scheme false (S z) z.lawful)).look_fits
 
-  given_fits : AreWordsOf e.arguments (given (S z) z.q n)
+  given_fits : AreWordsOf e.arguments (z.xs n)
   unfolding design_scheme
   given_fits =
-      subst (λ o. AreWordsOf (ports_of o) (given (S z) z.q n)) (slice_get-map outline z.b.elements n ∙ ap (option_map outline) is) (z.fit.requests n)
+      subst (λ o. AreWordsOf (ports_of o) (z.xs n)) (slice_get-map outline z.b.elements n ∙ ap (option_map outline) is) (z.stands n)
 
   pub words_have : HaveWidths fits.widths own_words
   unfolding fits
-  words_have = element_words ks e (z.right.elements n e is) (answers ks (looks z)) (given (S z) z.q n) given_fits (answers_fit ks (looks z) look_fits)
+  words_have = element_words ks e (z.right.elements n e is) (answers ks (looks z)) (z.xs n) given_fits (answers_fit ks (looks z) look_fits)
 
   pub call_is_fit : (k : ℕ) (c : Call) → slice_get e.calls k ≡ Some c → call_fits ks fits.widths c ≡ true
   call_is_fit k c there = holds_at_all (call_fits ks fits.widths) e.calls fits.calls k c there
@@ -148,9 +148,9 @@ module _ (z : Scene) (n : ℕ) (e : Element) (is : slice_get z.b.elements n ≡ 
   pub condition_is_fit : (k : ℕ) (c : Condition) → slice_get e.conditions k ≡ Some c → condition_fits fits.widths c ≡ true
   condition_is_fit k c there = holds_at_all (condition_fits fits.widths) e.conditions fits.conditions k c there
 
-  run_is : seen (S z) z.q n (looks z) ≡ body_trace ks e (answers ks (looks z)) (given (S z) z.q n)
+  run_is : seen (S z) z.q n (looks z) ≡ body_trace ks e (answers ks (looks z)) (z.xs n)
   unfolding seen design_scheme
-  run_is = ap (λ (o : Option Element). trace_of ks o (answers ks (looks z)) (given (S z) z.q n)) is
+  run_is = ap (λ (o : Option Element). trace_of ks o (answers ks (looks z)) (z.xs n)) is
 
   pub sites_are : (seen (S z) z.q n (looks z)).sites ≡ map (site_at ks own_words) e.calls
   unfolding body_trace
@@ -180,5 +180,5 @@ module _ (z : Scene) (n : ℕ) (e : Element) (is : slice_get z.b.elements n ≡ 
         ∙ sym (wiring.result_open (target c) (use_of z n e is k c there) k args (each k c there) reads
         (call_fit fits.widths own_words words_have (slice_get ks c.part) c parts.1))
 
-    pub same_as_wired : own_words ≡ words e r (given (S z) z.q n)
-    same_as_wired = same_words ks e.arguments e.calls (given (S z) z.q n) (answers ks (looks z)) r e.nodes fits.widths fits.nodes agree
+    pub same_as_wired : own_words ≡ words e r (z.xs n)
+    same_as_wired = same_words ks e.arguments e.calls (z.xs n) (answers ks (looks z)) r e.nodes fits.widths fits.nodes agree

@@ -9,13 +9,14 @@ use Rattle.bsv_design.specs.scheme.Schemes.{Scheme, Asking, seen}
 use Rattle.bsv_design.specs.scheme.Traces.{Site, kind_at}
 use Rattle.bsv_graph.specs.Orders.{In}
 use Rattle.bsv_guard.specs.Fitting.{HaveWidths}
-use Rattle.bsv_clock.specs.Shows.{Shows, TellsElements, cell, cells_of, cell_widths, inputs_of, input_widths}
+use Rattle.bsv_clock.specs.Shows.{Shows, TellsElements, cell, cells_of, cell_widths, input_widths}
 use Rattle.bsv_clock.specs.Clocks.{IsClock}
 use Rattle.bsv_clock.specs.Grounds.{Fit}
 use Rattle.bsv_clock.specs.Looks.{clock_look}
 use Rattle.bsv_net.specs.declared.net_data.NetData.{NetData}
 use Rattle.bsv_net.specs.declared.node.Site.{Site as NetSite}
 use Rattle.bsv_net.specs.Nets.{words}
+use Rattle.bsv_net.specs.Unasked.{Arguments, MayStand, inputs_with, with_arguments}
 use Rattle.bsv_net.specs.ShowsByNet.{NamesNoResult, gives, given_at}
 use Rattle.bsv_ports.specs.CallSites.{or_none}
 use Rattle.bsv_ports.specs.Ports.{arity_of}
@@ -52,10 +53,12 @@ pub record Fires (aggressive : Bool) (S : Scheme) (made : Schedule) (c : NetData
   pub calls : (n : ℕ) → n < length S.elements → length (sites_of c n) ≡ length (S.uses n)
   pub arguments : (n k : ℕ) (t : Target) (y : NetSite) → slice_get (S.uses n) k ≡ Some t
       → slice_get (sites_of c n) k ≡ Some y → length y.args ≡ arity_of (kind_at S.kinds t) t.method
-  pub clock : (q : Asking) (s : List Part) (ws : List Bits) (fired : List ℕ) (after : List Part) → Fit S q s
-      → HaveWidths (cell_widths (cells_of S.kinds)) ws → Shows S.kinds s ws
+  -- the net tells each clock, of elements with the arguments that they have, whatever words are at those of methods that act
+  -- and are not asked
+  pub clock : (q : Asking) (s : List Part) (ws : List Bits) (fired : List ℕ) (after : List Part) (xs : Arguments) → Fit S q s
+      → MayStand S q xs → HaveWidths (cell_widths (cells_of S.kinds)) ws → Shows S.kinds s ws
       → IsClock aggressive S made q s fired after
-      → TellsFiring aggressive S q s fired c (words c.nodes (inputs_of S q) ws)
+      → TellsFiring aggressive (with_arguments S xs) q s fired c (words c.nodes (inputs_with S q xs) ws)
   -- every register keeps its word
   pub kept : (ws inputs : List Bits) → HaveWidths (cell_widths (cells_of S.kinds)) ws → HaveWidths c.inputs inputs
       → (gives c ws inputs).nexts ≡ ws

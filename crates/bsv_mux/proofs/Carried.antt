@@ -1,6 +1,6 @@
 -- The net with the next words of the registers carries the design: it tells what the net before told, and its next words
 -- show the parts after the clock.
-use Rattle.std.proofs.Common.{◌≡◌, ◌∙◌, ◌<◌, ◌≤◌, ◌+◌, ◌⊎◌, inl, inr, ℕ, Bool, true, false, List, [], ◌∷◌, ◌++◌, Option, Some, None, is_some, refl, sym, ap, ap₂, subst, arith, length, map, drop, append-nil}
+use Rattle.std.proofs.Common.{◌≡◌, ◌∙◌, ◌<◌, ◌≤◌, ◌+◌, ◌⊎◌, inl, inr, ℕ, Bool, true, false, List, [], ◌∷◌, ◌++◌, Some, None, is_some, refl, sym, ap, ap₂, subst, arith, length, map, drop, append-nil}
 use Rattle.std.specs.Prelude.{slice_get, nat_lt, if◌then◌else◌}
 use Rattle.std.proofs.Math.Logic.{∥∥₁_elim}
 use Rattle.std.proofs.lemmas.Bool.{cases_lt, ltb-true}
@@ -20,14 +20,14 @@ use Rattle.bsv_design.specs.design.Designs.{DesignData, IsDesign}
 use Rattle.bsv_design.specs.parts.Kinds.{kind_table}
 use Rattle.bsv_design.specs.design.Words.{or_zero}
 use Rattle.bsv_design.specs.scheme.Seen.{design_data}
-use Rattle.bsv_design.specs.scheme.Schemes.{Scheme, Outline, Asking, Look, calls_of, design_scheme, kinds_of, given, outline, ports_of, seen}
+use Rattle.bsv_design.specs.scheme.Schemes.{Scheme, Asking, Look, calls_of, design_scheme, kinds_of, given, outline, ports_of, seen}
 use Rattle.bsv_design.specs.scheme.States.{AreWordsOf, FitsKinds, part_at}
 use Rattle.bsv_design.specs.scheme.Traces.{Site, kind_at}
 use Rattle.bsv_graph.specs.Edges.{numbers_below}
 use Rattle.bsv_graph.specs.Orders.{In}
 use Rattle.bsv_guard.specs.ElementLaws.{IsUse}
 use Rattle.bsv_guard.specs.Fitting.{HaveWidths}
-use Rattle.bsv_clock.specs.Shows.{Cell, Given, Shows, TellsElements, TellsClock, Carries, cell, cells_of, cell_widths, inputs_of, input_widths}
+use Rattle.bsv_clock.specs.Shows.{Cell, Given, Shows, TellsElements, TellsClock, Carries, cell, cells_of, cell_widths, inputs_of}
 use Rattle.bsv_clock.specs.Clocks.{IsClock, is_in}
 use Rattle.bsv_clock.specs.Grounds.{BelongTogether, Fit, IsLawful, IsScheduleOf, KeepsRules}
 use Rattle.bsv_clock.specs.Looks.{clock_look}
@@ -51,10 +51,12 @@ use Rattle.bsv_ports.specs.CallSites.{or_none, all_call_sites}
 use Rattle.bsv_ports.specs.Ports.{arity_of}
 use Rattle.bsv_fire.specs.Firing as firing
 use Rattle.bsv_fire.specs.Firing.{Fires}
+use Rattle.bsv_net.specs.Unasked.{Arguments, IgnoresUnasked, MayStand, inputs_with, with_arguments}
 use Rattle.bsv_net.specs.ShowsByNet.{NamesNoResult, NetCarries, gives, given_at}
 use Rattle.bsv_ports.specs.Starts.{register_starts}
 use Rattle.bsv_ports.proofs.FirstNodes.{part_shown, register_start, registers_before, word_after}
-use Rattle.bsv_net.proofs.WidthsFit.{cells_have, inputs_have}
+use Rattle.bsv_net.proofs.WidthsFit.{cells_have, inputs_given, inputs_of_scheme}
+use Rattle.bsv_net.proofs.Standing.{all_told as all_given_told, clock_with, each_gets, fit_with, given_may_stand, lawful_with, others_told, schedule_with}
 use Rattle.bsv_fire.proofs.Firings.{node_there}
 use Rattle.bsv_ports.proofs.Scene.{Scene, does, looks, TellsFiring, TellsSite}
 use Rattle.bsv_fire.proofs.GroundTold.{registers_within}
@@ -90,45 +92,45 @@ module _ (ns : List NetNode) (count : ℕ) where
 
 -- ---- a clock
 
-module _ (b : DesignData) (right : IsDesign b) (made : Schedule) (lawful : IsLawful (design_scheme b)) (scheduled : IsScheduleOf (design_scheme b) made)
+module _ (b : DesignData) (right : IsDesign b) (made : Schedule) (xs : Arguments)
+    (stands : (n : ℕ) → AreWordsOf (ports_of (slice_get (design_scheme b).elements n)) (xs n))
+    (lawful : IsLawful (with_arguments (design_scheme b) xs)) (scheduled : IsScheduleOf (with_arguments (design_scheme b) xs) made)
     (c : NetData) (before : IsNet c) (promise : Fires false (design_scheme b) made c) (e : NetData) (is : IsNextNet b made c e) (ordered : IsNet e)
-    (q : Asking) (s : List Part) (ws : List Bits) (fit : Fit (design_scheme b) q s) (have : HaveWidths (cell_widths (cells_of (kinds_of b))) ws)
+    (q : Asking) (s : List Part) (ws : List Bits) (fit : Fit (with_arguments (design_scheme b) xs) q s) (have : HaveWidths (cell_widths (cells_of (kinds_of b))) ws)
     (shows : Shows (kinds_of b) s ws) where
   abbrev T : Scheme
-  T = design_scheme b
+  T = with_arguments (design_scheme b) xs
 
   cells_are : map cell c.registers ≡ cells_of (kinds_of b)
   unfolding design_scheme
   cells_are = promise.registers
 
-  before_inputs : HaveWidths c.inputs (inputs_of T q)
-  unfolding inputs_of input_widths design_scheme
-  before_inputs =
-      subst (λ (us : List ℕ). HaveWidths us (inputs_of T q)) (sym promise.inputs)
-      (inputs_have T q 0 (map outline b.elements) (λ j o there.
-      subst (λ n. AreWordsOf o.ports (given T q n)) (omega arith)
-      (subst (λ (x : Option Outline). AreWordsOf (ports_of x) (given T q j)) there (fit.requests j))))
+  before_inputs : HaveWidths c.inputs (inputs_with T q xs)
+  unfolding inputs_with
+  before_inputs = subst (λ (us : List ℕ). HaveWidths us (inputs_with T q xs)) (sym promise.inputs) (inputs_of_scheme (design_scheme b) q xs stands)
 
   before_registers : HaveWidths (register_widths c.registers) ws
   before_registers = subst (λ (us : List ℕ). HaveWidths us ws) (sym (ap cell_widths cells_are) ∙ cells_have c.registers) have
 
-  inputs_fit : HaveWidths e.inputs (inputs_of T q)
-  inputs_fit = subst (λ (us : List ℕ). HaveWidths us (inputs_of T q)) (sym is.inputs) before_inputs
+  inputs_fit : HaveWidths e.inputs (inputs_with T q xs)
+  inputs_fit = subst (λ (us : List ℕ). HaveWidths us (inputs_with T q xs)) (sym is.inputs) before_inputs
 
   registers_fit : HaveWidths (register_widths e.registers) ws
   registers_fit = subst (λ (rs : List _). HaveWidths (register_widths rs) ws) (sym is.registers) before_registers
 
   -- the words of the nodes, and those of the net before
   abbrev vs : List Bits
-  vs = words e.nodes (inputs_of T q) ws
+  vs = words e.nodes (inputs_with T q xs) ws
 
   abbrev old : List Bits
-  old = words c.nodes (inputs_of T q) ws
+  old = words c.nodes (inputs_with T q xs) ws
 
   abbrev scene : Scene
   scene = record {
     b = b;
     right = right;
+    xs = xs;
+    stands = stands;
     made = made;
     lawful = lawful;
     scheduled = scheduled;
@@ -138,9 +140,9 @@ module _ (b : DesignData) (right : IsDesign b) (made : Schedule) (lawful : IsLaw
     full = e.nodes;
     widths = ordered.widths;
     V = at vs;
-    inputs = inputs_of T q;
+    inputs = inputs_with T q xs;
     registers = ws;
-    solved = satisfies e ordered (inputs_of T q) ws inputs_fit registers_fit;
+    solved = satisfies e ordered (inputs_with T q xs) ws inputs_fit registers_fit;
   }
 
   abbrev count : ℕ
@@ -160,23 +162,19 @@ module _ (b : DesignData) (right : IsDesign b) (made : Schedule) (lawful : IsLaw
 
   -- the nodes of the net before keep their words
   old_long : length before.widths ≡ length old
-  old_long = same_length before.widths old (words_have c before (inputs_of T q) ws before_inputs before_registers)
+  old_long = same_length before.widths old (words_have c before (inputs_with T q xs) ws before_inputs before_registers)
 
   same_word : (n : ℕ) → n < length old → at vs n ≡ at old n
   same_word n l =
-      let g = words_grown c.nodes e.nodes grown_nodes (inputs_of T q) ws in
+      let g = words_grown c.nodes e.nodes grown_nodes (inputs_with T q xs) ws in
       ap (λ (us : List Bits). at us n) g.1 ∙ ap or_zero (at_left old g.0 n l)
 
   names : Named vs old c
   names = named vs old before.widths (λ n l. same_word n (omega (arith, old_long, l))) c before.in_order
 
-  module _ (fired : List ℕ) (after : List Part) (clock : IsClock false T made q s fired after) where
+  module _ (fired : List ℕ) (after : List Part) (clock : IsClock false T made q s fired after) (tells : firing.TellsFiring false T q s fired c old) where
     together : BelongTogether T made q s
     together = record { lawful = lawful; schedule = scheduled; fit = fit }
-
-    tells : firing.TellsFiring false T q s fired c old
-    unfolding design_scheme
-    tells = promise.clock q s ws fired after fit have shows clock
 
     same_look : clock_look T q s fired ≡ looks scene
     same_look = look_is T made q s together fired after clock
@@ -288,10 +286,10 @@ module _ (b : DesignData) (right : IsDesign b) (made : Schedule) (lawful : IsLaw
         ∙ results_renamed vs old same_word c.results
       where
         old_nodes : length c.nodes ≡ length old
-        old_nodes = sym (words_long c.nodes (inputs_of T q) ws)
+        old_nodes = sym (words_long c.nodes (inputs_with T q xs) ws)
 
         new_nodes : length (next_words b made c).nodes ≡ length vs
-        new_nodes = ap length (sym is.nodes) ∙ sym (words_long e.nodes (inputs_of T q) ws)
+        new_nodes = ap length (sym is.nodes) ∙ sym (words_long e.nodes (inputs_with T q xs) ws)
 
     elements_told : TellsElements false T q s fired (given_at e vs)
     elements_told = record {
@@ -301,7 +299,7 @@ module _ (b : DesignData) (right : IsDesign b) (made : Schedule) (lawful : IsLaw
     }
 
     -- the net tells the clock
-    pub clock_told : TellsClock false T q s fired after (gives e ws (inputs_of T q))
+    pub clock_told : TellsClock false T q s fired after (gives e ws (inputs_with T q xs))
     unfolding design_scheme
     clock_told = record {
       elements = elements_told;
@@ -341,16 +339,31 @@ module _ (d : Design) (made : Schedule) (rules : KeepsRules (design_scheme (desi
   abbrev U : Scheme
   U = design_scheme (design_data d)
 
-  clock_of : (q : Asking) (s : List Part) (ws : List Bits) (fired : List ℕ) (after : List Part) → Fit U q s
+  -- each clock of elements with the arguments that they have
+  clock_of : (q : Asking) (s : List Part) (ws : List Bits) (fired : List ℕ) (after : List Part) (xs : Arguments) → Fit U q s → MayStand U q xs
       → HaveWidths (cell_widths (cells_of U.kinds)) ws → Shows U.kinds s ws → IsClock false U made q s fired after
-      → TellsClock false U q s fired after (gives e ws (inputs_of U q))
-  unfolding design_scheme
-  clock_of q s ws fired after fit have shows clock =
-      let prop = told_prop U q s fired after (gives e ws (inputs_of U q)) in
+      → TellsClock false (with_arguments U xs) q s fired after (gives e ws (inputs_with U q xs))
+  unfolding design_scheme inputs_with
+  clock_of q s ws fired after xs fit stand have shows clock =
+      let stands = stand.widths in
+      let lawful = lawful_with U xs stands (lawful_design d rules) in
+      let prop = told_prop (with_arguments U xs) q s fired after (gives e ws (inputs_with U q xs)) in
       ∥∥₁_elim d.right prop (λ (right : IsDesign (design_data d)).
       ∥∥₁_elim before prop (λ (before_is : IsNet c).
       ∥∥₁_elim ordered prop (λ (ordered_is : IsNet e).
-      clock_told (design_data d) right made (lawful_design d rules) scheduled c before_is promise e is ordered_is q s ws fit have shows fired after clock)))
+      clock_told (design_data d) right made xs stands lawful (schedule_with U xs stands made scheduled) c before_is promise e is ordered_is
+      q s ws (fit_with U xs stands q s fit) have shows fired after (clock_with U q xs (each_gets U q xs stand) false made s fired after clock)
+      (promise.clock q s ws fired after xs fit stand have shows clock))))
+
+  -- and each where all have what they are given
+  clock_given : (q : Asking) (s : List Part) (ws : List Bits) (fired : List ℕ) (after : List Part) → Fit U q s
+      → HaveWidths (cell_widths (cells_of U.kinds)) ws → Shows U.kinds s ws → IsClock false U made q s fired after
+      → TellsClock false U q s fired after (gives e ws (inputs_of U q))
+  clock_given q s ws fired after fit have shows clock =
+      let stand = given_may_stand U q fit.requests in
+      subst (λ (vs : List Bits). TellsClock false U q s fired after (gives e ws vs)) (inputs_given U q)
+      (all_given_told U q (given U q) stand false made s fired after clock (λ n. refl) (gives e ws (inputs_with U q (given U q)))
+      (clock_of q s ws fired after (given U q) fit stand have shows clock))
 
   cells_kept : map cell e.registers ≡ cells_of U.kinds
   cells_kept = ap (map cell) is.registers ∙ promise.registers
@@ -360,8 +373,13 @@ module _ (d : Design) (made : Schedule) (rules : KeepsRules (design_scheme (desi
     registers = cells_kept;
     inputs = is.inputs ∙ promise.inputs;
     clock = λ q s ws fired after fit have shows clock.
-        clock_of q s ws fired after fit (subst (λ (cs : List Cell). HaveWidths (cell_widths cs) ws) cells_kept have) shows clock;
+        clock_given q s ws fired after fit (subst (λ (cs : List Cell). HaveWidths (cell_widths cs) ws) cells_kept have) shows clock;
   }
+
+  words_ignore : IgnoresUnasked false U made (map cell e.registers) (gives e)
+  words_ignore = λ q s ws fired after xs fit stand have shows clock.
+      others_told U q xs stand false made s fired after clock (gives e ws (inputs_with U q xs))
+      (clock_of q s ws fired after xs fit stand (subst (λ (cs : List Cell). HaveWidths (cell_widths cs) ws) cells_kept have) shows clock)
 
   names_no_result : NamesNoResult U e
   names_no_result n o at_o gives_none =
@@ -382,5 +400,6 @@ pub net_carries : (d : Design) (made : Schedule) → KeepsRules (design_scheme (
     → (n : Net) → IsNextNet (design_data d) made c (net_data n) → NetCarries false (design_scheme (design_data d)) made n
 net_carries d made rules scheduled c before promise n is = record {
   words = words_carry d made rules scheduled c before promise (net_data n) is n.right;
+  unasked = words_ignore d made rules scheduled c before promise (net_data n) is n.right;
   no_result = names_no_result d made rules scheduled c before promise (net_data n) is n.right;
 }

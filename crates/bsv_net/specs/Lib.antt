@@ -2,4 +2,5 @@ pub mod Nets
 pub mod Equations
 pub mod Placing
 pub mod AtHand
+pub mod Unasked
 pub mod ShowsByNet

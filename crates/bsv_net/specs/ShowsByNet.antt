@@ -12,6 +12,7 @@ use Rattle.bsv_net.specs.declared.net_data.NetData.{NetData}
 use Rattle.bsv_net.specs.declared.net.Net.{Net}
 use Rattle.bsv_net.specs.AtHand.{net_data}
 use Rattle.bsv_net.specs.Nets.{words}
+use Rattle.bsv_net.specs.Unasked.{IgnoresUnasked}
 
 -- the words that a net gives, where its nodes have these
 abbrev pub given_at : NetData → List Bits → Given
@@ -35,6 +36,11 @@ abbrev pub NamesNoResult : Scheme → NetData → Type 0
 NamesNoResult S c =
     (n : ℕ) (o : Outline) → slice_get S.elements n ≡ Some o → gives_value o.role ≡ false → slice_get c.results n ≡ Some (length c.nodes)
 
+-- and of methods that act, words at their arguments count only while they are asked
+abbrev pub WordsIgnore : Bool → Scheme → Schedule → Net → Type 0
+WordsIgnore aggressive S made n = IgnoresUnasked aggressive S made (map cell n.registers) (gives (net_data n))
+
 pub record NetCarries (aggressive : Bool) (S : Scheme) (made : Schedule) (n : Net) : Type 0 where
   pub words : WordsCarry aggressive S made n
+  pub unasked : WordsIgnore aggressive S made n
   pub no_result : NamesNoResult S (net_data n)

@@ -13,11 +13,12 @@ use Rattle.bsv_design.specs.design.Bodies.{at}
 use Rattle.bsv_design.specs.parts.Kinds.{kind_table}
 use Rattle.bsv_design.specs.design.Roles.{is_rule}
 use Rattle.bsv_design.specs.design.Words.{or_zero}
-use Rattle.bsv_design.specs.scheme.Schemes.{Scheme, Asking, given, outline}
+use Rattle.bsv_design.specs.scheme.Schemes.{Asking, outline}
 use Rattle.bsv_design.specs.scheme.States.{part_at}
-use Rattle.bsv_clock.specs.Shows.{Shows, inputs_from}
+use Rattle.bsv_clock.specs.Shows.{Shows}
 use Rattle.bsv_clock.specs.Clocks.{is_asked}
 use Rattle.bsv_net.specs.Placing.{node_at}
+use Rattle.bsv_net.specs.Unasked.{Arguments, inputs_with_from}
 use Rattle.bsv_ports.specs.Starts.{input_count, input_starts, register_starts}
 
 -- ---- inputs
@@ -39,20 +40,20 @@ unfoldable pub MethodsFirst : List Element → Type 0
 MethodsFirst es =
     (m n : ℕ) (d e : Element) → slice_get es m ≡ Some d → slice_get es n ≡ Some e → m ≤ n → is_rule d.role ≡ true → is_rule e.role ≡ true
 
-abbrev LongEnough : Scheme → Asking → ℕ → List Element → Type 0
-LongEnough S q base es = (j : ℕ) (e : Element) → slice_get es j ≡ Some e → length (given S q (base + j)) ≡ length e.arguments
+abbrev LongEnough : Arguments → ℕ → List Element → Type 0
+LongEnough xs base es = (j : ℕ) (e : Element) → slice_get es j ≡ Some e → length (xs (base + j)) ≡ length e.arguments
 
-after_method : (S : Scheme) (q : Asking) (base : ℕ) (e : Element) (es : List Element) (k : ℕ) → is_rule e.role ≡ false → length (given S q base) ≡ length e.arguments
-    → slice_get (inputs_from S q base (map outline (e ∷ es))) (input_count e + k) ≡ slice_get (inputs_from S q (base + 1) (map outline es)) k
-after_method S q base e es k rule long =
-    let rest = inputs_from S q (base + 1) (map outline es) in
-    let ws = given S q base in
+after_method : (q : Asking) (xs : Arguments) (base : ℕ) (e : Element) (es : List Element) (k : ℕ) → is_rule e.role ≡ false → length (xs base) ≡ length e.arguments
+    → slice_get (inputs_with_from q xs base (map outline (e ∷ es))) (input_count e + k) ≡ slice_get (inputs_with_from q xs (base + 1) (map outline es)) k
+after_method q xs base e es k rule long =
+    let rest = inputs_with_from q xs (base + 1) (map outline es) in
+    let ws = xs base in
     ap (λ (b : Bool). slice_get (cond b [] (ws ++ (bit (is_asked q base) ∷ rest))) (cond b 0 (length e.arguments + 1) + k)) rule
     ∙ (ap (slice_get (ws ++ (bit (is_asked q base) ∷ rest))) (omega (arith, long)) ∙ at_right ws (bit (is_asked q base) ∷ rest) (suc k))
 
-of_method : (S : Scheme) (q : Asking) (base : ℕ) (e : Element) (es : List Element) → is_rule e.role ≡ false
-    → inputs_from S q base (map outline (e ∷ es)) ≡ given S q base ++ (bit (is_asked q base) ∷ inputs_from S q (base + 1) (map outline es))
-of_method S q base e es rule = ap (λ (b : Bool). cond b [] (given S q base ++ (bit (is_asked q base) ∷ inputs_from S q (base + 1) (map outline es)))) rule
+of_method : (q : Asking) (xs : Arguments) (base : ℕ) (e : Element) (es : List Element) → is_rule e.role ≡ false
+    → inputs_with_from q xs base (map outline (e ∷ es)) ≡ xs base ++ (bit (is_asked q base) ∷ inputs_with_from q xs (base + 1) (map outline es))
+of_method q xs base e es rule = ap (λ (b : Bool). cond b [] (xs base ++ (bit (is_asked q base) ∷ inputs_with_from q xs (base + 1) (map outline es)))) rule
 
 first_is_method : (e : Element) (es : List Element) (j : ℕ) (f : Element) → MethodsFirst (e ∷ es) → slice_get es j ≡ Some f → is_rule f.role ≡ false → is_rule e.role ≡ false
 unfolding MethodsFirst
@@ -67,48 +68,48 @@ unfolding MethodsFirst
 methods_after e es first m n d f p r l h = first (suc m) (suc n) d f p r (omega arith) h
 
 -- the arguments of a method, and whether it is asked
-pub argument_at : (S : Scheme) (q : Asking) (base : ℕ) (es : List Element) → MethodsFirst es → LongEnough S q base es
+pub argument_at : (q : Asking) (xs : Arguments) (base : ℕ) (es : List Element) → MethodsFirst es → LongEnough xs base es
     → (j : ℕ) (e : Element) → slice_get es j ≡ Some e → is_rule e.role ≡ false → (k : ℕ) → k < length e.arguments
-    → slice_get (inputs_from S q base (map outline es)) (inputs_before es j + k) ≡ slice_get (given S q (base + j)) k
+    → slice_get (inputs_with_from q xs base (map outline es)) (inputs_before es j + k) ≡ slice_get (xs (base + j)) k
 unfolding inputs_before
-argument_at S q base [] first long j e there rule k l = absurd (let n : ⊥ = cc in n)
-argument_at S q base (x ∷ es) first long zero e there rule k l =
+argument_at q xs base [] first long j e there rule k l = absurd (let n : ⊥ = cc in n)
+argument_at q xs base (x ∷ es) first long zero e there rule k l =
     let same : x ≡ e = cc in
     let not_rule = ap (λ (y : Element). is_rule y.role) same ∙ rule in
-    let len : length (given S q base) ≡ length x.arguments = ap (λ n. length (given S q n)) (omega arith) ∙ long 0 x refl in
+    let len : length (xs base) ≡ length x.arguments = ap (λ n. length (xs n)) (omega arith) ∙ long 0 x refl in
     let many = ap (λ (y : Element). length y.arguments) same in
-    ap (λ (xs : List Bits). slice_get xs (0 + k)) (of_method S q base x es not_rule)
-    ∙ (ap (slice_get (given S q base ++ (bit (is_asked q base) ∷ inputs_from S q (base + 1) (map outline es)))) (omega arith)
-    ∙ (at_left (given S q base) (bit (is_asked q base) ∷ inputs_from S q (base + 1) (map outline es)) k (omega (arith, len, many))
-    ∙ ap (λ n. slice_get (given S q n) k) (omega arith)))
-argument_at S q base (x ∷ es) first long (suc j) e there rule k l =
+    ap (λ (xs : List Bits). slice_get xs (0 + k)) (of_method q xs base x es not_rule)
+    ∙ (ap (slice_get (xs base ++ (bit (is_asked q base) ∷ inputs_with_from q xs (base + 1) (map outline es)))) (omega arith)
+    ∙ (at_left (xs base) (bit (is_asked q base) ∷ inputs_with_from q xs (base + 1) (map outline es)) k (omega (arith, len, many))
+    ∙ ap (λ n. slice_get (xs n) k) (omega arith)))
+argument_at q xs base (x ∷ es) first long (suc j) e there rule k l =
     let not_rule = first_is_method x es j e first there rule in
-    let len : length (given S q base) ≡ length x.arguments = ap (λ n. length (given S q n)) (omega arith) ∙ long 0 x refl in
-    ap (slice_get (inputs_from S q base (map outline (x ∷ es)))) (omega arith)
-    ∙ (after_method S q base x es (inputs_before es j + k) not_rule len
-    ∙ (argument_at S q (base + 1) es (methods_after x es first) (λ i f p. ap (λ n. length (given S q n)) (omega arith) ∙ long (suc i) f p) j e there rule k l
-    ∙ ap (λ n. slice_get (given S q n) k) (omega arith)))
+    let len : length (xs base) ≡ length x.arguments = ap (λ n. length (xs n)) (omega arith) ∙ long 0 x refl in
+    ap (slice_get (inputs_with_from q xs base (map outline (x ∷ es)))) (omega arith)
+    ∙ (after_method q xs base x es (inputs_before es j + k) not_rule len
+    ∙ (argument_at q xs (base + 1) es (methods_after x es first) (λ i f p. ap (λ n. length (xs n)) (omega arith) ∙ long (suc i) f p) j e there rule k l
+    ∙ ap (λ n. slice_get (xs n) k) (omega arith)))
 
-pub asked_at : (S : Scheme) (q : Asking) (base : ℕ) (es : List Element) → MethodsFirst es → LongEnough S q base es
+pub asked_at : (q : Asking) (xs : Arguments) (base : ℕ) (es : List Element) → MethodsFirst es → LongEnough xs base es
     → (j : ℕ) (e : Element) → slice_get es j ≡ Some e → is_rule e.role ≡ false
-    → slice_get (inputs_from S q base (map outline es)) (inputs_before es j + length e.arguments) ≡ Some (bit (is_asked q (base + j)))
+    → slice_get (inputs_with_from q xs base (map outline es)) (inputs_before es j + length e.arguments) ≡ Some (bit (is_asked q (base + j)))
 unfolding inputs_before
-asked_at S q base [] first long j e there rule = absurd (let n : ⊥ = cc in n)
-asked_at S q base (x ∷ es) first long zero e there rule =
+asked_at q xs base [] first long j e there rule = absurd (let n : ⊥ = cc in n)
+asked_at q xs base (x ∷ es) first long zero e there rule =
     let same : x ≡ e = cc in
     let not_rule = ap (λ (y : Element). is_rule y.role) same ∙ rule in
-    let len : length (given S q base) ≡ length x.arguments = ap (λ n. length (given S q n)) (omega arith) ∙ long 0 x refl in
+    let len : length (xs base) ≡ length x.arguments = ap (λ n. length (xs n)) (omega arith) ∙ long 0 x refl in
     let many = ap (λ (y : Element). length y.arguments) same in
-    ap (λ (xs : List Bits). slice_get xs (0 + length e.arguments)) (of_method S q base x es not_rule)
-    ∙ (ap (slice_get (given S q base ++ (bit (is_asked q base) ∷ inputs_from S q (base + 1) (map outline es)))) (omega (arith, len, many))
-    ∙ (at_right (given S q base) (bit (is_asked q base) ∷ inputs_from S q (base + 1) (map outline es)) 0
+    ap (λ (xs : List Bits). slice_get xs (0 + length e.arguments)) (of_method q xs base x es not_rule)
+    ∙ (ap (slice_get (xs base ++ (bit (is_asked q base) ∷ inputs_with_from q xs (base + 1) (map outline es)))) (omega (arith, len, many))
+    ∙ (at_right (xs base) (bit (is_asked q base) ∷ inputs_with_from q xs (base + 1) (map outline es)) 0
     ∙ ap (λ n. Some (bit (is_asked q n))) (omega arith)))
-asked_at S q base (x ∷ es) first long (suc j) e there rule =
+asked_at q xs base (x ∷ es) first long (suc j) e there rule =
     let not_rule = first_is_method x es j e first there rule in
-    let len : length (given S q base) ≡ length x.arguments = ap (λ n. length (given S q n)) (omega arith) ∙ long 0 x refl in
-    ap (slice_get (inputs_from S q base (map outline (x ∷ es)))) (omega arith)
-    ∙ (after_method S q base x es (inputs_before es j + length e.arguments) not_rule len
-    ∙ (asked_at S q (base + 1) es (methods_after x es first) (λ i f p. ap (λ n. length (given S q n)) (omega arith) ∙ long (suc i) f p) j e there rule
+    let len : length (xs base) ≡ length x.arguments = ap (λ n. length (xs n)) (omega arith) ∙ long 0 x refl in
+    ap (slice_get (inputs_with_from q xs base (map outline (x ∷ es)))) (omega arith)
+    ∙ (after_method q xs base x es (inputs_before es j + length e.arguments) not_rule len
+    ∙ (asked_at q xs (base + 1) es (methods_after x es first) (λ i f p. ap (λ n. length (xs n)) (omega arith) ∙ long (suc i) f p) j e there rule
     ∙ ap (λ n. Some (bit (is_asked q n))) (omega arith)))
 
 -- ---- registers

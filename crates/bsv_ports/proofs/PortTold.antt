@@ -12,7 +12,7 @@ use Rattle.bsv_design.specs.declared.element.Element.{Element}
 use Rattle.bsv_design.specs.declared.kind.Kind.{Kind}
 use Rattle.bsv_design.specs.design.Bodies.{Target, at, target, words}
 use Rattle.bsv_design.specs.parts.Kinds.{kind_table}
-use Rattle.bsv_design.specs.scheme.Schemes.{Called, answers, calls, calls_of, design_scheme, given, kinds_of, seen, taken_actions, trace_of}
+use Rattle.bsv_design.specs.scheme.Schemes.{Called, answers, calls, calls_of, design_scheme, kinds_of, seen, taken_actions, trace_of}
 use Rattle.bsv_design.specs.scheme.Traces.{Site, body_trace, kind_at, site_at}
 use Rattle.bsv_graph.specs.Edges.{numbers_below}
 use Rattle.bsv_graph.specs.Orders.{In}
@@ -59,7 +59,7 @@ module _ (z : Scene) where
   pub site_fits : (n j : ℕ) (x : Site) → slice_get (seen (S z) z.q n (looks z)).sites j ≡ Some x → IsFitCall (kind_at (S z).kinds x.target) x.target.method x.arguments
   unfolding seen
   site_fits n j x e =
-      z.lawful.fitting.calls_fit n (answers (S z).kinds (looks z)) (given (S z) z.q n) (z.fit.requests n)
+      z.lawful.fitting.calls_fit n (answers (S z).kinds (looks z)) (z.xs n) (z.stands n)
       ((fitting_keeps (S z) z.lawful.sound z.lawful.fitting).answers_fit (looks z) (clock_fed false (S z) z.made z.q z.s together (steady_scheme false (S z) z.lawful)).look_fits) j x e
 
   -- ---- an element
@@ -67,11 +67,11 @@ module _ (z : Scene) where
   module _ (f : ℕ) (e : Element) (there : slice_get z.b.elements f ≡ Some e) where
     -- the words of its nodes in the clock
     abbrev pub element_words : List Bits
-    element_words = words e (answers ks (looks z)) (given (S z) z.q f)
+    element_words = words e (answers ks (looks z)) (z.xs f)
 
     pub sites_are : (seen (S z) z.q f (looks z)).sites ≡ map (site_at ks element_words) e.calls
     unfolding seen design_scheme body_trace
-    sites_are = ap (λ (o : Option Element). (trace_of ks o (answers ks (looks z)) (given (S z) z.q f)).sites) there
+    sites_are = ap (λ (o : Option Element). (trace_of ks o (answers ks (looks z)) (z.xs f)).sites) there
 
     pub use_at : (j : ℕ) (c : SiteCall) → slice_get e.calls j ≡ Some c → slice_get ((S z).uses f) j ≡ Some (target c)
     unfolding design_scheme
@@ -79,7 +79,7 @@ module _ (z : Scene) where
 
   no_sites : (f : ℕ) → slice_get z.b.elements f ≡ None → (seen (S z) z.q f (looks z)).sites ≡ []
   unfolding seen design_scheme
-  no_sites f there = ap (λ (o : Option Element). (trace_of ks o (answers ks (looks z)) (given (S z) z.q f)).sites) there
+  no_sites f there = ap (λ (o : Option Element). (trace_of ks o (answers ks (looks z)) (z.xs f)).sites) there
 
   -- what an element does on a part, by its sites
   latest_of_sites : (i m f : ℕ) (last : Option (List Bits)) → fires (does z) f ≡ true

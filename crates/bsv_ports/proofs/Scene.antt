@@ -9,7 +9,8 @@ use Rattle.bsv_prim.specs.declared.part.Part.{Part}
 use Rattle.bsv_design.specs.declared.schedule.Schedule.{Schedule}
 use Rattle.bsv_design.specs.design.Bodies.{Target}
 use Rattle.bsv_design.specs.design.Designs.{DesignData, IsDesign}
-use Rattle.bsv_design.specs.scheme.Schemes.{Scheme, Asking, Look, design_scheme, seen}
+use Rattle.bsv_design.specs.scheme.Schemes.{Scheme, Asking, Look, design_scheme, ports_of, seen}
+use Rattle.bsv_design.specs.scheme.States.{AreWordsOf}
 use Rattle.bsv_design.specs.scheme.Traces.{Site, kind_at}
 use Rattle.bsv_graph.specs.Orders.{In}
 use Rattle.bsv_guard.specs.Turns.{calls_on}
@@ -20,19 +21,23 @@ use Rattle.bsv_net.specs.declared.node.Site.{Site as NetSite}
 use Rattle.bsv_net.specs.declared.wires.MethodPort.{MethodPort}
 use Rattle.bsv_net.specs.Equations.{Values, Satisfies}
 use Rattle.bsv_net.specs.Placing.{node_at}
+use Rattle.bsv_net.specs.Unasked.{Arguments, with_arguments}
 use Rattle.bsv_ports.specs.CallSites.{or_none}
 use Rattle.bsv_ports.specs.Ports.{arity_of}
 
--- a design with its schedule, a state and requests that fit it, and the words of a net in a clock from there
+-- a design whose elements have certain arguments, with its schedule, a state and requests that fit it, and the words of a
+-- net in a clock from there
 pub record Scene : Type 0 where
   pub b : DesignData
   pub right : IsDesign b
+  pub xs : Arguments
+  pub stands : (n : ℕ) → AreWordsOf (ports_of (slice_get (design_scheme b).elements n)) (xs n)
   pub made : Schedule
-  pub lawful : IsLawful (design_scheme b)
-  pub scheduled : IsScheduleOf (design_scheme b) made
+  pub lawful : IsLawful (with_arguments (design_scheme b) xs)
+  pub scheduled : IsScheduleOf (with_arguments (design_scheme b) xs) made
   pub q : Asking
   pub s : List Part
-  pub fit : Fit (design_scheme b) q s
+  pub fit : Fit (with_arguments (design_scheme b) xs) q s
   -- the nodes of the whole net, their widths and their words, and the words of its inputs and registers
   pub full : List NetNode
   pub widths : List ℕ
@@ -43,7 +48,7 @@ pub record Scene : Type 0 where
 
 -- what each element does in the clock, and what methods look at
 abbrev pub S : Scene → Scheme
-S z = design_scheme z.b
+S z = with_arguments (design_scheme z.b) z.xs
 
 abbrev pub does : Scene → Doing
 does z = the_clock false (S z) z.made z.q z.s

@@ -1,6 +1,6 @@
 -- A method that gives a value alone counts as asked in the module, asked or not. Asking all of them changes nothing else of
 -- a clock.
-use Rattle.std.proofs.Common.{◌≡◌, ◌∙◌, ◌<◌, ◌≤◌, ◌⊎◌, inl, inr, ℕ, Bool, true, false, List, [], ◌∷◌, Option, Some, None, is_some, refl, sym, ap, ap₂, subst, length, map, filter}
+use Rattle.std.proofs.Common.{◌≡◌, ◌∙◌, ◌<◌, ◌≤◌, ◌⊎◌, inl, inr, ℕ, Bool, true, false, not, List, [], ◌∷◌, Option, Some, None, is_some, refl, sym, ap, ap₂, subst, length, map, filter}
 use Rattle.std.specs.Prelude.{slice_get, unwrap_or, ◌&&◌, ◌||◌}
 use Rattle.std.proofs.lemmas.Bool.{both_ways, cases_lt, false_from_ne_true}
 use Rattle.std.proofs.lemmas.Option.{slice_get_past, slice_get_within}
@@ -8,8 +8,6 @@ use Rattle.bsv_lemmas.proofs.Places.{mapped_at}
 use Rattle.bsv_bits.specs.Words.{Bits, zero_word}
 use Rattle.bsv_prim.specs.declared.part.Part.{Part}
 use Rattle.bsv_design.specs.declared.element.Port.{Port}
-use Rattle.bsv_design.specs.declared.element.Role.{Role}
-use Rattle.bsv_design.specs.declared.element.Role.TheVariants as role
 use Rattle.bsv_design.specs.declared.schedule.Schedule.{Schedule}
 use Rattle.bsv_design.specs.design.Roles.{is_rule, is_value}
 use Rattle.bsv_design.specs.scheme.Schemes.{Scheme, Outline, Asking, Called, Look, all_hold, all_open, answers, filled, given, if_asked, ports_of, ready, seen, value}
@@ -26,6 +24,7 @@ use Rattle.bsv_clock.proofs.Asked.{happen_alike}
 use Rattle.bsv_clock.proofs.Clocks.{clock_run, one_after, one_fired, some_clock}
 use Rattle.bsv_clock.proofs.Members.{found, in_kept, is_found, kept_in, not_found}
 use Rattle.bsv_clock.proofs.Steadily.{steady_scheme}
+use Rattle.bsv_net.specs.Unasked.{Arguments, MayStand, is_idle, is_idle_as}
 use Rattle.bsv_net.proofs.Numbers.{number_at}
 use Rattle.bsv_clock.proofs.Quiet.{value_role}
 
@@ -105,6 +104,29 @@ module _ (S : Scheme) (q : Asking) where
           (sym (is_asked_too n (slice_get_within S.elements n o e)
           ∙ (ap (λ (x : Option Outline). is_value_at x || is_asked q n) e
           ∙ ap (λ (b : Bool). b || is_asked q n) (not_value S n o e other))))
+
+  -- the same methods are idle
+  idle_as : (n : ℕ) (o : Option Outline) → slice_get S.elements n ≡ o → is_idle_as r n o ≡ is_idle_as q n o
+  idle_as n None there = refl
+  idle_as n (Some o) there =
+      ap (λ (b : Bool). not (is_rule o.role || (is_value o.role || b)))
+      (is_asked_too n (slice_get_within S.elements n o there) ∙ ap (λ (x : Option Outline). is_value_at x || is_asked q n) there)
+      ∙ once (is_value o.role) (is_asked q n)
+    where
+      once : (v a : Bool) → not (is_rule o.role || (v || (v || a))) ≡ not (is_rule o.role || (v || a))
+      once true a = refl
+      once false a = refl
+
+  pub idle_too : (n : ℕ) → is_idle S r n ≡ is_idle S q n
+  unfolding is_idle
+  idle_too n = idle_as n (slice_get S.elements n) refl
+
+  -- and the same words may be at the arguments
+  pub stand_too : (xs : Arguments) → MayStand S q xs → MayStand S r xs
+  stand_too xs stand = record {
+    widths = stand.widths;
+    others = λ n busy. stand.others n (sym (idle_too n) ∙ busy) ∙ given_too n;
+  }
 
   pub ask_alike : AskAlike S q r
   ask_alike = record { arguments = given_too; others = may_too }

@@ -21,10 +21,9 @@ use Rattle.bsv_design.specs.design.Widths.{result_fits}
 use Rattle.bsv_graph.specs.Edges.{numbers_below}
 use Rattle.bsv_guard.specs.Fitting.{HaveWidths}
 use Rattle.bsv_guard.proofs.Alike.{alike}
-use Rattle.bsv_guard.proofs.Given.{given_arguments}
+use Rattle.bsv_design.proofs.Elements.{length-words}
 use Rattle.bsv_guard.proofs.Lists.{IsOf, item_of}
-use Rattle.bsv_clock.specs.Shows.{Cell, Given, Shows, TellsClock, cell, cell_widths, cells_of, input_widths, inputs_of}
-use Rattle.bsv_clock.specs.Shows as clocks
+use Rattle.bsv_clock.specs.Shows.{Cell, Given, Shows, TellsClock, cell, cell_widths, cells_of, inputs_of}
 use Rattle.bsv_clock.specs.Clocks.{IsClock, is_asked, is_in}
 use Rattle.bsv_clock.specs.Grounds.{Fit, IsLawful, IsScheduleOf}
 use Rattle.bsv_clock.specs.Looks.{clock_look}
@@ -32,8 +31,10 @@ use Rattle.bsv_clock.specs.Values.{IsValueMethod}
 use Rattle.bsv_net.specs.declared.net.Net.{Net}
 use Rattle.bsv_net.specs.AtHand.{net_data}
 use Rattle.bsv_net.specs.Nets.{register_widths}
-use Rattle.bsv_net.specs.ShowsByNet.{gives, WordsCarry}
-use Rattle.bsv_net.proofs.WidthsFit.{cells_have, inputs_have}
+use Rattle.bsv_net.specs.ShowsByNet.{gives, WordsCarry, WordsIgnore}
+use Rattle.bsv_net.specs.Unasked as unasked
+use Rattle.bsv_net.specs.Unasked.{Arguments, TellsOthers, inputs_with_from}
+use Rattle.bsv_net.proofs.WidthsFit.{cells_have, inputs_given, inputs_of_scheme}
 use Rattle.bsv_net.proofs.Numbers.{number_at}
 use Rattle.bsv_vtext.specs.declared.tree.Atom.{Atom}
 use Rattle.bsv_vtext.specs.declared.tree.Atom.TheVariants as atom
@@ -41,11 +42,11 @@ use Rattle.bsv_vtext.specs.declared.tree.Target.TheVariants as target
 use Rattle.bsv_vtext.specs.Signals.{VModuleData}
 use Rattle.bsv_vtext.specs.VClock.{Inputs, Nets, VClock, atom_word, word_at}
 use Rattle.bsv_vgen.specs.declared.known.Known.{Known}
-use Rattle.bsv_vgen.specs.ShowsByModule.{ModuleCarries, TellsFire, TellsModule, inputs}
+use Rattle.bsv_vgen.specs.ShowsByModule.{ModuleCarries, ModuleIgnores, TellsFire, TellsModule, TellsOthersByModule, inputs_with}
 use Rattle.bsv_vgen.specs.Modules as modules
 use Rattle.bsv_vgen.specs.Modules.{argument_inputs, asked_input}
 use Rattle.bsv_vgen.specs.Names.{fire_wire}
-use Rattle.bsv_vgen.proofs.AskedToo.{ClockToo, asking_values, clock_too, fit_too, given_too, is_asked_too, is_value_at, ready_too, value_too}
+use Rattle.bsv_vgen.proofs.AskedToo.{ClockToo, asking_values, clock_too, fit_too, given_too, idle_too, is_asked_too, is_value_at, ready_too, stand_too, value_too}
 use Rattle.bsv_vgen.proofs.Computes.{Computes, TellsNet, input_words}
 use Rattle.bsv_design.specs.design.Words.{or_zero}
 
@@ -69,16 +70,16 @@ words_after : (word : Atom → Bits) (xs : List Known) (x : Known) (more : List 
 words_after word [] x more = refl
 words_after word (y ∷ xs) x more = ap (λ (ws : List Bits). word y.atom ∷ ws) (words_after word xs x more)
 
-module _ (S : Scheme) (q : Asking) (count : ℕ) (registers : List Bits) (nets : Nets) where
+module _ (S : Scheme) (q : Asking) (xs : Arguments) (long : (n : ℕ) → length (xs n) ≡ length (ports_of (slice_get S.elements n))) (count : ℕ) (registers : List Bits) (nets : Nets) where
   abbrev r : Asking
   r = asking_values S q
 
   abbrev word : Atom → Bits
-  word = atom_word registers (inputs S q count) nets
+  word = atom_word registers (inputs_with q xs count) nets
 
-  argument_word : (n k : ℕ) → n < count → word (atom.Argument n k) ≡ word_at (given S q n) k
+  argument_word : (n k : ℕ) → n < count → word (atom.Argument n k) ≡ word_at (xs n) k
   argument_word n k l =
-      ap (λ (o : Option (List Bits)). word_at (unwrap_or o []) k) (mapped_at (given S q) (numbers_below count) n n (number_at count n l))
+      ap (λ (o : Option (List Bits)). word_at (unwrap_or o []) k) (mapped_at xs (numbers_below count) n n (number_at count n l))
 
   enable_word : (n : ℕ) → n < count → word (atom.Enable n) ≡ bit (is_asked q n)
   enable_word n l = ap (λ (o : Option Bool). bit (unwrap_or o false)) (mapped_at (is_asked q) (numbers_below count) n n (number_at count n l))
@@ -96,18 +97,17 @@ module _ (S : Scheme) (q : Asking) (count : ℕ) (registers : List Bits) (nets :
       of true = refl
       of false = enable_word n l
 
-  -- the words of a method's arguments are those that are given
+  -- the words of a method's arguments are these
   arguments_word : (n : ℕ) (e : Element) → n < count → slice_get S.elements n ≡ Some (outline e)
-      → input_words word (argument_inputs n 0 e.arguments) ≡ given S r n
+      → input_words word (argument_inputs n 0 e.arguments) ≡ xs n
   arguments_word n e l there =
-      arguments_are word n 0 e.arguments (given S q n)
-      (given_arguments S q n ∙ ap (λ (o : Option Outline). length (ports_of o)) there)
+      arguments_are word n 0 e.arguments (xs n)
+      (long n ∙ ap (λ (o : Option Outline). length (ports_of o)) there)
       (λ j m. ap (λ i. word (atom.Argument n i)) (omega arith) ∙ argument_word n j l)
-      ∙ given_too S q n
 
   inputs_from_are : (n : ℕ) (es : List Element) → n + length (methods_in es) ≤ count
       → ((j : ℕ) (e : Element) → slice_get es j ≡ Some e → slice_get S.elements (n + j) ≡ Some (outline e))
-      → input_words word (modules.inputs_from n (methods_in es)) ≡ clocks.inputs_from S r n (map outline es)
+      → input_words word (modules.inputs_from n (methods_in es)) ≡ inputs_with_from r xs n (map outline es)
   inputs_from_are n [] few there = refl
   inputs_from_are n (e ∷ es) few there =
       of (is_rule e.role) few
@@ -118,9 +118,9 @@ module _ (S : Scheme) (q : Asking) (count : ℕ) (registers : List Bits) (nets :
 
       of : (b : Bool) → n + length (cond b [] (e ∷ methods_in es)) ≤ count
           → (n + 1 + length (methods_in es) ≤ count
-          → input_words word (modules.inputs_from (n + 1) (methods_in es)) ≡ clocks.inputs_from S r (n + 1) (map outline es))
+          → input_words word (modules.inputs_from (n + 1) (methods_in es)) ≡ inputs_with_from r xs (n + 1) (map outline es))
           → input_words word (modules.inputs_from n (cond b [] (e ∷ methods_in es)))
-          ≡ cond b [] (given S r n ++ (bit (is_asked r n) ∷ clocks.inputs_from S r (n + 1) (map outline es)))
+          ≡ cond b [] (xs n ++ (bit (is_asked r n) ∷ inputs_with_from r xs (n + 1) (map outline es)))
       of true l rest = refl
       of false l rest =
           words_after word (argument_inputs n 0 e.arguments) (asked_input n e.role) (modules.inputs_from (n + 1) (methods_in es))
@@ -154,15 +154,16 @@ module _ (b : DesignData) (right : ∥ IsDesign b ∥₁) (net : Net) (m : VModu
       (scheduled : IsScheduleOf S made) (net_carries : WordsCarry g S made net)
       (q : Asking) (s : List Part) (ws : List Bits) (fired : List ℕ) (after : List Part) (nets : Nets) (nexts : List Bits) (fit : Fit S q s)
       (have : HaveWidths (cell_widths (cells_of S.kinds)) ws) (shows : Shows S.kinds s ws) (clock : IsClock g S made q s fired after)
-      (steps : VClock m ws (inputs S q (length m.methods)) true nets nexts) where
+      (xs : Arguments) (fits : (n : ℕ) → AreWordsOf (ports_of (slice_get S.elements n)) (xs n))
+      (steps : VClock m ws (inputs_with q xs (length m.methods)) true nets nexts) where
     abbrev p : Asking
     p = asking_values S q
 
     abbrev ins : Inputs
-    ins = inputs S q (length m.methods)
+    ins = inputs_with q xs (length m.methods)
 
     abbrev vs : List Bits
-    vs = inputs_of S p
+    vs = unasked.inputs_with S p xs
 
     elements_are : S.elements ≡ map outline b.elements
     unfolding design_scheme
@@ -177,21 +178,16 @@ module _ (b : DesignData) (right : ∥ IsDesign b ∥₁) (net : Net) (m : VModu
     -- ---- the inputs and the registers of the net
 
     input_words_are : input_words (atom_word ws ins nets) (modules.inputs b) ≡ vs
-    unfolding modules.inputs inputs_of
+    unfolding modules.inputs unasked.inputs_with
     input_words_are =
-        inputs_from_are S q (length m.methods) ws nets 0 b.elements (omega (arith, count))
+        inputs_from_are S q xs (λ n. length-words (ports_of (slice_get S.elements n)) (xs n) (fits n)) (length m.methods) ws nets 0 b.elements (omega (arith, count))
         (λ j e there.
         ap (slice_get S.elements) (omega arith)
         ∙ (ap (λ (os : List Outline). slice_get os j) elements_are ∙ mapped_at outline b.elements j e there))
-        ∙ ap (λ (os : List Outline). clocks.inputs_from S p 0 os) (sym elements_are)
+        ∙ ap (λ (os : List Outline). inputs_with_from p xs 0 os) (sym elements_are)
 
     inputs_fit : HaveWidths net.inputs vs
-    unfolding inputs_of input_widths
-    inputs_fit =
-        subst (λ (us : List ℕ). HaveWidths us vs) (sym net_carries.inputs)
-        (inputs_have S p 0 S.elements (λ j o there.
-        subst (λ n. AreWordsOf o.ports (given S p n)) (omega arith)
-        (subst (λ (x : Option Outline). AreWordsOf (ports_of x) (given S p j)) there (fit_asked.requests j))))
+    inputs_fit = subst (λ (us : List ℕ). HaveWidths us vs) (sym net_carries.inputs) (inputs_of_scheme S p xs fits)
 
     cells_fit : HaveWidths (cell_widths (map cell net.registers)) ws
     cells_fit = subst (λ (cs : List Cell). HaveWidths (cell_widths cs) ws) (sym net_carries.registers) have
@@ -204,14 +200,14 @@ module _ (b : DesignData) (right : ∥ IsDesign b ∥₁) (net : Net) (m : VModu
     abbrev told : Given
     told = gives (net_data net) ws vs
 
-    clock_told : TellsClock g S p s too.others after told
-    clock_told = net_carries.clock p s ws too.others after fit_asked cells_fit shows too.clock
-
     net_told : TellsNet b (net_data net) m vs ws nets
     net_told = computes.tells vs ws ins true nets nexts inputs_fit registers_fit input_words_are steps
 
     nexts_are : nexts ≡ told.nexts
     nexts_are = computes.nexts vs ws ins nets nexts inputs_fit registers_fit input_words_are steps
+
+    nexts_told : Shows S.kinds after told.nexts → Shows S.kinds after nexts
+    nexts_told = subst (λ (us : List Bits). Shows S.kinds after us) (sym nexts_are)
 
     element_of : (n : ℕ) (o : Outline) → slice_get S.elements n ≡ Some o → IsOf outline b.elements n o
     element_of n o there = item_of outline b.elements n o (ap (λ (os : List Outline). slice_get os n) (sym elements_are) ∙ there)
@@ -228,46 +224,74 @@ module _ (b : DesignData) (right : ∥ IsDesign b ∥₁) (net : Net) (m : VModu
     value_same n = ap (value S p n) too.look ∙ value_too S q n (clock_look S q s fired)
 
     fire_told : (n : ℕ) (o : Outline) → slice_get S.elements n ≡ Some o → is_value o.role ≡ false
-        → TellsFire m nets o.name (bit (is_in fired n))
-    fire_told n o there other =
+        → slice_get told.fires n ≡ Some (bit (is_in too.others n)) → TellsFire m nets o.name (bit (is_in fired n))
+    fire_told n o there other tells =
         let e = element_of n o there in
         let fire = net_told.fires n e.item e.is (ap (λ (x : Outline). is_value x.role) e.gives ∙ other) in
         record {
           place = fire.place;
           at = fire.at ∙ ap (λ (x : Outline). Some (fire_wire x.name)) e.gives;
-          word =
-              fire.word
-              ∙ (ap or_zero (clock_told.elements.fires n (slice_get_within S.elements n o there))
-              ∙ ap bit (too.fires n (no_value_method n o there other)));
+          word = fire.word ∙ (ap or_zero tells ∙ ap bit (too.fires n (no_value_method n o there other)));
         }
 
     ready_told : (n : ℕ) (o : Outline) → slice_get S.elements n ≡ Some o → is_rule o.role ≡ false
+        → slice_get told.readies n ≡ Some (bit (ready g S p n (clock_look S p s too.others)))
         → nets (target.Ready n) ≡ bit (ready g S q n (clock_look S q s fired))
-    ready_told n o there other =
+    ready_told n o there other tells =
         let e = element_of n o there in
         net_told.readies n e.item e.is (ap (λ (x : Outline). is_rule x.role) e.gives ∙ other)
-        ∙ (ap or_zero (clock_told.elements.readies n (slice_get_within S.elements n o there)) ∙ ap bit (ready_same n))
+        ∙ (ap or_zero tells ∙ ap bit (ready_same n))
 
-    result_told : (n : ℕ) (o : Outline) (w : Bits) → slice_get S.elements n ≡ Some o → ready g S q n (clock_look S q s fired) ≡ true
-        → value S q n (clock_look S q s fired) ≡ Some w → nets (target.Result n) ≡ w
-    result_told n o w there is_ready is =
+    result_told : (n : ℕ) (o : Outline) (w : Bits) → slice_get S.elements n ≡ Some o
+        → value S q n (clock_look S q s fired) ≡ Some w → slice_get told.results n ≡ Some w → nets (target.Result n) ≡ w
+    result_told n o w there is tells =
         let e = element_of n o there in
         net_told.results n e.item e.is
         (gives_from_word b right q n (clock_look S q s fired) e.item e.is w
         (sym ((alike S (design_scheme b) al).value_same q n (clock_look S q s fired)) ∙ is))
-        ∙ ap or_zero (clock_told.elements.results n w (ready_same n ∙ is_ready) (value_same n ∙ is))
+        ∙ ap or_zero tells
 
-    module_told : TellsModule g S q s fired after m nets nexts
-    module_told = record {
-      fires = fire_told;
-      readies = ready_told;
-      results = λ n o w there other is_ready is. result_told n o w there is_ready is;
-      nexts = subst (λ (us : List Bits). Shows S.kinds after us) (sym nexts_are) clock_told.nexts;
+    -- of all elements, where the net tells of them
+    module_told : TellsClock g S p s too.others after told → TellsModule g S q s fired after m nets nexts
+    module_told tells = record {
+      fires = λ n o there other. fire_told n o there other (tells.elements.fires n (slice_get_within S.elements n o there));
+      readies = λ n o there other. ready_told n o there other (tells.elements.readies n (slice_get_within S.elements n o there));
+      results = λ n o w there other is_ready is.
+          result_told n o w there is (tells.elements.results n w (ready_same n ∙ is_ready) (value_same n ∙ is));
+      nexts = nexts_told tells.nexts;
+    }
+
+    -- and of those alone that are not idle
+    others_told : TellsOthers g S p s too.others after told → TellsOthersByModule g S q s fired after m nets nexts
+    others_told tells = record {
+      fires = λ n o there other. fire_told n o there other (tells.fires n (slice_get_within S.elements n o there));
+      readies = λ n o there other busy.
+          ready_told n o there other (tells.readies n (slice_get_within S.elements n o there) (idle_too S q n ∙ busy));
+      results = λ n o w there other busy is_ready is.
+          result_told n o w there is (tells.results n w (idle_too S q n ∙ busy) (ready_same n ∙ is_ready) (value_same n ∙ is));
+      nexts = nexts_told tells.nexts;
     }
 
   -- what the net carries, the module carries
   pub carries : (aggressive : Bool) (S : Scheme) (made : Schedule) → AreAlike S (design_scheme b) → IsLawful S → IsScheduleOf S made
       → WordsCarry aggressive S made net → ModuleCarries aggressive S made m
-  carries aggressive S made al lawful scheduled net_carries =
+  carries g S made al lawful scheduled net_carries =
       λ q s ws fired after nets nexts fit have shows clock steps.
-      module_told aggressive S made al lawful scheduled net_carries q s ws fired after nets nexts fit have shows clock steps
+      let more = too g S made al lawful scheduled net_carries q s ws fired after nets nexts fit have shows clock (given S q) fit.requests steps in
+      let p = asking_values S q in
+      let inputs_are : inputs_of S p ≡ unasked.inputs_with S p (given S q) =
+      sym (inputs_given S p) ∙ ap (unasked.inputs_with S p) (λ i n. sym (given_too S q n) i) in
+      module_told g S made al lawful scheduled net_carries q s ws fired after nets nexts fit have shows clock (given S q) fit.requests steps
+      (subst (λ (vs : List Bits). TellsClock g S p s more.others after (gives (net_data net) ws vs)) inputs_are
+      (net_carries.clock p s ws more.others after (fit_too S q s fit)
+      (subst (λ (cs : List Cell). HaveWidths (cell_widths cs) ws) (sym net_carries.registers) have) shows more.clock))
+
+  -- and what the net ignores, the module ignores
+  pub ignores : (aggressive : Bool) (S : Scheme) (made : Schedule) → AreAlike S (design_scheme b) → IsLawful S → IsScheduleOf S made
+      → WordsCarry aggressive S made net → WordsIgnore aggressive S made net → ModuleIgnores aggressive S made m
+  ignores g S made al lawful scheduled net_carries net_ignores =
+      λ q s ws fired after nets nexts xs fit stand have shows clock steps.
+      let more = too g S made al lawful scheduled net_carries q s ws fired after nets nexts fit have shows clock xs stand.widths steps in
+      others_told g S made al lawful scheduled net_carries q s ws fired after nets nexts fit have shows clock xs stand.widths steps
+      (net_ignores (asking_values S q) s ws more.others after xs (fit_too S q s fit) (stand_too S q xs stand)
+      (subst (λ (cs : List Cell). HaveWidths (cell_widths cs) ws) (sym net_carries.registers) have) shows more.clock)

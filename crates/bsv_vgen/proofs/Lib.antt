@@ -28,3 +28,4 @@ pub mod Solving
 pub mod NetWords
 pub mod ModuleRuns
 pub mod Promise
+pub mod ResultWidths

@@ -1,14 +1,19 @@
 -- What is promised of the module of a design and of its net.
 use Rattle.std.proofs.Common.{◌≡◌, ◌∙◌, ℕ, ◌<◌, ◌^◌, Bool, true, IsTrue, List, length, map, sym, ap, subst, arith}
 use Rattle.std.specs.Prelude.{nat_lt}
+use Rattle.std.proofs.Math.Bridge.{le_prop}
 use Rattle.std.proofs.Math.Logic.{∥∥₁_elim, ∥∥₁_prop}
+use Rattle.std.proofs.Math.Nat.{ℕ_set}
 use Rattle.std.proofs.lemmas.Bool.{ltb-true}
+use Rattle.bsv_bits.specs.Words.{Bits}
+use Rattle.bsv_prim.specs.Table.{IsWordOf}
 use Rattle.bsv_design.specs.declared.design.Design.{Design}
 use Rattle.bsv_design.specs.declared.kind.Kind.{Kind}
 use Rattle.bsv_design.specs.declared.schedule.Schedule.{Schedule}
 use Rattle.bsv_design.specs.design.Designs.{DesignData, IsDesign}
 use Rattle.bsv_design.specs.scheme.Schemes.{Scheme, AreAlike, Outline, design_scheme, kinds_of, outline}
 use Rattle.bsv_design.specs.scheme.Seen.{design_data}
+use Rattle.bsv_design.specs.scheme.States.{methods_in}
 use Rattle.bsv_clock.specs.Shows as carrying
 use Rattle.bsv_clock.specs.Shows.{cells_of, input_widths, input_widths_of}
 use Rattle.bsv_clock.specs.Grounds.{IsLawful, IsScheduleOf}
@@ -16,7 +21,7 @@ use Rattle.bsv_net.specs.declared.net_data.NetData.{NetData}
 use Rattle.bsv_net.specs.declared.net.Net.{Net}
 use Rattle.bsv_net.specs.AtHand.{net_data}
 use Rattle.bsv_net.specs.Nets.{IsNet}
-use Rattle.bsv_net.specs.ShowsByNet.{WordsCarry}
+use Rattle.bsv_net.specs.ShowsByNet.{WordsCarry, WordsIgnore}
 use Rattle.bsv_vtext.specs.declared.tree.Assign.{Assign}
 use Rattle.bsv_vtext.specs.declared.tree.Atom.{Atom}
 use Rattle.bsv_vtext.specs.declared.tree.VMethod.{VMethod}
@@ -24,15 +29,19 @@ use Rattle.bsv_vtext.specs.declared.tree.VRegister.{VRegister}
 use Rattle.bsv_vtext.specs.declared.tree.VWire.{VWire}
 use Rattle.bsv_vtext.specs.Modules.{IsModule}
 use Rattle.bsv_vtext.specs.Signals.{VModuleData}
-use Rattle.bsv_vgen.specs.ShowsByModule.{ModuleCarries}
-use Rattle.bsv_vgen.specs.Interfaces.{IsModuleOf, cell}
-use Rattle.bsv_vgen.specs.Modules.{module_of}
+use Rattle.bsv_vgen.specs.ShowsByModule.{ModuleCarries, ModuleIgnores}
+use Rattle.bsv_vgen.specs.Interfaces.{HasResultWidths, IsModuleOf, cell}
+use Rattle.bsv_vgen.specs.Modules.{lines, module_of, results_fit}
 use Rattle.bsv_vgen.specs.Resetting.{BeginsOpen, Resets}
 use Rattle.bsv_vgen.specs.Runs.{RunsAs}
-use Rattle.bsv_vgen.proofs.Carried.{carries}
+use Rattle.bsv_vgen.proofs.Carried.{carries, ignores}
 use Rattle.bsv_vgen.proofs.ModuleRuns.{runs_as}
+use Rattle.bsv_vgen.proofs.ResultWidths.{port_width}
 use Rattle.bsv_vgen.proofs.Registers.{begins_open, resets}
 use Rattle.bsv_vgen.proofs.Whole as whole
+
+word_prop : (u : ℕ) (w : Bits) → IsProp (IsWordOf u w)
+word_prop u w = hlevel (le_prop, ℕ_set)
 
 module _ (d : Design) (n : Net) (v : VModuleData) (is : v ≡ module_of (design_data d) (net_data n))
     (registers : map carrying.cell n.registers ≡ cells_of (kinds_of (design_data d))) (inputs : n.inputs ≡ input_widths (design_scheme (design_data d))) where
@@ -70,6 +79,20 @@ module _ (d : Design) (n : Net) (v : VModuleData) (is : v ≡ module_of (design_
       subst (ModuleCarries aggressive S made) same
       (carries b d.right n (whole.m b c registers widths) (whole.computes b c registers widths d.right n.right) (whole.methods_count b c registers widths)
       aggressive S made alike lawful scheduled net_carries)
+
+  pub ignores_too : (aggressive : Bool) (S : Scheme) (made : Schedule) → AreAlike S (design_scheme b) → IsLawful S → IsScheduleOf S made
+      → WordsCarry aggressive S made n → WordsIgnore aggressive S made n → ModuleIgnores aggressive S made v
+  ignores_too aggressive S made alike lawful scheduled net_carries net_ignores =
+      subst (ModuleIgnores aggressive S made) same
+      (ignores b d.right n (whole.m b c registers widths) (whole.computes b c registers widths d.right n.right) (whole.methods_count b c registers widths)
+      aggressive S made alike lawful scheduled net_carries net_ignores)
+
+  pub result_widths : results_fit (lines b c).known c (kinds_of b) 0 (methods_in b.elements) ≡ true → (S : Scheme) → AreAlike S (design_scheme b) → HasResultWidths S v
+  unfolding module_of
+  result_widths fit S alike =
+      subst (HasResultWidths S) (sym is)
+      (λ k m u at_k port q look w requests looks gave.
+      ∥∥₁_elim d.right (word_prop u w) (λ (right : IsDesign b). port_width b right (lines b c).known c fit S alike k m u at_k port q look w requests looks gave))
 
   cells_are : map cell v.registers ≡ cells_of (kinds_of b)
   cells_are = is_its_module.cells

@@ -1,9 +1,13 @@
 -- The module of a design: its name, its ports, its registers and its wires.
 use Rattle.std.specs.Prelude.{◌≡◌, ℕ, false, not, List, ◌++◌, map, slice_get, Some, is_some}
+use Rattle.bsv_bits.specs.Words.{Bits}
+use Rattle.bsv_prim.specs.Table.{IsWordOf}
 use Rattle.bsv_design.specs.declared.design.NamedPart.{NamedPart}
 use Rattle.bsv_design.specs.declared.element.Port.{Port}
 use Rattle.bsv_design.specs.design.Roles.{is_rule, is_value, gives_value}
-use Rattle.bsv_design.specs.scheme.Schemes.{Outline}
+use Rattle.bsv_design.specs.scheme.Schemes.{Scheme, Outline, Asking, Look, value}
+use Rattle.bsv_design.specs.scheme.States.{FitLook}
+use Rattle.bsv_guard.specs.Fitting.{RequestFits}
 use Rattle.bsv_clock.specs.Shows.{Cell, cells_of}
 use Rattle.bsv_vtext.specs.declared.tree.VMethod.{VMethod}
 use Rattle.bsv_vtext.specs.declared.tree.VRegister.{VRegister}
@@ -50,3 +54,10 @@ pub record IsModuleOf (name : List ℕ) (ps : List NamedPart) (os : List Outline
   -- wires with numbers, and those that tell what fires
   pub widths : List ℕ
   pub wires : c.wires ≡ numbered_from 0 widths ++ fire_wires os
+
+-- Each result port is as wide as the words that its method gives, whatever is asked and whatever state the method looks at,
+-- and whether it is ready or not: as wide as the method's type.
+abbrev pub HasResultWidths : Scheme → VModuleData → Type 0
+HasResultWidths S c =
+    (n : ℕ) (m : VMethod) (u : ℕ) → slice_get c.methods n ≡ Some m → m.result ≡ Some u
+    → (q : Asking) (look : Look) (w : Bits) → RequestFits S q n → FitLook S.kinds look → value S q n look ≡ Some w → IsWordOf u w

@@ -1,12 +1,14 @@
 -- The module of a design and of its net: the nodes of the net as lines, and after them what the module tells.
-use Rattle.std.specs.Prelude.{ℕ, ◌+◌, true, cond, not, List, [], ◌∷◌, ◌++◌, map, slice_get, Option, Some, None}
+use Rattle.std.specs.Prelude.{ℕ, ◌+◌, Bool, true, cond, not, ◌&&◌, ◌||◌, List, [], ◌∷◌, ◌++◌, map, slice_get, Option, Some, None}
 use Rattle.bsv_bits.specs.Words.{bit}
 use Rattle.bsv_prim.specs.declared.primitive.RegisterInfo.{RegisterInfo}
 use Rattle.bsv_design.specs.declared.element.Element.{Element}
 use Rattle.bsv_design.specs.declared.element.Port.{Port}
 use Rattle.bsv_design.specs.declared.element.Role.{Role}
+use Rattle.bsv_design.specs.declared.kind.Kind.{Kind}
 use Rattle.bsv_design.specs.design.Designs.{DesignData}
 use Rattle.bsv_design.specs.design.Roles.{is_value, gives_value}
+use Rattle.bsv_design.specs.design.Widths.{has_width, widths_from}
 use Rattle.bsv_design.specs.scheme.States.{methods_in}
 use Rattle.bsv_net.specs.declared.net_data.NetData.{NetData}
 use Rattle.bsv_vtext.specs.declared.tree.Assign.{Assign}
@@ -98,6 +100,22 @@ method_of ks c n e = record {
 abbrev pub methods_from : List Known → NetData → ℕ → List Element → List VMethod
 methods_from ks c n [] = []
 methods_from ks c n (e ∷ es) = method_of ks c n e ∷ methods_from ks c (n + 1) es
+
+-- the width of what an element gives, in its flat body
+abbrev pub width_in : Option (List ℕ) → Option ℕ → Option ℕ
+width_in (Some us) (Some k) = slice_get us k
+width_in _ _ = None
+
+abbrev pub own_width : List Kind → Element → Option ℕ
+own_width ks e = width_in (widths_from e.arguments ks e.calls [] e.nodes) e.result
+
+-- a method that gives a value gives it in this width
+abbrev pub result_fits : List Known → NetData → List Kind → ℕ → Element → Bool
+result_fits known c ks n e = not (gives_value e.role) || has_width (own_width ks e) (result_of known c n).width
+
+unfoldable pub results_fit : List Known → NetData → List Kind → ℕ → List Element → Bool
+results_fit known c ks n [] = true
+results_fit known c ks n (e ∷ es) = result_fits known c ks n e && results_fit known c ks (n + 1) es
 
 abbrev pub register_of : List ℕ → RegisterInfo → VRegister
 register_of name r = record { name = name; start = r.start; resets = r.resets }

@@ -1,14 +1,15 @@
-ghost use Rattle.std.specs.Prelude.{◌≡◌, ◌^◌, nat_lt, Bool, IsTrue, length, map, IfOk};
+ghost use Rattle.std.specs.Prelude.{◌≡◌, ◌^◌, nat_lt, Bool, true, IsTrue, length, map, IfOk};
 ghost use Rattle.bsv_clock.specs.Shows.{cell, cells_of, input_widths};
 ghost use Rattle.bsv_clock.specs.Grounds.{IsLawful, IsScheduleOf};
 ghost use Rattle.bsv_design.specs.scheme.Schemes.{Scheme, AreAlike, design_scheme, kinds_of, outline};
 ghost use Rattle.bsv_design.specs.scheme.Seen.{design_data};
+ghost use Rattle.bsv_design.specs.scheme.States.{methods_in as methods_in_of};
 ghost use Rattle.bsv_design.specs.declared.schedule.Schedule.{Schedule};
-ghost use Rattle.bsv_net.specs.ShowsByNet.{WordsCarry};
+ghost use Rattle.bsv_net.specs.ShowsByNet.{WordsCarry, WordsIgnore};
 ghost use Rattle.bsv_net.specs.AtHand.{net_data};
 ghost use Rattle.bsv_vgen.specs.AtHand as hand;
-ghost use Rattle.bsv_vgen.specs.ShowsByModule.{ModuleCarries};
-ghost use Rattle.bsv_vgen.specs.Interfaces.{IsModuleOf};
+ghost use Rattle.bsv_vgen.specs.ShowsByModule.{ModuleCarries, ModuleIgnores};
+ghost use Rattle.bsv_vgen.specs.Interfaces.{HasResultWidths, IsModuleOf};
 ghost use Rattle.bsv_vgen.specs.Modules as spec;
 ghost use Rattle.bsv_vgen.specs.Resetting.{BeginsOpen, Resets};
 ghost use Rattle.bsv_vgen.specs.Runs.{RunsAs};
@@ -18,6 +19,7 @@ use crate::known::Known;
 use crate::lines::Writing;
 use crate::names::register_names;
 use crate::ports::{inputs, methods_in, methods_of};
+use crate::result_widths::results_fit;
 use crate::told_wires::{add_fires, add_outputs, nexts_of, registers_of};
 use crate::written::Written;
 use bsv_bits::{Name, OutOfMemory};
@@ -79,6 +81,10 @@ pub(crate) struct Parts {
 fn parts_of(alloc: Global, design: &Design, net: &Net) -> Result<Parts, OutOfMemory>
     ensures parts { IfOk result (λ made. hand.parts made
         ≡ spec.module_of (design_data design.now) (net_data net.now)) }
+    ensures results { IfOk result (λ made.
+        spec.results_fit (spec.lines (design_data design.now) (net_data net.now)).known
+        (net_data net.now) (kinds_of (design_data design.now)) 0
+        (methods_in_of design.now.elements) ≡ true) }
     ensures registers { IfOk result (λ made. IsTrue (nat_lt (length made.registers) (2 ^ 32))) }
     ensures wires { IfOk result (λ made. IsTrue (nat_lt (length made.wires) (2 ^ 32))) }
 {
@@ -86,6 +92,10 @@ fn parts_of(alloc: Global, design: &Design, net: &Net) -> Result<Parts, OutOfMem
     let elements = design.elements.as_slice();
     add_fires(alloc, &mut written, known.as_slice(), net, elements)?;
     let own = methods_in(elements);
+    // The net of a design gives what a method gives in the method's own width.
+    if !results_fit(alloc, known.as_slice(), net, design.parts.as_slice(), own)? {
+        return Err(OutOfMemory);
+    }
     add_outputs(&mut written.assigns, known.as_slice(), net, own)?;
     let names = register_names(alloc, design.parts.as_slice())?;
     let registers = registers_of(alloc, names.as_slice(), net.registers.as_slice())?;
@@ -110,11 +120,21 @@ pub fn generate(alloc: Global, design: &Design, net: &Net) -> Result<VModule, Ou
     requires inputs { net.now.inputs ≡ input_widths (design_scheme (design_data design.now)) }
     ensures module { IfOk result (λ made. IsModuleOf design.now.name design.now.parts
         (map outline design.now.elements) (module_data made)) }
+    // A result port is as wide as what its method gives, ready or not.
+    ensures results { IfOk result (λ made. (S : Scheme)
+        → AreAlike S (design_scheme (design_data design.now))
+        → HasResultWidths S (module_data made)) }
     // Where the net carries the design, or a tree from which it was made, so does the module.
     ensures carries { IfOk result (λ made. (aggressive : Bool) (S : Scheme) (made_by : Schedule)
         → AreAlike S (design_scheme (design_data design.now)) → IsLawful S
         → IsScheduleOf S made_by → WordsCarry aggressive S made_by net.now
         → ModuleCarries aggressive S made_by (module_data made)) }
+    // Of methods that act, words at the arguments count only while they are asked.
+    ensures ignores { IfOk result (λ made. (aggressive : Bool) (S : Scheme) (made_by : Schedule)
+        → AreAlike S (design_scheme (design_data design.now)) → IsLawful S
+        → IsScheduleOf S made_by → WordsCarry aggressive S made_by net.now
+        → WordsIgnore aggressive S made_by net.now
+        → ModuleIgnores aggressive S made_by (module_data made)) }
     // And from its initial words on it runs as they do, clock after clock.
     ensures runs { IfOk result (λ made. (aggressive : Bool) (S : Scheme) (made_by : Schedule)
         → AreAlike S (design_scheme (design_data design.now)) → IsLawful S
