@@ -18,9 +18,9 @@ use std::thread::{Builder, Threads};
 const NO_WORDS: u8 = 9;
 
 /// The stack of the top call, in bytes of address space: what is not used takes no memory. Reading
-/// and building go one call deeper for each bracket, each call and each module inside another one,
-/// which may be 64 deep each.
-const STACK: usize = 512 * 1024 * 1024;
+/// and building go deeper for each bracket with its operators, each call and each module inside
+/// another one, which may be 64 deep each: the deepest design that was tried uses 144 MiB.
+const STACK: usize = 256 * 1024 * 1024;
 
 /// The words after the program's name.
 fn words_of(rt: &HostRuntime) -> io::Result<Vec<String>> {
