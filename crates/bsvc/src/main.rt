@@ -9,7 +9,7 @@ ghost use Rattle.std.specs.Prelude.{◌≡◌};
 
 use bsv_io::{DiskFiles, Failed, Sink, StdSink};
 use bsv_top::{Status, run};
-use std::io::{self, Stderr, Stdout};
+use std::io::{self, ErrorKind, Stderr, Stdout};
 use std::process::ExitCode;
 use std::rt::Files;
 use std::thread::{Builder, Threads};
@@ -18,9 +18,9 @@ use std::thread::{Builder, Threads};
 const NO_WORDS: u8 = 9;
 
 /// The stack of the top call, in bytes of address space: what is not used takes no memory. Reading
-/// and building go one call deeper for each bracket, each call and each module inside another one,
-/// which may be 64 deep each.
-const STACK: usize = 512 * 1024 * 1024;
+/// and building go deeper for each bracket with its operators, each call and each module inside
+/// another one, which may be 64 deep each: the deepest design that was tried uses 144 MiB.
+const STACK: usize = 256 * 1024 * 1024;
 
 /// The words after the program's name.
 fn words_of(rt: &HostRuntime) -> io::Result<Vec<String>> {
@@ -62,7 +62,7 @@ fn run_really<R: Files + AllocGlobal + Threads + Sync>(
     run(rt, rt.alloc(), words, &mut files, &mut out, &mut err)
 }
 
-/// Tells that there is no memory for the thread.
+/// Tells that there is no memory for the words or for the thread.
 fn tell_no_memory(rt: HostRuntime) -> Status {
     let mut err = StdSink::new(rt.stderr());
     match err.put(b"out of memory\n") {
@@ -71,9 +71,18 @@ fn tell_no_memory(rt: HostRuntime) -> Status {
     }
 }
 
+/// The exit status where the words could not be had, for this reason.
+fn without_words(rt: HostRuntime, kind: ErrorKind) -> ExitCode {
+    if kind == ErrorKind::OutOfMemory {
+        return ExitCode::from(code(tell_no_memory(rt)));
+    }
+    ExitCode::from(NO_WORDS)
+}
+
 fn main(rt: HostRuntime) -> ExitCode {
-    let Ok(words) = words_of(&rt) else {
-        return ExitCode::from(NO_WORDS);
+    let words = match words_of(&rt) {
+        Ok(words) => words,
+        Err(error) => return without_words(rt, error.kind()),
     };
     let thread = Builder::new().stack_size(STACK).spawn(&rt, move || {
         run_really(&rt, words.as_slice(), rt.stdout(), rt.stderr())
