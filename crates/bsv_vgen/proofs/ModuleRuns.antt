@@ -36,7 +36,7 @@ use Rattle.bsv_vtext.specs.Widths.{atom_width}
 use Rattle.bsv_vgen.specs.ShowsByModule.{ModuleCarries, ModuleIgnores, inputs, inputs_with}
 use Rattle.bsv_vgen.specs.Interfaces.{HasMethod, IsMethodAt, argument_of, cell}
 use Rattle.bsv_vgen.specs.Resetting.{BeginsOpen}
-use Rattle.bsv_vgen.specs.Runs.{AllMayStand, ContinuesWith, ModuleRow, ModuleContinues, RunsAs, RunsUnasked, TellsFrom, TellsOthersFrom}
+use Rattle.bsv_vgen.specs.Runs.{AllMayBeArguments, ContinuesWith, ModuleRow, ModuleContinues, RunsAs, RunsUnasked, TellsFrom, TellsOthersFrom}
 use Rattle.bsv_vgen.proofs.NetWords.{widths_of, nexts_fit}
 use Rattle.bsv_vgen.proofs.Solving.{words, solution, solved}
 
@@ -143,7 +143,7 @@ module _ (S : Scheme) (c : VModuleData)
   abbrev ContinuationWith : List Bits → List Asking → List Arguments → Type 0
   ContinuationWith ws qs more = (rows : List ModuleRow) × ContinuesWith c ws qs more rows
 
-  continues_with : IsModule c → (ws : List Bits) → HaveWidths (widths_of c.registers) ws → (qs : List Asking) (more : List Arguments) → AllMayStand S qs more
+  continues_with : IsModule c → (ws : List Bits) → HaveWidths (widths_of c.registers) ws → (qs : List Asking) (more : List Arguments) → AllMayBeArguments S qs more
       → ContinuationWith ws qs more
   continues_with is ws have [] [] stand = ([], tt)
   continues_with is ws have [] (xs ∷ more) stand = absurd stand
@@ -192,7 +192,7 @@ module _ (S : Scheme) (c : VModuleData)
 
     module _ (ignores : ModuleIgnores aggressive S made c) where
       tells_others : (s : List Part) (ws : List Bits) → FitsKinds S.kinds s → HaveWidths (widths_of c.registers) ws → Shows S.kinds s ws
-          → (qs : List Asking) (more : List Arguments) (rows : List Row) (tolds : List ModuleRow) → AllFit S qs → AllMayStand S qs more
+          → (qs : List Asking) (more : List Arguments) (rows : List Row) (tolds : List ModuleRow) → AllFit S qs → AllMayBeArguments S qs more
           → Continues aggressive S made s qs rows → ContinuesWith c ws qs more tolds → TellsOthersFrom aggressive S c s qs rows tolds
       tells_others s ws fits have shows [] [] [] [] all stand h k = tt
       tells_others s ws fits have shows [] [] [] (told ∷ tolds) all stand h k = absurd k

@@ -7,7 +7,7 @@ use Rattle.bsv_design.specs.declared.schedule.Schedule.{Schedule}
 use Rattle.bsv_design.specs.scheme.Schemes.{Scheme, Asking}
 use Rattle.bsv_design.specs.scheme.States.{opening}
 use Rattle.bsv_clock.specs.Runs.{Row, Runs, AllFit}
-use Rattle.bsv_net.specs.Unasked.{Arguments, MayStand}
+use Rattle.bsv_net.specs.Unasked.{Arguments, MayBeArguments}
 use Rattle.bsv_vtext.specs.Signals.{VModuleData}
 use Rattle.bsv_vtext.specs.VClock.{Nets, VClock, initial}
 use Rattle.bsv_vgen.specs.ShowsByModule.{TellsModule, TellsOthersByModule, inputs, inputs_with}
@@ -49,10 +49,10 @@ pub record RunsAs (aggressive : Bool) (S : Scheme) (made : Schedule) (c : VModul
 -- ---- whatever words are at arguments that are not asked for
 
 -- words that may be at the arguments, clock by clock
-abbrev pub AllMayStand : Scheme → List Asking → List Arguments → Type 0
-AllMayStand S [] [] = Unit {0}
-AllMayStand S (q ∷ qs) (xs ∷ more) = MayStand S q xs × AllMayStand S qs more
-AllMayStand S _ _ = ⊥
+abbrev pub AllMayBeArguments : Scheme → List Asking → List Arguments → Type 0
+AllMayBeArguments S [] [] = Unit {0}
+AllMayBeArguments S (q ∷ qs) (xs ∷ more) = MayBeArguments S q xs × AllMayBeArguments S qs more
+AllMayBeArguments S _ _ = ⊥
 
 -- the clocks after these registers, with these words at the arguments
 abbrev pub ContinuesWith : VModuleData → List Bits → List Asking → List Arguments → List ModuleRow → Type 0
@@ -76,7 +76,7 @@ TellsOthersFrom aggressive S c s _ _ _ = ⊥
 
 -- the module runs so, too, and tells the same run of the scheme
 pub record RunsUnasked (aggressive : Bool) (S : Scheme) (made : Schedule) (c : VModuleData) : Type 0 where
-  pub some : (qs : List Asking) (more : List Arguments) → AllFit S qs → AllMayStand S qs more → ∥ HasRunWith c qs more ∥₁
+  pub some : (qs : List Asking) (more : List Arguments) → AllFit S qs → AllMayBeArguments S qs more → ∥ HasRunWith c qs more ∥₁
   pub told : (qs : List Asking) (more : List Arguments) (rows : List Row) (tolds : List ModuleRow) → AllFit S qs
-      → AllMayStand S qs more → Runs aggressive S made qs rows → ContinuesWith c (initial c) qs more tolds
+      → AllMayBeArguments S qs more → Runs aggressive S made qs rows → ContinuesWith c (initial c) qs more tolds
       → TellsOthersFrom aggressive S c (opening S.kinds) qs rows tolds
