@@ -42,9 +42,9 @@ use Rattle.bsv_net.specs.declared.node.NetNode.TheVariants as net_node
 use Rattle.bsv_net.specs.declared.node.Site.{Site as NetSite}
 use Rattle.bsv_net.specs.Nets.{IsNet, register_widths, words}
 use Rattle.bsv_net.specs.Placing.{node_at, or_first}
-use Rattle.bsv_net.specs.Unasked.{Arguments, MayStand, inputs_with, with_arguments}
+use Rattle.bsv_net.specs.Unasked.{Arguments, MayBeArguments, inputs_with, with_arguments}
 use Rattle.bsv_net.proofs.Grows.{Grows, kept}
-use Rattle.bsv_net.proofs.Standing.{clock_with, each_gets, fit_with, lawful_with, schedule_with}
+use Rattle.bsv_net.proofs.WithArguments.{clock_with, each_gets, fit_with, lawful_with, schedule_with}
 use Rattle.bsv_net.proofs.Solution.{satisfies, same_length}
 use Rattle.bsv_ports.specs.CallSites.{or_none}
 use Rattle.bsv_fire.specs.Bodies.{site, sites}
@@ -226,7 +226,7 @@ module _ (d : Design) (needs : List (List Need)) (made : Schedule) (rules : Keep
       (q : Asking) (s : List Part) (ws : List Bits) (fit : Fit (with_arguments T xs) q s)
       (have : HaveWidths (cell_widths (cells_of (kinds_of b))) ws) → Shows T.kinds s ws
       → Tells (scene b right needs made xs stands (lawful_too xs stands) (scheduled_too xs stands) are c is in_order q s ws fit have) (net b needs made) made.urgency) where
-    clock_told : (q : Asking) (s : List Part) (ws : List Bits) (fired : List ℕ) (after : List Part) (xs : Arguments) → Fit T q s → MayStand T q xs
+    clock_told : (q : Asking) (s : List Part) (ws : List Bits) (fired : List ℕ) (after : List Part) (xs : Arguments) → Fit T q s → MayBeArguments T q xs
         → HaveWidths (cell_widths (cells_of T.kinds)) ws → Shows T.kinds s ws → IsClock false T made q s fired after
         → TellsFiring false (with_arguments T xs) q s fired c (words c.nodes (inputs_with T q xs) ws)
     unfolding design_scheme inputs_with

@@ -16,7 +16,7 @@ use Rattle.bsv_clock.specs.Looks.{clock_look}
 use Rattle.bsv_net.specs.declared.net_data.NetData.{NetData}
 use Rattle.bsv_net.specs.declared.node.Site.{Site as NetSite}
 use Rattle.bsv_net.specs.Nets.{words}
-use Rattle.bsv_net.specs.Unasked.{Arguments, MayStand, inputs_with, with_arguments}
+use Rattle.bsv_net.specs.Unasked.{Arguments, MayBeArguments, inputs_with, with_arguments}
 use Rattle.bsv_net.specs.ShowsByNet.{NamesNoResult, gives, given_at}
 use Rattle.bsv_ports.specs.CallSites.{or_none}
 use Rattle.bsv_ports.specs.Ports.{arity_of}
@@ -56,7 +56,7 @@ pub record Fires (aggressive : Bool) (S : Scheme) (made : Schedule) (c : NetData
   -- the net tells each clock, of elements with the arguments that they have, whatever words are at those of methods that act
   -- and are not asked
   pub clock : (q : Asking) (s : List Part) (ws : List Bits) (fired : List ℕ) (after : List Part) (xs : Arguments) → Fit S q s
-      → MayStand S q xs → HaveWidths (cell_widths (cells_of S.kinds)) ws → Shows S.kinds s ws
+      → MayBeArguments S q xs → HaveWidths (cell_widths (cells_of S.kinds)) ws → Shows S.kinds s ws
       → IsClock aggressive S made q s fired after
       → TellsFiring aggressive (with_arguments S xs) q s fired c (words c.nodes (inputs_with S q xs) ws)
   -- every register keeps its word

@@ -15,14 +15,14 @@ use Rattle.bsv_clock.specs.Shows.{cell, cells_of}
 use Rattle.bsv_clock.specs.Grounds.{IsLawful, IsScheduleOf, KeepsRules}
 use Rattle.bsv_clock.proofs.Belonging as belonging
 use Rattle.bsv_net.specs.declared.net.Net.{Net}
-use Rattle.bsv_net.specs.ShowsByNet.{NetCarries, WordsCarry}
+use Rattle.bsv_net.specs.ShowsByNet.{NetCarries, WordsCarry, WordsIgnore}
 use Rattle.bsv_net.proofs.Hardware.{net_carried_to}
 use Rattle.bsv_vtext.specs.declared.modules.VModule.{VModule}
 use Rattle.bsv_vtext.specs.AtHand.{module_data}
-use Rattle.bsv_vgen.specs.ShowsByModule.{ModuleCarries}
-use Rattle.bsv_vgen.specs.Interfaces.{IsModuleOf}
+use Rattle.bsv_vgen.specs.ShowsByModule.{ModuleCarries, ModuleIgnores}
+use Rattle.bsv_vgen.specs.Interfaces.{HasResultWidths, IsModuleOf}
 use Rattle.bsv_vgen.specs.Resetting.{BeginsOpen, Resets}
-use Rattle.bsv_vgen.specs.Runs.{RunsAs}
+use Rattle.bsv_vgen.specs.Runs.{RunsAs, RunsUnasked}
 use Rattle.bsv_flow.specs.Schedulings.{IsVerilogOf}
 
 -- a net that carries a design has its registers and its inputs
@@ -60,19 +60,27 @@ module _ (h : TreeData) (d : Design) (made : Schedule) (n : Net) (v : VModule) (
 
   pub verilog_there : top_name h ≡ Some d.name → d.parts ≡ parts_among h.instances → KeepsRules T → IsScheduleOf T made → NetCarries false T made n
       → IsModuleOf d.name d.parts (map outline d.elements) (module_data v)
+      → ((S : Scheme) → AreAlike S T → HasResultWidths S (module_data v))
       → ((aggressive : Bool) (S : Scheme) (made_by : Schedule) → AreAlike S T → IsLawful S → IsScheduleOf S made_by → WordsCarry aggressive S made_by n
       → ModuleCarries aggressive S made_by (module_data v))
       → ((aggressive : Bool) (S : Scheme) (made_by : Schedule) → AreAlike S T → IsLawful S → IsScheduleOf S made_by → WordsCarry aggressive S made_by n
+      → WordsIgnore aggressive S made_by n → ModuleIgnores aggressive S made_by (module_data v))
+      → ((aggressive : Bool) (S : Scheme) (made_by : Schedule) → AreAlike S T → IsLawful S → IsScheduleOf S made_by → WordsCarry aggressive S made_by n
       → RunsAs aggressive S made_by (module_data v))
+      → ((aggressive : Bool) (S : Scheme) (made_by : Schedule) → AreAlike S T → IsLawful S → IsScheduleOf S made_by → WordsCarry aggressive S made_by n
+      → WordsIgnore aggressive S made_by n → RunsUnasked aggressive S made_by (module_data v))
       → BeginsOpen (kinds_of (design_data d)) (module_data v) → Resets (kinds_of (design_data d)) (module_data v) → IsVerilogOf h made (module_data v)
-  verilog_there name parts rules there net is carries runs begins resets = record {
+  verilog_there name parts rules there net is results carries ignores runs unasked begins resets = record {
     right = v.right;
     name = d.name;
     top = name;
     is = subst (λ (ps : List NamedPart). IsModuleOf d.name ps S.elements (module_data v)) parts
         (subst (λ (os : List Outline). IsModuleOf d.name d.parts os (module_data v)) elements_same is);
+    results = results S alike;
     carries = carries false S made alike (lawful rules) (scheduled there) (net_carries net).words;
+    ignores = ignores false S made alike (lawful rules) (scheduled there) (net_carries net).words (net_carries net).unasked;
     runs = runs false S made alike (lawful rules) (scheduled there) (net_carries net).words;
+    unasked = unasked false S made alike (lawful rules) (scheduled there) (net_carries net).words (net_carries net).unasked;
     begins = subst (λ (ks : List Kind). BeginsOpen ks (module_data v)) kinds_same begins;
     resets = subst (λ (ks : List Kind). Resets ks (module_data v)) kinds_same resets;
   }

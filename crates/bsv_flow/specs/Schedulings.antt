@@ -36,10 +36,10 @@ use Rattle.bsv_net.specs.ShowsByNet.{NetCarries}
 use Rattle.bsv_vtext.specs.AtHand.{module_data}
 use Rattle.bsv_vtext.specs.Modules.{IsModule}
 use Rattle.bsv_vtext.specs.Signals.{VModuleData}
-use Rattle.bsv_vgen.specs.ShowsByModule.{ModuleCarries}
-use Rattle.bsv_vgen.specs.Interfaces.{IsModuleOf}
+use Rattle.bsv_vgen.specs.ShowsByModule.{ModuleCarries, ModuleIgnores}
+use Rattle.bsv_vgen.specs.Interfaces.{HasResultWidths, IsModuleOf}
 use Rattle.bsv_vgen.specs.Resetting.{BeginsOpen, Resets}
-use Rattle.bsv_vgen.specs.Runs.{RunsAs}
+use Rattle.bsv_vgen.specs.Runs.{RunsAs, RunsUnasked}
 use Rattle.bsv_flow.specs.declared.refusal.Refusal.{Refusal}
 use Rattle.bsv_flow.specs.declared.refusal.Refusal.TheVariants as refusal
 use Rattle.bsv_flow.specs.declared.scheduling.Compiled.{Compiled}
@@ -168,14 +168,19 @@ pub data Unscheduled (h : TreeData) (r : Refusal) : Type 0 where
 -- ---- what was compiled
 
 -- the module carries the tree: its name, ports, registers and wires are those of the tree, from its initial words on it runs as the
--- tree does, and a reset shows the parts before the first clock again but for registers without a start
+-- tree does, whatever words are at arguments that are not asked for, and a reset shows the parts before the first clock again
+-- but for registers without a start
 pub record IsVerilogOf (h : TreeData) (made : Schedule) (v : VModuleData) : Type 0 where
   pub right : ∥ IsModule v ∥₁
   pub name : List ℕ
   pub top : top_name h ≡ Some name
   pub is : IsModuleOf name (parts_among h.instances) (tree_scheme h).elements v
+  -- a result port is as wide as what its method gives, ready or not
+  pub results : HasResultWidths (tree_scheme h) v
   pub carries : ModuleCarries false (tree_scheme h) made v
+  pub ignores : ModuleIgnores false (tree_scheme h) made v
   pub runs : RunsAs false (tree_scheme h) made v
+  pub unasked : RunsUnasked false (tree_scheme h) made v
   pub begins : BeginsOpen (tree_scheme h).kinds v
   pub resets : Resets (tree_scheme h).kinds v
 

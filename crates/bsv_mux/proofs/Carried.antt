@@ -51,12 +51,12 @@ use Rattle.bsv_ports.specs.CallSites.{or_none, all_call_sites}
 use Rattle.bsv_ports.specs.Ports.{arity_of}
 use Rattle.bsv_fire.specs.Firing as firing
 use Rattle.bsv_fire.specs.Firing.{Fires}
-use Rattle.bsv_net.specs.Unasked.{Arguments, IgnoresUnasked, MayStand, inputs_with, with_arguments}
+use Rattle.bsv_net.specs.Unasked.{Arguments, IgnoresUnasked, MayBeArguments, inputs_with, with_arguments}
 use Rattle.bsv_net.specs.ShowsByNet.{NamesNoResult, NetCarries, gives, given_at}
 use Rattle.bsv_ports.specs.Starts.{register_starts}
 use Rattle.bsv_ports.proofs.FirstNodes.{part_shown, register_start, registers_before, word_after}
 use Rattle.bsv_net.proofs.WidthsFit.{cells_have, inputs_given, inputs_of_scheme}
-use Rattle.bsv_net.proofs.Standing.{all_told as all_given_told, clock_with, each_gets, fit_with, given_may_stand, lawful_with, others_told, schedule_with}
+use Rattle.bsv_net.proofs.WithArguments.{all_told as all_given_told, clock_with, each_gets, fit_with, given_may_be, lawful_with, others_told, schedule_with}
 use Rattle.bsv_fire.proofs.Firings.{node_there}
 use Rattle.bsv_ports.proofs.Scene.{Scene, does, looks, TellsFiring, TellsSite}
 use Rattle.bsv_fire.proofs.GroundTold.{registers_within}
@@ -340,7 +340,7 @@ module _ (d : Design) (made : Schedule) (rules : KeepsRules (design_scheme (desi
   U = design_scheme (design_data d)
 
   -- each clock of elements with the arguments that they have
-  clock_of : (q : Asking) (s : List Part) (ws : List Bits) (fired : List ℕ) (after : List Part) (xs : Arguments) → Fit U q s → MayStand U q xs
+  clock_of : (q : Asking) (s : List Part) (ws : List Bits) (fired : List ℕ) (after : List Part) (xs : Arguments) → Fit U q s → MayBeArguments U q xs
       → HaveWidths (cell_widths (cells_of U.kinds)) ws → Shows U.kinds s ws → IsClock false U made q s fired after
       → TellsClock false (with_arguments U xs) q s fired after (gives e ws (inputs_with U q xs))
   unfolding design_scheme inputs_with
@@ -360,7 +360,7 @@ module _ (d : Design) (made : Schedule) (rules : KeepsRules (design_scheme (desi
       → HaveWidths (cell_widths (cells_of U.kinds)) ws → Shows U.kinds s ws → IsClock false U made q s fired after
       → TellsClock false U q s fired after (gives e ws (inputs_of U q))
   clock_given q s ws fired after fit have shows clock =
-      let stand = given_may_stand U q fit.requests in
+      let stand = given_may_be U q fit.requests in
       subst (λ (vs : List Bits). TellsClock false U q s fired after (gives e ws vs)) (inputs_given U q)
       (all_given_told U q (given U q) stand false made s fired after clock (λ n. refl) (gives e ws (inputs_with U q (given U q)))
       (clock_of q s ws fired after (given U q) fit stand have shows clock))

@@ -16,7 +16,7 @@ use Rattle.bsv_clock.proofs.HappenAlike.{clock_to, look_same, ready_same}
 use Rattle.bsv_net.specs.declared.net.Net.{Net}
 use Rattle.bsv_net.specs.AtHand.{net_data}
 use Rattle.bsv_net.specs.ShowsByNet.{NetCarries, gives}
-use Rattle.bsv_net.specs.Unasked.{Arguments, IgnoresUnasked, MayStand, TellsOthers, inputs_with, inputs_with_from, is_idle, is_idle_as}
+use Rattle.bsv_net.specs.Unasked.{Arguments, IgnoresUnasked, MayBeArguments, TellsOthers, inputs_with, inputs_with_from, is_idle, is_idle_as}
 
 module _ (g : Bool) (S T : Scheme) (made : Schedule) (al : AreAlike S T) where
   back : AreAlike T S
@@ -26,7 +26,7 @@ module _ (g : Bool) (S T : Scheme) (made : Schedule) (al : AreAlike S T) where
   unfolding is_idle
   idle_same q n = ap (λ (os : List Outline). is_idle_as q n (slice_get os n)) al.elements
 
-  stand_back : (q : Asking) (xs : Arguments) → MayStand T q xs → MayStand S q xs
+  stand_back : (q : Asking) (xs : Arguments) → MayBeArguments T q xs → MayBeArguments S q xs
   stand_back q xs stand = record {
     widths = λ n. subst (λ (os : List Outline). AreWordsOf (ports_of (slice_get os n)) (xs n)) (sym al.elements) (stand.widths n);
     others = λ n h. stand.others n (sym (idle_same q n) ∙ h) ∙ sym ((alike S T al).given_same q n);

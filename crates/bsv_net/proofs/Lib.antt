@@ -4,7 +4,7 @@ pub mod Evaluating
 pub mod Grows
 pub mod PieceMeans
 pub mod Gates
-pub mod Standing
+pub mod WithArguments
 pub mod Hardware
 pub mod Numbers
 pub mod ShownRegisters

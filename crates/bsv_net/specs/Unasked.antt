@@ -29,7 +29,7 @@ unfoldable pub is_idle : Scheme → Asking → ℕ → Bool
 is_idle S q n = is_idle_as q n (slice_get S.elements n)
 
 -- words of the widths of the arguments: what is given, but any words where a method that acts is not asked
-pub record MayStand (S : Scheme) (q : Asking) (xs : Arguments) : Type 0 where
+pub record MayBeArguments (S : Scheme) (q : Asking) (xs : Arguments) : Type 0 where
   pub widths : (n : ℕ) → AreWordsOf (ports_of (slice_get S.elements n)) (xs n)
   pub others : (n : ℕ) → is_idle S q n ≡ false → xs n ≡ given S q n
 
@@ -70,6 +70,6 @@ pub record TellsOthers (aggressive : Bool) (S : Scheme) (q : Asking) (s : List P
 -- fire, the registers after it, and what is ready and given of all others.
 abbrev pub IgnoresUnasked : Bool → Scheme → Schedule → List Cell → (List Bits → List Bits → Given) → Type 0
 IgnoresUnasked aggressive S made cells gives =
-    (q : Asking) (s : List Part) (ws : List Bits) (fired : List ℕ) (after : List Part) (xs : Arguments) → Fit S q s → MayStand S q xs
+    (q : Asking) (s : List Part) (ws : List Bits) (fired : List ℕ) (after : List Part) (xs : Arguments) → Fit S q s → MayBeArguments S q xs
     → HaveWidths (cell_widths cells) ws → Shows S.kinds s ws → IsClock aggressive S made q s fired after
     → TellsOthers aggressive S q s fired after (gives ws (inputs_with S q xs))

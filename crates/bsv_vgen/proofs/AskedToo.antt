@@ -24,7 +24,7 @@ use Rattle.bsv_clock.proofs.Asked.{happen_alike}
 use Rattle.bsv_clock.proofs.Clocks.{clock_run, one_after, one_fired, some_clock}
 use Rattle.bsv_clock.proofs.Members.{found, in_kept, is_found, kept_in, not_found}
 use Rattle.bsv_clock.proofs.Steadily.{steady_scheme}
-use Rattle.bsv_net.specs.Unasked.{Arguments, MayStand, is_idle, is_idle_as}
+use Rattle.bsv_net.specs.Unasked.{Arguments, MayBeArguments, is_idle, is_idle_as}
 use Rattle.bsv_net.proofs.Numbers.{number_at}
 use Rattle.bsv_clock.proofs.Quiet.{value_role}
 
@@ -122,7 +122,7 @@ module _ (S : Scheme) (q : Asking) where
   idle_too n = idle_as n (slice_get S.elements n) refl
 
   -- and the same words may be at the arguments
-  pub stand_too : (xs : Arguments) → MayStand S q xs → MayStand S r xs
+  pub stand_too : (xs : Arguments) → MayBeArguments S q xs → MayBeArguments S r xs
   stand_too xs stand = record {
     widths = stand.widths;
     others = λ n busy. stand.others n (sym (idle_too n) ∙ busy) ∙ given_too n;

@@ -23,6 +23,7 @@ use Rattle.bsv_clock.specs.Runs.{Row, AllFit, Continues}
 use Rattle.bsv_clock.proofs.InTurn.{run_fits}
 use Rattle.bsv_clock.proofs.OneRun.{opening_fits}
 use Rattle.bsv_clock.proofs.Steadily.{emptied_fits}
+use Rattle.bsv_net.specs.Unasked.{Arguments}
 use Rattle.bsv_net.proofs.Numbers.{number_at}
 use Rattle.bsv_vtext.specs.declared.tree.Atom.TheVariants as atom
 use Rattle.bsv_vtext.specs.declared.tree.VMethod.{VMethod}
@@ -32,10 +33,10 @@ use Rattle.bsv_vtext.specs.Modules.{IsModule, IsRegister}
 use Rattle.bsv_vtext.specs.Signals.{VModuleData, arguments_of}
 use Rattle.bsv_vtext.specs.VClock.{Inputs, Nets, VClock, initial, word_at}
 use Rattle.bsv_vtext.specs.Widths.{atom_width}
-use Rattle.bsv_vgen.specs.ShowsByModule.{ModuleCarries, inputs}
+use Rattle.bsv_vgen.specs.ShowsByModule.{ModuleCarries, ModuleIgnores, inputs, inputs_with}
 use Rattle.bsv_vgen.specs.Interfaces.{HasMethod, IsMethodAt, argument_of, cell}
 use Rattle.bsv_vgen.specs.Resetting.{BeginsOpen}
-use Rattle.bsv_vgen.specs.Runs.{ModuleRow, ModuleContinues, TellsFrom, RunsAs}
+use Rattle.bsv_vgen.specs.Runs.{AllMayBeArguments, ContinuesWith, ModuleRow, ModuleContinues, RunsAs, RunsUnasked, TellsFrom, TellsOthersFrom}
 use Rattle.bsv_vgen.proofs.NetWords.{widths_of, nexts_fit}
 use Rattle.bsv_vgen.proofs.Solving.{words, solution, solved}
 
@@ -85,35 +86,45 @@ made_fits ps ws h k u e = of (slice_get ps k) refl (sym (ap (option_map (λ (a :
 module _ (S : Scheme) (c : VModuleData)
     (methods : (n : ℕ) (o : Outline) → slice_get S.elements n ≡ Some o → is_rule o.role ≡ false → HasMethod c n o)
     (no_more : (n : ℕ) (m : VMethod) → slice_get c.methods n ≡ Some m → IsMethodAt S.elements n) where
+  abbrev AreFit : Arguments → Type 0
+  AreFit xs = (n : ℕ) → AreWordsOf (ports_of (slice_get S.elements n)) (xs n)
+
+  abbrev ins_with : Asking → Arguments → Inputs
+  ins_with q xs = inputs_with q xs (length c.methods)
+
   abbrev ins_of : Asking → Inputs
   ins_of q = inputs S q (length c.methods)
 
-  arguments_fit : (q : Asking) → ((n : ℕ) → RequestFits S q n) → (m k u : ℕ) → atom_width c (atom.Argument m k) ≡ Some u
-      → IsWordOf u (word_at (unwrap_or (slice_get (ins_of q).arguments m) []) k)
-  arguments_fit q fits m k u e = of (slice_get c.methods m) refl e
+  arguments_fit : (q : Asking) (xs : Arguments) → AreFit xs → (m k u : ℕ) → atom_width c (atom.Argument m k) ≡ Some u
+      → IsWordOf u (word_at (unwrap_or (slice_get (ins_with q xs).arguments m) []) k)
+  arguments_fit q xs fits m k u e = of (slice_get c.methods m) refl e
     where
       of : (o : Option VMethod) → slice_get c.methods m ≡ o → option_map (λ (a : VWire). a.width) (slice_get (arguments_of o) k) ≡ Some u
-          → IsWordOf u (word_at (unwrap_or (slice_get (ins_of q).arguments m) []) k)
+          → IsWordOf u (word_at (unwrap_or (slice_get (ins_with q xs).arguments m) []) k)
       of None there e = absurd (let n : ⊥ = cc in n)
       of (Some v) there e =
           let at = no_more m v there in
           let own = methods m at.outline at.at at.method in
           let args : v.args ≡ map argument_of at.outline.ports =
           ap (λ (x : VMethod). x.args) (same_Some v own.method (sym there ∙ own.at)) ∙ own.is.arguments in
-          let words : AreWordsOf at.outline.ports (given S q m) =
-          subst (λ (o : Option Outline). AreWordsOf (ports_of o) (given S q m)) at.at (fits m) in
-          let asked : slice_get (ins_of q).arguments m ≡ Some (given S q m) =
-          mapped_at (given S q) (numbers_below (length c.methods)) m m (number_at (length c.methods) m (slice_get_within c.methods m v there)) in
+          let words : AreWordsOf at.outline.ports (xs m) =
+          subst (λ (o : Option Outline). AreWordsOf (ports_of o) (xs m)) at.at (fits m) in
+          let asked : slice_get (ins_with q xs).arguments m ≡ Some (xs m) =
+          mapped_at xs (numbers_below (length c.methods)) m m (number_at (length c.methods) m (slice_get_within c.methods m v there)) in
           subst (λ (o : Option (List Bits)). IsWordOf u (word_at (unwrap_or o []) k)) (sym asked)
-          (made_fits at.outline.ports (given S q m) words k u
+          (made_fits at.outline.ports (xs m) words k u
           (sym (ap (λ (vs : List VWire). option_map (λ (a : VWire). a.width) (slice_get vs k)) args) ∙ e))
 
   -- the registers after a clock have words of their widths
+  next_with : IsModule c → (q : Asking) (xs : Arguments) → AreFit xs → (ws : List Bits) → HaveWidths (widths_of c.registers) ws
+      → (nets : Nets) (nexts : List Bits) → VClock c ws (ins_with q xs) true nets nexts → HaveWidths (widths_of c.registers) nexts
+  next_with is q xs fits ws have nets nexts clock =
+      subst (HaveWidths (widths_of c.registers)) (sym clock.edge)
+      (nexts_fit c is ws (ins_with q xs) (register_fits c.registers ws have) (arguments_fit q xs fits) nets clock.assigned)
+
   next_fits : IsModule c → (q : Asking) → ((n : ℕ) → RequestFits S q n) → (ws : List Bits) → HaveWidths (widths_of c.registers) ws
       → (nets : Nets) (nexts : List Bits) → VClock c ws (ins_of q) true nets nexts → HaveWidths (widths_of c.registers) nexts
-  next_fits is q fits ws have nets nexts clock =
-      subst (HaveWidths (widths_of c.registers)) (sym clock.edge)
-      (nexts_fit c is ws (ins_of q) (register_fits c.registers ws have) (arguments_fit q fits) nets clock.assigned)
+  next_fits is q fits = next_with is q (given S q) fits
 
   -- ---- there are clocks
 
@@ -127,6 +138,21 @@ module _ (S : Scheme) (c : VModuleData)
       let nexts : List Bits = map (words c ws (ins_of q) nets) c.nexts in
       let clock : VClock c ws (ins_of q) true nets nexts = record { assigned = solved c ws (ins_of q) is; edge = refl } in
       let rest = continues is nexts (next_fits is q all.0 ws have nets nexts clock) qs all.1 in
+      (record { nets = nets; nexts = nexts } ∷ rest.0, (clock, rest.1))
+
+  abbrev ContinuationWith : List Bits → List Asking → List Arguments → Type 0
+  ContinuationWith ws qs more = (rows : List ModuleRow) × ContinuesWith c ws qs more rows
+
+  continues_with : IsModule c → (ws : List Bits) → HaveWidths (widths_of c.registers) ws → (qs : List Asking) (more : List Arguments) → AllMayBeArguments S qs more
+      → ContinuationWith ws qs more
+  continues_with is ws have [] [] stand = ([], tt)
+  continues_with is ws have [] (xs ∷ more) stand = absurd stand
+  continues_with is ws have (q ∷ qs) [] stand = absurd stand
+  continues_with is ws have (q ∷ qs) (xs ∷ more) stand =
+      let nets : Nets = solution c ws (ins_with q xs) in
+      let nexts : List Bits = map (words c ws (ins_with q xs) nets) c.nexts in
+      let clock : VClock c ws (ins_with q xs) true nets nexts = record { assigned = solved c ws (ins_with q xs) is; edge = refl } in
+      let rest = continues_with is nexts (next_with is q xs stand.0.widths ws have nets nexts clock) qs more stand.1 in
       (record { nets = nets; nexts = nexts } ∷ rest.0, (clock, rest.1))
 
   -- ---- and each tells what happens
@@ -163,3 +189,31 @@ module _ (S : Scheme) (c : VModuleData)
       told = λ qs rows tolds all h k.
           tells (opening S.kinds) (initial c) (opening_fits S.kinds) begins_fit begins qs rows tolds all h k;
     }
+
+    module _ (ignores : ModuleIgnores aggressive S made c) where
+      tells_others : (s : List Part) (ws : List Bits) → FitsKinds S.kinds s → HaveWidths (widths_of c.registers) ws → Shows S.kinds s ws
+          → (qs : List Asking) (more : List Arguments) (rows : List Row) (tolds : List ModuleRow) → AllFit S qs → AllMayBeArguments S qs more
+          → Continues aggressive S made s qs rows → ContinuesWith c ws qs more tolds → TellsOthersFrom aggressive S c s qs rows tolds
+      tells_others s ws fits have shows [] [] [] [] all stand h k = tt
+      tells_others s ws fits have shows [] [] [] (told ∷ tolds) all stand h k = absurd k
+      tells_others s ws fits have shows [] [] (row ∷ rows) tolds all stand h k = absurd h
+      tells_others s ws fits have shows [] (xs ∷ more) rows tolds all stand h k = absurd stand
+      tells_others s ws fits have shows (q ∷ qs) [] rows tolds all stand h k = absurd stand
+      tells_others s ws fits have shows (q ∷ qs) (xs ∷ more) [] tolds all stand h k = absurd h
+      tells_others s ws fits have shows (q ∷ qs) (xs ∷ more) (row ∷ rows) [] all stand h k = absurd k
+      tells_others s ws fits have shows (q ∷ qs) (xs ∷ more) (row ∷ rows) (told ∷ tolds) all stand h k =
+          let now =
+          ignores q s ws row.fired.list.items row.after told.nets told.nexts xs (record { requests = all.0; parts = fits }) stand.0 (as_cells ws have) shows h.0.clock k.0 in
+          let still : FitsKinds S.kinds row.after = run_fits S lawful aggressive q all.0 (emptied_fits S.kinds s fits) h.0.clock.serial in
+          let have_still : HaveWidths (widths_of c.registers) told.nexts =
+          ∥∥₁_elim right (widths_prop (widths_of c.registers) told.nexts)
+          (λ (is : IsModule c). next_with is q xs stand.0.widths ws have told.nets told.nexts k.0) in
+          (now, tells_others row.after told.nexts still have_still now.nexts qs more rows tolds all.1 stand.1 h.1 k.1)
+
+      pub runs_unasked : RunsUnasked aggressive S made c
+      runs_unasked = record {
+        some = λ qs more all stand. ∥∥₁_elim right ∥∥₁_prop (λ (is : IsModule c).
+            let found = continues_with is (initial c) begins_fit qs more stand in ∣ record { rows = found.0; runs = found.1 } ∣₁);
+        told = λ qs more rows tolds all stand h k.
+            tells_others (opening S.kinds) (initial c) (opening_fits S.kinds) begins_fit begins qs more rows tolds all stand h k;
+      }

@@ -33,9 +33,9 @@ use Rattle.bsv_vgen.specs.ShowsByModule.{ModuleCarries, ModuleIgnores}
 use Rattle.bsv_vgen.specs.Interfaces.{HasResultWidths, IsModuleOf, cell}
 use Rattle.bsv_vgen.specs.Modules.{lines, module_of, results_fit}
 use Rattle.bsv_vgen.specs.Resetting.{BeginsOpen, Resets}
-use Rattle.bsv_vgen.specs.Runs.{RunsAs}
+use Rattle.bsv_vgen.specs.Runs.{RunsAs, RunsUnasked}
 use Rattle.bsv_vgen.proofs.Carried.{carries, ignores}
-use Rattle.bsv_vgen.proofs.ModuleRuns.{runs_as}
+use Rattle.bsv_vgen.proofs.ModuleRuns.{runs_as, runs_unasked}
 use Rattle.bsv_vgen.proofs.ResultWidths.{port_width}
 use Rattle.bsv_vgen.proofs.Registers.{begins_open, resets}
 use Rattle.bsv_vgen.proofs.Whole as whole
@@ -118,6 +118,15 @@ module _ (d : Design) (n : Net) (v : VModuleData) (is : v ≡ module_of (design_
       runs_as S v own.methods own.no_more aggressive made lawful right (cells_are ∙ ap cells_of (sym (kinds_are S alike)))
       (carries_too aggressive S made alike lawful scheduled net_carries)
       (subst (λ (ks : List Kind). BeginsOpen ks v) (sym (kinds_are S alike)) begins)
+
+  pub unasked_too : ∥ IsModule v ∥₁ → (aggressive : Bool) (S : Scheme) (made : Schedule) → AreAlike S (design_scheme b) → IsLawful S → IsScheduleOf S made
+      → WordsCarry aggressive S made n → WordsIgnore aggressive S made n → RunsUnasked aggressive S made v
+  unasked_too right aggressive S made alike lawful scheduled net_carries net_ignores =
+      let own : IsModuleOf d.name d.parts S.elements v = subst (λ (os : List Outline). IsModuleOf d.name d.parts os v) (sym (elements_are S alike)) is_its_module in
+      runs_unasked S v own.methods own.no_more aggressive made lawful right (cells_are ∙ ap cells_of (sym (kinds_are S alike)))
+      (carries_too aggressive S made alike lawful scheduled net_carries)
+      (subst (λ (ks : List Kind). BeginsOpen ks v) (sym (kinds_are S alike)) begins)
+      (ignores_too aggressive S made alike lawful scheduled net_carries net_ignores)
 
 -- modules of the same parts
 abbrev of_parts : List ℕ → List VMethod → List VRegister → List VWire → List Assign → List Atom → VModuleData

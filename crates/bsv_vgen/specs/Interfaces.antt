@@ -56,7 +56,7 @@ pub record IsModuleOf (name : List ℕ) (ps : List NamedPart) (os : List Outline
   pub wires : c.wires ≡ numbered_from 0 widths ++ fire_wires os
 
 -- Each result port is as wide as the words that its method gives, whatever is asked and whatever state the method looks at,
--- and whether it is ready or not: as wide as the method's type.
+-- and whether it is ready or not.
 abbrev pub HasResultWidths : Scheme → VModuleData → Type 0
 HasResultWidths S c =
     (n : ℕ) (m : VMethod) (u : ℕ) → slice_get c.methods n ≡ Some m → m.result ≡ Some u

@@ -13,7 +13,7 @@ use Rattle.bsv_clock.specs.Shows.{Shows, cell_widths, cells_of}
 use Rattle.bsv_clock.specs.Clocks.{IsClock, is_in, is_asked}
 use Rattle.bsv_clock.specs.Grounds.{Fit}
 use Rattle.bsv_clock.specs.Looks.{clock_look}
-use Rattle.bsv_net.specs.Unasked.{Arguments, MayStand, is_idle}
+use Rattle.bsv_net.specs.Unasked.{Arguments, MayBeArguments, is_idle}
 use Rattle.bsv_vtext.specs.declared.tree.Target.TheVariants as target
 use Rattle.bsv_vtext.specs.Signals.{VModuleData}
 use Rattle.bsv_vtext.specs.VClock.{Inputs, Nets, VClock}
@@ -63,7 +63,7 @@ pub record TellsOthersByModule (aggressive : Bool) (S : Scheme) (q : Asking) (s 
 abbrev pub ModuleIgnores : Bool → Scheme → Schedule → VModuleData → Type 0
 ModuleIgnores aggressive S made c =
     (q : Asking) (s : List Part) (ws : List Bits) (fired : List ℕ) (after : List Part) (nets : Nets) (nexts : List Bits) (xs : Arguments)
-    → Fit S q s → MayStand S q xs
+    → Fit S q s → MayBeArguments S q xs
     → HaveWidths (cell_widths (cells_of S.kinds)) ws → Shows S.kinds s ws → IsClock aggressive S made q s fired after
     → VClock c ws (inputs_with q xs (length c.methods)) true nets nexts
     → TellsOthersByModule aggressive S q s fired after c nets nexts

@@ -12,7 +12,7 @@ ghost use Rattle.bsv_vgen.specs.ShowsByModule.{ModuleCarries, ModuleIgnores};
 ghost use Rattle.bsv_vgen.specs.Interfaces.{HasResultWidths, IsModuleOf};
 ghost use Rattle.bsv_vgen.specs.Modules as spec;
 ghost use Rattle.bsv_vgen.specs.Resetting.{BeginsOpen, Resets};
-ghost use Rattle.bsv_vgen.specs.Runs.{RunsAs};
+ghost use Rattle.bsv_vgen.specs.Runs.{RunsAs, RunsUnasked};
 ghost use Rattle.bsv_vtext.specs.AtHand.{module_data};
 
 use crate::known::Known;
@@ -140,6 +140,12 @@ pub fn generate(alloc: Global, design: &Design, net: &Net) -> Result<VModule, Ou
         → AreAlike S (design_scheme (design_data design.now)) → IsLawful S
         → IsScheduleOf S made_by → WordsCarry aggressive S made_by net.now
         → RunsAs aggressive S made_by (module_data made)) }
+    // So it does whatever words are at arguments that are not asked for.
+    ensures unasked { IfOk result (λ made. (aggressive : Bool) (S : Scheme) (made_by : Schedule)
+        → AreAlike S (design_scheme (design_data design.now)) → IsLawful S
+        → IsScheduleOf S made_by → WordsCarry aggressive S made_by net.now
+        → WordsIgnore aggressive S made_by net.now
+        → RunsUnasked aggressive S made_by (module_data made)) }
     ensures begins { IfOk result (λ made.
         BeginsOpen (kinds_of (design_data design.now)) (module_data made)) }
     ensures resets { IfOk result (λ made.

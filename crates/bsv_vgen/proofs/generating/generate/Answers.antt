@@ -4,7 +4,7 @@ use Rattle.bsv_net.specs.AtHand.{net_data}
 use Rattle.bsv_vtext.specs.AtHand.{module_data}
 use Rattle.bsv_vgen.specs.AtHand as hand
 use Rattle.bsv_vgen.specs.Modules.{module_of}
-use Rattle.bsv_vgen.proofs.Promise.{is_module, is_its_module, carries_too, ignores_too, result_widths, runs_too, begins, resets_too}
+use Rattle.bsv_vgen.proofs.Promise.{is_module, is_its_module, carries_too, ignores_too, result_widths, runs_too, unasked_too, begins, resets_too}
 use Rattle.bsv_vgen.proofs.generating.generate.Goals as goal
 use Rattle.bsv_vtext.proofs.OneText.{same_contents}
 
@@ -47,6 +47,13 @@ returns-clause-runs c =
     same_contents (module_data c.new.result) (hand.parts c.in_ok-name.field-0) c.new.ensures.name c.new.ensures.methods c.new.ensures.registers c.new.ensures.wires c.new.ensures.assigns c.new.ensures.nexts
     ∙ c.in_ok-name.ensures.parts in
     runs_too c.args.design.now c.args.net.now (module_data c.new.result) is c.requires.registers c.requires.inputs c.new.result.right
+
+pub returns-clause-unasked : goal.returns-clause-unasked
+returns-clause-unasked c =
+    let is : module_data c.new.result ≡ module_of (design_data c.args.design.now) (net_data c.args.net.now) =
+    same_contents (module_data c.new.result) (hand.parts c.in_ok-name.field-0) c.new.ensures.name c.new.ensures.methods c.new.ensures.registers c.new.ensures.wires c.new.ensures.assigns c.new.ensures.nexts
+    ∙ c.in_ok-name.ensures.parts in
+    unasked_too c.args.design.now c.args.net.now (module_data c.new.result) is c.requires.registers c.requires.inputs c.new.result.right
 
 pub returns-clause-begins : goal.returns-clause-begins
 returns-clause-begins c =

@@ -22,7 +22,7 @@ use Rattle.bsv_clock.specs.Shows.{Given, TellsClock}
 use Rattle.bsv_clock.specs.Clocks.{IsClock, is_asked, is_candidate, may_fire, may_fire_as}
 use Rattle.bsv_clock.specs.Grounds.{Fit, IsLawful, IsScheduleOf, KeepsRules}
 use Rattle.bsv_clock.specs.Looks.{calls_in_turn, clock_look, look_after}
-use Rattle.bsv_net.specs.Unasked.{Arguments, MayStand, TellsOthers, is_idle, is_idle_as, with_arguments}
+use Rattle.bsv_net.specs.Unasked.{Arguments, MayBeArguments, TellsOthers, is_idle, is_idle_as, with_arguments}
 
 -- ---- what is asked of a scheme
 
@@ -85,10 +85,6 @@ module _ (S : Scheme) (xs : Arguments) (fit : (n : ℕ) → AreWordsOf (ports_of
     fitting = fitting_with lawful.fitting;
     rules = rules_with lawful.sound lawful.rules;
   }
-
-  pub relating_with : relating S ≡ relating W
-  unfolding relating goes feeds
-  relating_with = refl
 
   pub schedule_with : (made : Schedule) → IsScheduleOf S made → IsScheduleOf W made
   unfolding relating goes feeds
@@ -204,7 +200,7 @@ pub not_idle : (S : Scheme) (q : Asking) (n : ℕ) → may_fire S q n ≡ true �
 unfolding may_fire is_idle
 not_idle S q n h = busy q n (slice_get S.elements n) h
 
-module _ (S : Scheme) (q : Asking) (xs : Arguments) (stand : MayStand S q xs) where
+module _ (S : Scheme) (q : Asking) (xs : Arguments) (stand : MayBeArguments S q xs) where
   pub each_gets : (n : ℕ) → may_fire S q n ≡ true → Gets S q xs n
   each_gets n h = stand.others n (not_idle S q n h)
 
@@ -239,5 +235,5 @@ module _ (S : Scheme) (q : Asking) (xs : Arguments) (stand : MayStand S q xs) wh
     }
 
 -- what is given is among the words that may be there
-pub given_may_stand : (S : Scheme) (q : Asking) → ((n : ℕ) → AreWordsOf (ports_of (slice_get S.elements n)) (given S q n)) → MayStand S q (given S q)
-given_may_stand S q fit = record { widths = fit; others = λ n h. refl }
+pub given_may_be : (S : Scheme) (q : Asking) → ((n : ℕ) → AreWordsOf (ports_of (slice_get S.elements n)) (given S q n)) → MayBeArguments S q (given S q)
+given_may_be S q fit = record { widths = fit; others = λ n h. refl }
