@@ -10,7 +10,7 @@ mod running;
 mod telling;
 
 use crate::comparing::agrees;
-use crate::running::{answer_to, is_sure};
+use crate::running::{answer_to, is_alike, is_sure};
 use crate::telling::tell;
 use anyhow::{Result, bail};
 use bsv_case_files::{Case, Unread, cases_of};
@@ -67,6 +67,11 @@ fn run_case<R: Files + AllocGlobal + Print + Threads + Sync>(
     if answer.status == Status::Done && !is_sure(rt, case, &answer)? {
         let line = case.line;
         println!(rt; "{file}:{line}: over files and sinks that never fail the answer is another")?;
+        return Ok(Count::DIFFERS);
+    }
+    if !is_alike(rt, case, &answer)? {
+        let line = case.line;
+        println!(rt; "{file}:{line}: another command answers to the source in another way")?;
         return Ok(Count::DIFFERS);
     }
     Ok(Count::AGREES)

@@ -7,6 +7,9 @@ use std::fs;
 use std::rt::Files;
 use std::thread::Threads;
 
+/// The room of a fault text, in bytes.
+const TEXT_ROOM: usize = 100_000;
+
 /// What the program answered.
 #[derive(Drop)]
 pub(crate) struct Answer {
@@ -67,4 +70,37 @@ pub(crate) fn is_sure<R: Files + AllocGlobal + Threads + Sync>(
             && out.taken() == answer.out.bytes().len() as u64
             && err.taken() == answer.err.bytes().len() as u64,
     )
+}
+
+/// Whether another command answers to the source of a run as the run did: `schedule` is refused by the same line where
+/// the run was refused, and `verilog` is done where it was done or met a bad line of its trace.
+pub(crate) fn is_alike<R: Files + AllocGlobal + Threads + Sync>(
+    rt: &R,
+    case: &Case,
+    answer: &Answer,
+) -> Result<bool> {
+    let alloc = rt.alloc();
+    let [_, file, top, _] = case.words.as_slice() else {
+        return Ok(true);
+    };
+    let command = if answer.status == Status::Refused {
+        "schedule"
+    } else {
+        "verilog"
+    };
+    let mut words = Vec::new(alloc);
+    for word in [command, file.as_str(), top.as_str()] {
+        words.push(String::from_str(alloc, word)?)?;
+    }
+    let mut files = SureFiles::new(files_of(rt, case)?);
+    let mut out = SureSink::new();
+    let mut err = MemSink::new(alloc, TEXT_ROOM, Vec::new(alloc))?;
+    let status = run(rt, alloc, words.as_slice(), &mut files, &mut out, &mut err);
+    Ok(match answer.status {
+        Status::Refused => {
+            status == Status::Refused && out.taken() == 0 && err.bytes() == answer.err.bytes()
+        }
+        Status::Done | Status::TraceFault => status == Status::Done && out.taken() > 0,
+        _ => true,
+    })
 }
