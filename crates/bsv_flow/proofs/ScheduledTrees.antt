@@ -41,7 +41,7 @@ use Rattle.bsv_schedule.specs.declared.urgency_order.fault.UrgencyFault.{Urgency
 use Rattle.bsv_schedule.specs.declared.urgency_order.fault.UrgencyFault.TheVariants as urgency
 use Rattle.bsv_attr.specs.Asserting.{IsAccepted, NamesImplicit, NamesStopper}
 use Rattle.bsv_attr.specs.Implicit.{demands_of}
-use Rattle.bsv_clock.specs.Obeying.{Obeys}
+use Rattle.bsv_attr.specs.Obeying.{Obeys}
 use Rattle.bsv_attr.proofs.Alike as marks
 use Rattle.bsv_attr.proofs.Attributes.{obeys}
 use Rattle.bsv_schedule.proofs.OrderLaws.{ordering_before, urging_stands}
@@ -315,7 +315,7 @@ module _ (h : TreeData) (d : Design) (alike : AreAlike (tree_scheme h) (design_s
       let listed = subst (λ (xs : List ℕ). AreStops R xs made.urgency made.stops) (sym e)
       (subst (λ (xs : List ℕ). AreStops R execution xs made.stops) (sym u) stops) in
       marks.obeys_alike S T made alike
-      (obeys ordering_before urging_stands (design_data d) made (agrees_design d) least.order urged.order listed accepted)
+      (obeys ordering_before urging_stands d made least.order urged.order listed accepted)
 
 -- ---- the net
 
