@@ -317,6 +317,19 @@ module _ (h : TreeData) (d : Design) (alike : AreAlike (tree_scheme h) (design_s
       marks.obeys_alike S T made alike
       (obeys ordering_before urging_stands d made least.order urged.order listed accepted)
 
+-- what is scheduled obeys its attributes
+pub obeys_scheduled : (h : TreeData) (d : Design) → AreAlike (tree_scheme h) (design_scheme (design_data d)) → (made : Schedule)
+    → IsScheduled (subject h) made → Obeys (tree_scheme h) made
+obeys_scheduled h d alike made is =
+    let S = tree_scheme h in
+    let T = design_scheme (design_data d) in
+    let e : relating S ≡ relating T = related_alike S T alike in
+    let x = subst (λ (r : Relating). Executes r made.execution) e is.ordered.executes in
+    let u = subst (λ (r : Relating). Urges r made.urgency) e is.ordered.urges in
+    let are = subst (λ (r : Relating). AreStops r made.execution made.urgency made.stops) e is.ordered.stops in
+    marks.obeys_alike S T made alike
+    (obeys ordering_before urging_stands d made x.order u.order are ((marks.accepted_alike S T made alike).0 is.accepted))
+
 -- ---- the net
 
 -- what a net is made from belongs together
