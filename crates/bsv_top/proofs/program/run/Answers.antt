@@ -7,8 +7,9 @@ use Rattle.bsv_top.specs.declared.stop.Stop.TheVariants as stop
 use Rattle.bsv_top.specs.Answers as a
 use Rattle.bsv_top.specs.Answers.{no_memory_line, usage_line}
 use Rattle.bsv_top.specs.Outcomes as o
-use Rattle.bsv_top.specs.Outcomes.{Answered, IsDecided, IsDoneBy, IsUnread, OutputStarted}
+use Rattle.bsv_top.specs.Outcomes.{Accepts, Answered, IsDecided, IsDoneBy, IsUnread, OutputStarted}
 use Rattle.bsv_top.specs.Stops.{IsStopOf}
+use Rattle.bsv_top.proofs.Headlined.{accepted_headline, accepted_stop, accepts_no_fault, accepts_no_usage}
 use Rattle.bsv_top.proofs.OneAnswer as one
 use Rattle.bsv_top.proofs.Told.{decided_tells, done_answered, has_form, one_status, only_bad, only_memory, stop_answered, stop_complete, stop_text, stop_unreadable, unread_faults}
 use Rattle.bsv_top.proofs.program.run.Goals as goal
@@ -34,7 +35,16 @@ returns-in_default-clause-complete g c = λ contents told no_read no_write no_te
     inl
     (said.0 ∙ (one.one_answer (map string_bytes c.args.words.now) contents status.Usage other [] output usage_line text (a.Answer.usage c.in_default.ensures.none) answer).status_is)
 
+pub returns-in_default-clause-headline : goal.returns-in_default-clause-headline
+returns-in_default-clause-headline g c = λ contents told is.
+    absurd (accepts_no_usage c.tell_usage.result is (c.tell_usage.ensures.told (accepts_no_fault c.tell_usage.result is)).0)
+
 -- ---- what is done
+
+pub returns-in-Ok-clause-headline : goal.returns-in-Ok-clause-headline
+returns-in-Ok-clause-headline g c = λ contents told is.
+    let done = subst (λ (words : List (List ℕ)). IsDoneBy words contents (g.O.Sink.writing c.args.out.now) (g.O.Sink.writing c.answer.new.out)) (sym c.in-Some.ensures.form) (c.in-Ok.ensures.done contents told) in
+    accepted_headline (map string_bytes c.args.words.now) contents done.accepted
 
 pub returns-in-Ok-clause-no_form : goal.returns-in-Ok-clause-no_form
 returns-in-Ok-clause-no_form g c = λ none. absurd (has_form (map string_bytes c.args.words.now) c.in-Some.form c.in-Some.ensures.form none)
@@ -73,6 +83,14 @@ returns-in-Ok-clause-complete g c = λ contents told no_read no_write no_tell ot
     (done_answered (map string_bytes c.args.words.now) contents (g.O.Sink.writing c.args.out.now) (g.O.Sink.writing c.answer.new.out) (g.E.Sink.writing c.args.err.now) (g.E.Sink.writing c.args.err.now) done refl) answer)
 
 -- ---- what is not
+
+pub returns-in-Err-clause-headline : goal.returns-in-Err-clause-headline
+returns-in-Err-clause-headline g c = λ contents told is.
+    let said = c.tell_stop.ensures.told (accepts_no_fault c.tell_stop.result is) in
+    accepted_headline (map string_bytes c.args.words.now) contents
+    (accepted_stop (map string_bytes c.args.words.now) contents (g.O.Sink.writing c.args.out.now) (g.O.Sink.writing c.answer.new.out) c.in-Err.stop
+    (subst (λ (words : List (List ℕ)). IsStopOf words contents (g.O.Sink.writing c.args.out.now) (g.O.Sink.writing c.answer.new.out) c.in-Err.stop) (sym c.in-Some.ensures.form) (c.in-Err.ensures.stopped c.in-Err.stop refl contents told))
+    (subst Accepts said.0 is))
 
 pub returns-in-Err-clause-no_form : goal.returns-in-Err-clause-no_form
 returns-in-Err-clause-no_form g c = λ none. absurd (has_form (map string_bytes c.args.words.now) c.in-Some.form c.in-Some.ensures.form none)
