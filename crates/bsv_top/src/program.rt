@@ -106,8 +106,13 @@ pub fn run<R: Threads + Sync, F: Files, O: Sink, E: Sink>(
         (F.reading files.old) (F.reading files.new) (O.writing out.old) (O.writing out.new)
         (E.writing err.old) (E.writing err.new) }
     ensures write_fault { result ≡ Status.WriteFault
-        → MayFault (O.writing out.old).faults (O.writing out.new).faults
+        → (MayFault (O.writing out.old).faults (O.writing out.new).faults
+        × (E.writing err.new ≡ E.writing err.old))
         ⊎ MayFault (E.writing err.old).faults (E.writing err.new).faults }
+
+    // Where a put of the output failed, nothing is put as a fault text.
+    ensures quiet { (O.writing out.old).faults < (O.writing out.new).faults
+        → E.writing err.new ≡ E.writing err.old }
 
     // Where a count of faults rose, the status is that of a fault.
     ensures files_rose { (F.reading files.old).faults < (F.reading files.new).faults

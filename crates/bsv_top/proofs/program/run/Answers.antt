@@ -1,4 +1,5 @@
-use Rattle.std.proofs.Common.{◌≡◌, ◌∙◌, ◌⊎◌, inl, ⊎_elim, ℕ, List, [], Err, map, string_bytes, refl, sym, ap, subst}
+use Rattle.std.proofs.Common.{◌≡◌, ◌∙◌, ◌⊎◌, inl, inr, ⊎_elim, ℕ, List, [], Err, map, string_bytes, refl, sym, ap, subst, arith}
+use Rattle.bsv_lemmas.proofs.Choices.{same_err}
 use Rattle.bsv_io.proofs.Appended.{appended-nil, nothing_put}
 use Rattle.bsv_io.proofs.NoFaults.{NoFault-MayFault}
 use Rattle.bsv_top.specs.declared.status.Status.{Status as TheStatus}
@@ -11,7 +12,7 @@ use Rattle.bsv_top.specs.Outcomes.{Accepts, Answered, IsDecided, IsDoneBy, IsUnr
 use Rattle.bsv_top.specs.Stops.{IsStopOf}
 use Rattle.bsv_top.proofs.Headlined.{accepted_headline, accepted_stop, accepts_no_fault, accepts_no_usage}
 use Rattle.bsv_top.proofs.OneAnswer as one
-use Rattle.bsv_top.proofs.Told.{decided_tells, done_answered, has_form, one_status, only_bad, only_memory, stop_answered, stop_complete, stop_text, stop_unreadable, unread_faults}
+use Rattle.bsv_top.proofs.Told.{decided_tells, done_answered, has_form, one_status, only_bad, only_memory, stop_answered, stop_complete, stop_text, stop_unreadable, unread_faults, unwritable_or}
 use Rattle.bsv_top.proofs.program.run.Goals as goal
 
 -- ---- words without a form
@@ -141,6 +142,20 @@ returns-in-Err-clause-read_fault g c = λ is.
     (λ name e.
     subst (λ (words : List (List ℕ)). IsUnread words name (g.F.Files.reading c.args.files.now) (g.F.Files.reading c.answer.new.files) (g.O.Sink.writing c.args.out.now) (g.O.Sink.writing c.answer.new.out)) (sym c.in-Some.ensures.form)
     (c.in-Err.ensures.unread name (ap Err e))) said.1
+
+pub returns-in-Err-clause-write_fault : goal.returns-in-Err-clause-write_fault
+returns-in-Err-clause-write_fault g c = λ is.
+    elim (c.tell_stop.ensures.failed is) [
+      | inl e ↦ inl (c.in-Err.ensures.unwritable (ap Err e), c.tell_stop.ensures.quiet e)
+      | inr may ↦ inr may
+    ]
+
+pub returns-in-Err-clause-quiet : goal.returns-in-Err-clause-quiet
+returns-in-Err-clause-quiet g c = λ rose.
+    elim (unwritable_or c.in-Err.stop) [
+      | inl e ↦ c.tell_stop.ensures.quiet e
+      | inr n ↦ (let same = c.in-Err.ensures.out_kept (λ h. n (same_err c.in-Err.stop stop.Unwritable h)) in absurd (omega (arith, rose, same)))
+    ]
 
 pub returns-in-Err-clause-complete : goal.returns-in-Err-clause-complete
 returns-in-Err-clause-complete g c = λ contents told no_read no_write no_tell other output text answer.
