@@ -17,7 +17,7 @@ use Rattle.bsv_tree.specs.declared.values.Fault.{Fault}
 use Rattle.bsv_tree.specs.declared.values.Local.{Local}
 use Rattle.bsv_tree.specs.tree.Contexts.{Context}
 use Rattle.bsv_tree.specs.carrying.Calls.{Caller, static_fault, placed, placed_at, set_place}
-use Rattle.bsv_tree.specs.carrying.Carrying.{Carried, Placing, expression, place, expr_step, place_step, index_of}
+use Rattle.bsv_tree.specs.carrying.Carrying.{Carried, Placing, expression, place, expr_step, place_step, index_of, after_arm}
 use Rattle.bsv_tree.specs.carrying.Working.{no_steps}
 use Rattle.bsv_tree.specs.tree.Trees.{world, Stands, Fits, AllFit}
 use Rattle.bsv_elab.specs.Statics.{binding}
@@ -119,7 +119,7 @@ module _ (t : Typed) (call : Caller) (site : Context) (f : Frame) (fits : AllFit
       let v = went ((expression call site x).carry vs (no_steps c)) _ r e in
       let at = went (index_of call site v.0.0) _ r v.2 in
       let n = went (placed_at (static_fault site) (slice_get site.bindings level) at.0) _ r at.2 in
-      subst (λ (q : ℕ × Count). Stands t site.instances k q.0) (same_ok (n.0, v.0.1.count) r n.2)
+      subst (λ (q : ℕ × Count). Stands t site.instances k q.0) (same_ok (n.0, after_arm c v.0.1.count) r n.2)
       (each_stands level at.0 k n.0 (after_index level (typed.typing (world t) x f) f k is_typed) n.1)
 
   pub place_stands : (p : Place) (vs : List Local) (c : Count) (k : Sort) (r : ℕ × Count) → place_typing (world t) p f ≡ Some k → place call site p vs c ≡ Ok r → Stands t site.instances k r.0
