@@ -14,6 +14,7 @@ pub mod Yielded
 pub mod Flattened
 pub mod FirstBreaches
 pub mod OneSchedule
+pub mod WellClocked
 pub mod ScheduledTrees
 pub mod Planned
 pub mod VerilogOfTree

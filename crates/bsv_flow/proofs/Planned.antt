@@ -6,7 +6,7 @@ use Rattle.bsv_check.specs.Rightness.{is_in_order}
 use Rattle.bsv_design.specs.declared.schedule.Schedule.{Schedule}
 use Rattle.bsv_tree.specs.meaning.Schemes.{tree_scheme}
 use Rattle.bsv_tree.specs.tree.Trees.{TreeData}
-use Rattle.bsv_clock.specs.Obeying.{Obeys}
+use Rattle.bsv_attr.specs.Obeying.{Obeys}
 use Rattle.bsv_flow.specs.declared.loading.Loaded.{Loaded}
 use Rattle.bsv_flow.specs.declared.refusal.CompileFault.{CompileFault}
 use Rattle.bsv_flow.specs.declared.refusal.Refusal.{Refusal}

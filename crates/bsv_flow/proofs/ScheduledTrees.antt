@@ -41,7 +41,7 @@ use Rattle.bsv_schedule.specs.declared.urgency_order.fault.UrgencyFault.{Urgency
 use Rattle.bsv_schedule.specs.declared.urgency_order.fault.UrgencyFault.TheVariants as urgency
 use Rattle.bsv_attr.specs.Asserting.{IsAccepted, NamesImplicit, NamesStopper}
 use Rattle.bsv_attr.specs.Implicit.{demands_of}
-use Rattle.bsv_clock.specs.Obeying.{Obeys}
+use Rattle.bsv_attr.specs.Obeying.{Obeys}
 use Rattle.bsv_attr.proofs.Alike as marks
 use Rattle.bsv_attr.proofs.Attributes.{obeys}
 use Rattle.bsv_schedule.proofs.OrderLaws.{ordering_before, urging_stands}
@@ -315,7 +315,20 @@ module _ (h : TreeData) (d : Design) (alike : AreAlike (tree_scheme h) (design_s
       let listed = subst (λ (xs : List ℕ). AreStops R xs made.urgency made.stops) (sym e)
       (subst (λ (xs : List ℕ). AreStops R execution xs made.stops) (sym u) stops) in
       marks.obeys_alike S T made alike
-      (obeys ordering_before urging_stands (design_data d) made (agrees_design d) least.order urged.order listed accepted)
+      (obeys ordering_before urging_stands d made least.order urged.order listed accepted)
+
+-- what is scheduled obeys its attributes
+pub obeys_scheduled : (h : TreeData) (d : Design) → AreAlike (tree_scheme h) (design_scheme (design_data d)) → (made : Schedule)
+    → IsScheduled (subject h) made → Obeys (tree_scheme h) made
+obeys_scheduled h d alike made is =
+    let S = tree_scheme h in
+    let T = design_scheme (design_data d) in
+    let e : relating S ≡ relating T = related_alike S T alike in
+    let x = subst (λ (r : Relating). Executes r made.execution) e is.ordered.executes in
+    let u = subst (λ (r : Relating). Urges r made.urgency) e is.ordered.urges in
+    let are = subst (λ (r : Relating). AreStops r made.execution made.urgency made.stops) e is.ordered.stops in
+    marks.obeys_alike S T made alike
+    (obeys ordering_before urging_stands d made x.order u.order are ((marks.accepted_alike S T made alike).0 is.accepted))
 
 -- ---- the net
 

@@ -11,6 +11,7 @@ use Rattle.bsv_tree.specs.tree.Elements.{parts_among}
 use Rattle.bsv_tree.specs.tree.Trees.{TreeData}
 use Rattle.bsv_guard.proofs.Alike.{alike_back}
 use Rattle.bsv_inline.specs.Flattening.{top_name}
+use Rattle.bsv_attr.specs.Obeying.{Obeys}
 use Rattle.bsv_clock.specs.Shows.{cell, cells_of}
 use Rattle.bsv_clock.specs.Grounds.{IsLawful, IsScheduleOf, KeepsRules}
 use Rattle.bsv_clock.proofs.Belonging as belonging
@@ -24,6 +25,7 @@ use Rattle.bsv_vgen.specs.Interfaces.{HasResultWidths, IsModuleOf}
 use Rattle.bsv_vgen.specs.Resetting.{BeginsOpen, Resets}
 use Rattle.bsv_vgen.specs.Runs.{RunsAs, RunsUnasked}
 use Rattle.bsv_flow.specs.Schedulings.{IsVerilogOf}
+use Rattle.bsv_flow.proofs.WellClocked.{well_clocked}
 
 -- a net that carries a design has its registers and its inputs
 pub registers_there : (d : Design) (made : Schedule) (n : Net) → NetCarries false (design_scheme (design_data d)) made n
@@ -58,7 +60,7 @@ module _ (h : TreeData) (d : Design) (made : Schedule) (n : Net) (v : VModule) (
   net_carries : NetCarries false T made n → NetCarries false S made n
   net_carries net = net_carried_to false S T made n alike net
 
-  pub verilog_there : top_name h ≡ Some d.name → d.parts ≡ parts_among h.instances → KeepsRules T → IsScheduleOf T made → NetCarries false T made n
+  pub verilog_there : top_name h ≡ Some d.name → d.parts ≡ parts_among h.instances → KeepsRules T → IsScheduleOf T made → Obeys S made → NetCarries false T made n
       → IsModuleOf d.name d.parts (map outline d.elements) (module_data v)
       → ((S : Scheme) → AreAlike S T → HasResultWidths S (module_data v))
       → ((aggressive : Bool) (S : Scheme) (made_by : Schedule) → AreAlike S T → IsLawful S → IsScheduleOf S made_by → WordsCarry aggressive S made_by n
@@ -70,13 +72,14 @@ module _ (h : TreeData) (d : Design) (made : Schedule) (n : Net) (v : VModule) (
       → ((aggressive : Bool) (S : Scheme) (made_by : Schedule) → AreAlike S T → IsLawful S → IsScheduleOf S made_by → WordsCarry aggressive S made_by n
       → WordsIgnore aggressive S made_by n → RunsUnasked aggressive S made_by (module_data v))
       → BeginsOpen (kinds_of (design_data d)) (module_data v) → Resets (kinds_of (design_data d)) (module_data v) → IsVerilogOf h made (module_data v)
-  verilog_there name parts rules there net is results carries ignores runs unasked begins resets = record {
+  verilog_there name parts rules there obeys net is results carries ignores runs unasked begins resets = record {
     right = v.right;
     name = d.name;
     top = name;
     is = subst (λ (ps : List NamedPart). IsModuleOf d.name ps S.elements (module_data v)) parts
         (subst (λ (os : List Outline). IsModuleOf d.name d.parts os (module_data v)) elements_same is);
     results = results S alike;
+    clocked = well_clocked S made (lawful rules) (scheduled there) obeys;
     carries = carries false S made alike (lawful rules) (scheduled there) (net_carries net).words;
     ignores = ignores false S made alike (lawful rules) (scheduled there) (net_carries net).words (net_carries net).unasked;
     runs = runs false S made alike (lawful rules) (scheduled there) (net_carries net).words;

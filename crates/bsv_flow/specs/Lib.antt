@@ -9,6 +9,7 @@ pub mod Refusals
 pub mod Sources
 pub mod Typings
 pub mod Yields
+pub mod Clocked
 pub mod Schedulings
 pub mod Compilings
 pub mod Running

@@ -44,6 +44,7 @@ use Rattle.bsv_flow.specs.declared.refusal.Refusal.{Refusal}
 use Rattle.bsv_flow.specs.declared.refusal.Refusal.TheVariants as refusal
 use Rattle.bsv_flow.specs.declared.scheduling.Compiled.{Compiled}
 use Rattle.bsv_flow.specs.Attributes.{attribute_word}
+use Rattle.bsv_flow.specs.Clocked.{IsWellClocked}
 use Rattle.bsv_flow.specs.Breaches.{element_name, part_path, method_name, or_no_name, TellsBreach}
 
 -- what is scheduled: a scheme, whose parts have these paths
@@ -167,14 +168,15 @@ pub data Unscheduled (h : TreeData) (r : Refusal) : Type 0 where
 
 -- ---- what was compiled
 
--- the module carries the tree: its name, ports, registers and wires are those of the tree, from its initial words on it runs as the
+-- The module carries the tree: its name, ports, registers and wires are those of the tree, from its initial words on it runs as the
 -- tree does, whatever words are at arguments that are not asked for, and a reset shows the parts before the first clock again
--- but for registers without a start
+-- but for registers without a start. And the tree has the clocks that this speaks of
 pub record IsVerilogOf (h : TreeData) (made : Schedule) (v : VModuleData) : Type 0 where
   pub right : ∥ IsModule v ∥₁
   pub name : List ℕ
   pub top : top_name h ≡ Some name
   pub is : IsModuleOf name (parts_among h.instances) (tree_scheme h).elements v
+  pub clocked : IsWellClocked (tree_scheme h) made
   -- a result port is as wide as what its method gives, ready or not
   pub results : HasResultWidths (tree_scheme h) v
   pub carries : ModuleCarries false (tree_scheme h) made v

@@ -1,6 +1,6 @@
 ghost use Rattle.std.specs.Prelude.{◌≡◌, ◌⊎◌, ℕ, false, List, Some, Err, IfOk, OnOk, slice_get};
 ghost use Rattle.bsv_attr.specs.Asserting.{IsAccepted};
-ghost use Rattle.bsv_clock.specs.Obeying.{Obeys};
+ghost use Rattle.bsv_attr.specs.Obeying.{Obeys};
 ghost use Rattle.bsv_clock.specs.Grounds.{IsScheduleOf, KeepsRules};
 ghost use Rattle.bsv_design.specs.design.Guards.{needs_of};
 ghost use Rattle.bsv_design.specs.scheme.Schemes.{design_scheme, kinds_of};

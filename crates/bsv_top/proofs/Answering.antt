@@ -10,6 +10,7 @@ use Rattle.bsv_io.specs.Writing.{Writing}
 use Rattle.bsv_clock.specs.Grounds.{IsLawful, IsScheduleOf}
 use Rattle.bsv_clock.specs.Runs.{AllFit, Row, Continues, Runs}
 use Rattle.bsv_clock.proofs.OneRun.{opening_fits}
+use Rattle.bsv_flow.specs.Clocked.{IsWellClocked}
 use Rattle.bsv_flow.specs.Compilings.{IsPlanned}
 use Rattle.bsv_flow.specs.Schedulings.{subject}
 use Rattle.bsv_top.specs.declared.status.Status.{Status}
@@ -39,6 +40,9 @@ module _ (words : List (List ℕ)) (contents : List ℕ → List ℕ) (file top 
 
   scheduled : IsScheduleOf S made
   scheduled = grounds.scheduled_here tree made laid.design laid.alike planned.planned.scheduled
+
+  well : IsWellClocked S made
+  well = grounds.clocked_here tree made laid.design laid.alike planned.planned.scheduled
 
   all_fit : (start : ℕ) (lines : List (List ℕ)) (qs : List Asking) → AreAsked S.elements start lines qs → AllFit S qs
   all_fit = grounds.all_fit tree made laid.design laid.alike planned.planned.scheduled
@@ -79,7 +83,7 @@ module _ (words : List (List ℕ)) (contents : List ℕ → List ℕ) (file top 
           decided = status.Done;
           more = further.rows;
           text = [];
-          answer = a.Answer.done tree made (qs ++ rs) (rows ++ further.rows) spelled planned laid
+          answer = a.Answer.done tree made (qs ++ rs) (rows ++ further.rows) spelled planned laid well
               (subst (λ (ls : List (List ℕ)). AreAsked S.elements 0 ls (qs ++ rs)) (sym lines) (asked_append S.elements 0 end front rest qs rs there asked h))
               (whole rs further.rows further.continues);
         }
@@ -89,7 +93,7 @@ module _ (words : List (List ℕ)) (contents : List ℕ → List ℕ) (file top 
           decided = status.TraceFault;
           more = further.rows;
           text = trace_fault_line (length (qs ++ rs) + 1);
-          answer = a.Answer.trace_fault tree made (qs ++ rs) (rows ++ further.rows) spelled planned laid
+          answer = a.Answer.trace_fault tree made (qs ++ rs) (rows ++ further.rows) spelled planned laid well
               (subst (λ (ls : List (List ℕ)). AreAskedToBad S.elements 0 ls (qs ++ rs)) (sym lines) (bad_append S.elements 0 end front rest qs rs there asked h))
               (whole rs further.rows further.continues);
         }
@@ -113,4 +117,4 @@ module _ (words : List (List ℕ)) (contents : List ℕ → List ℕ) (file top 
   pub clean_answer : (qs : List Asking) → IsClean S.elements (contents trace) qs → (output : List ℕ) × Answer words contents status.Done output []
   clean_answer qs clean =
       let run = goes from qs (opening_fits S.kinds) (all_fit 0 (lines_of (contents trace)) qs clean) in
-      (report (subject tree) run.rows, a.Answer.done tree made qs run.rows spelled planned laid clean run.continues)
+      (report (subject tree) run.rows, a.Answer.done tree made qs run.rows spelled planned laid well clean run.continues)

@@ -25,7 +25,10 @@ use Rattle.bsv_clock.specs.Grounds.{IsLawful, IsScheduleOf, KeepsRules}
 use Rattle.bsv_clock.specs.Runs.{AllFit}
 use Rattle.bsv_clock.proofs.Belonging as belonging
 use Rattle.bsv_clock.proofs.OneRun.{opening_fits}
+use Rattle.bsv_flow.specs.Clocked.{IsWellClocked}
 use Rattle.bsv_flow.specs.Schedulings.{IsScheduled, subject}
+use Rattle.bsv_flow.proofs.ScheduledTrees.{obeys_scheduled}
+use Rattle.bsv_flow.proofs.WellClocked.{well_clocked}
 use Rattle.bsv_top.specs.Traces.{AreAsked, AreAskedToBad}
 use Rattle.bsv_top.proofs.Happening.{room}
 use Rattle.bsv_top.proofs.Named.{outlines_are}
@@ -73,6 +76,9 @@ module _ (tree : TreeData) (made : Schedule) (d : Design) (al : AreAlike (tree_s
 
   pub scheduled_here : IsScheduleOf S made
   scheduled_here = belonging.schedule_alike T S back made scheduled_there
+
+  pub clocked_here : IsWellClocked S made
+  clocked_here = well_clocked S made lawful_here scheduled_here (obeys_scheduled tree d al made scheduled)
 
   outlines_here : map outline d.elements ≡ S.elements
   outlines_here = outlines_are d ∙ sym al.elements

@@ -12,6 +12,7 @@ mod Decides
 mod Spelled
 mod OneAnswer
 mod AllAnswers
+mod Headlined
 mod Printed
 mod Stopped
 mod Opened

@@ -24,6 +24,7 @@ use Rattle.bsv_flow.specs.declared.loading.Loaded.{Loaded}
 use Rattle.bsv_flow.specs.declared.refusal.Refusal.{Refusal}
 use Rattle.bsv_flow.specs.Breaches.{element_name}
 use Rattle.bsv_flow.specs.Buildings.{IsBuilt, Rejects}
+use Rattle.bsv_flow.specs.Clocked.{IsWellClocked}
 use Rattle.bsv_flow.specs.Compilings.{IsPlanned}
 use Rattle.bsv_flow.specs.Refusals.{refusal_line}
 use Rattle.bsv_flow.specs.Schedulings.{IsVerilogOf, Subject, subject}
@@ -103,9 +104,9 @@ module _ (words : List (List ℕ)) (contents : List ℕ → List ℕ) (file top 
     scheduled : (tree : TreeData) (made : Schedule) → words ≡ schedule_words file top → Accepted tree made → Tells status.Done (printed tree made) []
     written : (tree : TreeData) (made : Schedule) (v : VModuleData) → words ≡ verilog_words file top → Accepted tree made → IsVerilogOf tree made v → Tells status.Done (vtext v) []
     done : (trace : List ℕ) (tree : TreeData) (made : Schedule) (qs : List Asking) (rows : List Row) → words ≡ sim_words file top trace → Accepted tree made → IsLaidOut tree
-        → Clean tree trace qs → Runs false (tree_scheme tree) made qs rows → Tells status.Done (report (subject tree) rows) []
+        → IsWellClocked (tree_scheme tree) made → Clean tree trace qs → Runs false (tree_scheme tree) made qs rows → Tells status.Done (report (subject tree) rows) []
     trace_fault : (trace : List ℕ) (tree : TreeData) (made : Schedule) (qs : List Asking) (rows : List Row) → words ≡ sim_words file top trace → Accepted tree made → IsLaidOut tree
-        → Bad tree trace qs → Runs false (tree_scheme tree) made qs rows → Tells status.TraceFault (report (subject tree) rows) (trace_fault_line (length qs + 1))
+        → IsWellClocked (tree_scheme tree) made → Bad tree trace qs → Runs false (tree_scheme tree) made qs rows → Tells status.TraceFault (report (subject tree) rows) (trace_fault_line (length qs + 1))
 
   apart : {A : Type 0} (r : Refusal) (l : Loaded) → Rejects file contents top r → IsBuilt file contents top l → A
   apart r l h built = absurd (trees.apart file contents top l r built h)
@@ -172,14 +173,14 @@ module _ (words : List (List ℕ)) (contents : List ℕ → List ℕ) (file top 
   same s s' output more text said (refused r h) (no_program l built none) = apart r l h built
   same s s' output more text said (refused r h) (scheduled tree made is p) = absurd (not_refused file top contents r h tree made p)
   same s s' output more text said (refused r h) (written tree made v is p has) = absurd (not_refused file top contents r h tree made p)
-  same s s' output more text said (refused r h) (done trace tree made qs rows is p laid clean runs) = absurd (not_refused file top contents r h tree made p)
-  same s s' output more text said (refused r h) (trace_fault trace tree made qs rows is p laid bad runs) = absurd (not_refused file top contents r h tree made p)
+  same s s' output more text said (refused r h) (done trace tree made qs rows is p laid well clean runs) = absurd (not_refused file top contents r h tree made p)
+  same s s' output more text said (refused r h) (trace_fault trace tree made qs rows is p laid well bad runs) = absurd (not_refused file top contents r h tree made p)
   same s s' output more text said (no_program l built none) (refused r h) = apart r l h built
   same s s' output more text said (no_program l built none) (no_program k also n) = record { status_is = refl; output_is = λ none. refl; text_is = IsSameText.equal }
   same s s' output more text said (no_program l built none) (scheduled tree made is p) = absurd (not_other file top contents l built none tree made p)
   same s s' output more text said (no_program l built none) (written tree made v is p has) = absurd (not_other file top contents l built none tree made p)
-  same s s' output more text said (no_program l built none) (done trace tree made qs rows is p laid clean runs) = absurd (not_other file top contents l built none tree made p)
-  same s s' output more text said (no_program l built none) (trace_fault trace tree made qs rows is p laid bad runs) = absurd (not_other file top contents l built none tree made p)
+  same s s' output more text said (no_program l built none) (done trace tree made qs rows is p laid well clean runs) = absurd (not_other file top contents l built none tree made p)
+  same s s' output more text said (no_program l built none) (trace_fault trace tree made qs rows is p laid well bad runs) = absurd (not_other file top contents l built none tree made p)
   same s s' output more text said (scheduled tree made is p) (refused r h) = absurd (not_refused file top contents r h tree made p)
   same s s' output more text said (scheduled tree made is p) (no_program l built none) = absurd (not_other file top contents l built none tree made p)
   same s s' output more text said (scheduled tree made is p) (scheduled u other k q) = record {
@@ -188,34 +189,34 @@ module _ (words : List (List ℕ)) (contents : List ℕ → List ℕ) (file top 
     text_is = IsSameText.equal;
   }
   same s s' output more text said (scheduled tree made is p) (written u other v k q has) = absurd (products_apart file top file top (sym is ∙ k))
-  same s s' output more text said (scheduled tree made is p) (done trace u other qs rows k q laid clean runs) = absurd (forms_apart file top trace file top product.Schedule (sym k ∙ is))
-  same s s' output more text said (scheduled tree made is p) (trace_fault trace u other qs rows k q laid bad runs) = absurd (forms_apart file top trace file top product.Schedule (sym k ∙ is))
+  same s s' output more text said (scheduled tree made is p) (done trace u other qs rows k q laid well clean runs) = absurd (forms_apart file top trace file top product.Schedule (sym k ∙ is))
+  same s s' output more text said (scheduled tree made is p) (trace_fault trace u other qs rows k q laid well bad runs) = absurd (forms_apart file top trace file top product.Schedule (sym k ∙ is))
   same s s' output more text said (written tree made v is p has) (refused r h) = absurd (not_refused file top contents r h tree made p)
   same s s' output more text said (written tree made v is p has) (no_program l built none) = absurd (not_other file top contents l built none tree made p)
   same s s' output more text said (written tree made v is p has) (scheduled u other k q) = absurd (products_apart file top file top (sym k ∙ is))
   same s s' output more text said (written tree made v is p has) (written u other w k q also) = record { status_is = refl; output_is = λ none. absurd (none file top is); text_is = IsSameText.equal }
-  same s s' output more text said (written tree made v is p has) (done trace u other qs rows k q laid clean runs) = absurd (forms_apart file top trace file top product.Verilog (sym k ∙ is))
-  same s s' output more text said (written tree made v is p has) (trace_fault trace u other qs rows k q laid bad runs) = absurd (forms_apart file top trace file top product.Verilog (sym k ∙ is))
-  same s s' output more text said (done trace tree made qs rows is p laid clean runs) (refused r h) = absurd (not_refused file top contents r h tree made p)
-  same s s' output more text said (done trace tree made qs rows is p laid clean runs) (no_program l built none) = absurd (not_other file top contents l built none tree made p)
-  same s s' output more text said (done trace tree made qs rows is p laid clean runs) (scheduled u other k q) = absurd (forms_apart file top trace file top product.Schedule (sym is ∙ k))
-  same s s' output more text said (done trace tree made qs rows is p laid clean runs) (written u other v k q has) = absurd (forms_apart file top trace file top product.Verilog (sym is ∙ k))
-  same s s' output more text said (done trace tree made qs rows is p laid clean runs) (done r u other rs others k q again clear run) = record {
+  same s s' output more text said (written tree made v is p has) (done trace u other qs rows k q laid well clean runs) = absurd (forms_apart file top trace file top product.Verilog (sym k ∙ is))
+  same s s' output more text said (written tree made v is p has) (trace_fault trace u other qs rows k q laid well bad runs) = absurd (forms_apart file top trace file top product.Verilog (sym k ∙ is))
+  same s s' output more text said (done trace tree made qs rows is p laid well clean runs) (refused r h) = absurd (not_refused file top contents r h tree made p)
+  same s s' output more text said (done trace tree made qs rows is p laid well clean runs) (no_program l built none) = absurd (not_other file top contents l built none tree made p)
+  same s s' output more text said (done trace tree made qs rows is p laid well clean runs) (scheduled u other k q) = absurd (forms_apart file top trace file top product.Schedule (sym is ∙ k))
+  same s s' output more text said (done trace tree made qs rows is p laid well clean runs) (written u other v k q has) = absurd (forms_apart file top trace file top product.Verilog (sym is ∙ k))
+  same s s' output more text said (done trace tree made qs rows is p laid well clean runs) (done r u other rs others k q again too clear run) = record {
     status_is = refl;
     output_is = λ none.
         done_same tree made p laid trace qs rs rows others clean (clean_here tree u made other p q trace r rs (same_trace trace r is k) clear) runs (runs_here tree u made other p q rs others run)
         ∙ report_there tree u made other p q others;
     text_is = IsSameText.equal;
   }
-  same s s' output more text said (done trace tree made qs rows is p laid clean runs) (trace_fault r u other rs others k q again bad run) =
+  same s s' output more text said (done trace tree made qs rows is p laid well clean runs) (trace_fault r u other rs others k q again too bad run) =
       absurd (not_both (tree_scheme tree).elements 0 (lines_of (contents trace)) qs rs clean (bad_here tree u made other p q trace r rs (same_trace trace r is k) bad))
-  same s s' output more text said (trace_fault trace tree made qs rows is p laid bad runs) (refused r h) = absurd (not_refused file top contents r h tree made p)
-  same s s' output more text said (trace_fault trace tree made qs rows is p laid bad runs) (no_program l built none) = absurd (not_other file top contents l built none tree made p)
-  same s s' output more text said (trace_fault trace tree made qs rows is p laid bad runs) (scheduled u other k q) = absurd (forms_apart file top trace file top product.Schedule (sym is ∙ k))
-  same s s' output more text said (trace_fault trace tree made qs rows is p laid bad runs) (written u other v k q has) = absurd (forms_apart file top trace file top product.Verilog (sym is ∙ k))
-  same s s' output more text said (trace_fault trace tree made qs rows is p laid bad runs) (done r u other rs others k q again clear run) =
+  same s s' output more text said (trace_fault trace tree made qs rows is p laid well bad runs) (refused r h) = absurd (not_refused file top contents r h tree made p)
+  same s s' output more text said (trace_fault trace tree made qs rows is p laid well bad runs) (no_program l built none) = absurd (not_other file top contents l built none tree made p)
+  same s s' output more text said (trace_fault trace tree made qs rows is p laid well bad runs) (scheduled u other k q) = absurd (forms_apart file top trace file top product.Schedule (sym is ∙ k))
+  same s s' output more text said (trace_fault trace tree made qs rows is p laid well bad runs) (written u other v k q has) = absurd (forms_apart file top trace file top product.Verilog (sym is ∙ k))
+  same s s' output more text said (trace_fault trace tree made qs rows is p laid well bad runs) (done r u other rs others k q again too clear run) =
       absurd (not_both (tree_scheme tree).elements 0 (lines_of (contents trace)) rs qs (clean_here tree u made other p q trace r rs (same_trace trace r is k) clear) bad)
-  same s s' output more text said (trace_fault trace tree made qs rows is p laid bad runs) (trace_fault r u other rs others k q again wrong run) =
+  same s s' output more text said (trace_fault trace tree made qs rows is p laid well bad runs) (trace_fault r u other rs others k q again too wrong run) =
       let both = fault_same tree made p laid trace qs rs rows others bad (bad_here tree u made other p q trace r rs (same_trace trace r is k) wrong) runs (runs_here tree u made other p q rs others run) in
       record {
         status_is = refl;
@@ -239,10 +240,10 @@ module _ (words : List (List ℕ)) (contents : List ℕ → List ℕ) where
       tells_at f t file top s output text (same_asked words f t file top (Asks.schedule is) asks) (Tells.scheduled tree made is p)
   told file top s output text asks (a.Answer.written {file = f} {top = t} tree made v is p has) =
       tells_at f t file top s output text (same_asked words f t file top (Asks.verilog is) asks) (Tells.written tree made v is p has)
-  told file top s output text asks (a.Answer.done {file = f} {top = t} {trace = r} tree made qs rows is p laid clean runs) =
-      tells_at f t file top s output text (same_asked words f t file top (Asks.sim r is) asks) (Tells.done r tree made qs rows is p laid clean runs)
-  told file top s output text asks (a.Answer.trace_fault {file = f} {top = t} {trace = r} tree made qs rows is p laid bad runs) =
-      tells_at f t file top s output text (same_asked words f t file top (Asks.sim r is) asks) (Tells.trace_fault r tree made qs rows is p laid bad runs)
+  told file top s output text asks (a.Answer.done {file = f} {top = t} {trace = r} tree made qs rows is p laid well clean runs) =
+      tells_at f t file top s output text (same_asked words f t file top (Asks.sim r is) asks) (Tells.done r tree made qs rows is p laid well clean runs)
+  told file top s output text asks (a.Answer.trace_fault {file = f} {top = t} {trace = r} tree made qs rows is p laid well bad runs) =
+      tells_at f t file top s output text (same_asked words f t file top (Asks.sim r is) asks) (Tells.trace_fault r tree made qs rows is p laid well bad runs)
 
   -- an answer to words without a form is how the program is called
   record IsUsage (s : Status) (output text : List ℕ) : Type 0 where
@@ -256,8 +257,8 @@ module _ (words : List (List ℕ)) (contents : List ℕ → List ℕ) where
   same_usage s output text none (a.Answer.no_program l k built other) = absurd (none _ _ k)
   same_usage s output text none (a.Answer.scheduled tree made is p) = absurd (none _ _ (Asks.schedule is))
   same_usage s output text none (a.Answer.written tree made v is p has) = absurd (none _ _ (Asks.verilog is))
-  same_usage s output text none (a.Answer.done tree made qs rows is p laid clean runs) = absurd (none _ _ (Asks.sim _ is))
-  same_usage s output text none (a.Answer.trace_fault tree made qs rows is p laid bad runs) = absurd (none _ _ (Asks.sim _ is))
+  same_usage s output text none (a.Answer.done tree made qs rows is p laid well clean runs) = absurd (none _ _ (Asks.sim _ is))
+  same_usage s output text none (a.Answer.trace_fault tree made qs rows is p laid well bad runs) = absurd (none _ _ (Asks.sim _ is))
 
   same_form : (s s' : Status) (output more text said : List ℕ) (file top : List ℕ) → Asks words file top → Answer words contents s output text → Answer words contents s' more said
       → SameAnswer words s s' output more text said
@@ -271,8 +272,8 @@ module _ (words : List (List ℕ)) (contents : List ℕ → List ℕ) where
   asked s output text (a.Answer.no_program {file = f} {top = t} l k built none) = inl (f, t, k)
   asked s output text (a.Answer.scheduled {file = f} {top = t} tree made is p) = inl (f, t, Asks.schedule is)
   asked s output text (a.Answer.written {file = f} {top = t} tree made v is p has) = inl (f, t, Asks.verilog is)
-  asked s output text (a.Answer.done {file = f} {top = t} {trace = r} tree made qs rows is p laid clean runs) = inl (f, t, Asks.sim r is)
-  asked s output text (a.Answer.trace_fault {file = f} {top = t} {trace = r} tree made qs rows is p laid bad runs) = inl (f, t, Asks.sim r is)
+  asked s output text (a.Answer.done {file = f} {top = t} {trace = r} tree made qs rows is p laid well clean runs) = inl (f, t, Asks.sim r is)
+  asked s output text (a.Answer.trace_fault {file = f} {top = t} {trace = r} tree made qs rows is p laid well bad runs) = inl (f, t, Asks.sim r is)
 
   pub one_answer : (s s' : Status) (output more text said : List ℕ) → Answer words contents s output text → Answer words contents s' more said → SameAnswer words s s' output more text said
   one_answer s s' output more text said answer other =

@@ -16,9 +16,10 @@ use Rattle.bsv_top.specs.declared.form.Product.TheVariants as product
 use Rattle.bsv_top.specs.declared.status.Status.TheVariants as status
 use Rattle.bsv_top.specs.Answers as a
 use Rattle.bsv_top.specs.Answers.{Answer, printed, schedule_words}
-use Rattle.bsv_top.specs.Outcomes.{IsDoneBy, OutputStarted, started}
+use Rattle.bsv_top.specs.Outcomes.{IsAccepted, IsDoneBy, OutputStarted, started}
 use Rattle.bsv_top.specs.Products.{product_text, product_words}
 use Rattle.bsv_top.proofs.Named.{names_are}
+use Rattle.bsv_top.proofs.Spelled.{asks_product}
 
 module _ (file : List ℕ) (contents : List ℕ → List ℕ) (top : List ℕ) (c : Compiled) (x : IsCompiled file contents top c) where
   planned : IsPlanned file contents top x.compiled.tree c.schedule
@@ -38,9 +39,20 @@ module _ (file : List ℕ) (contents : List ℕ → List ℕ) (top : List ℕ) (
       (a.Answer.scheduled x.compiled.tree c.schedule refl planned)
   product_answer product.Verilog = a.Answer.written x.compiled.tree c.schedule (hand.module_data c.verilog) refl planned x.compiled.design.verilog
 
+  accepted : (p : Product) → IsAccepted (product_words p file top) contents
+  accepted p = record {
+    file = file;
+    top = top;
+    asks = asks_product p file top;
+    tree = x.compiled.tree;
+    made = c.schedule;
+    planned = planned;
+    laid = record { design = c.design; alike = x.compiled.design.alike };
+  }
+
   -- it is put whole
   pub plan_done : (p : Product) (out out' : Writing) → out' ≡ appended (product_text p c) out → IsDoneBy (product_words p file top) contents out out'
-  plan_done p out out' put = record { output = product_text p c; answer = product_answer p; put = put }
+  plan_done p out out' put = record { accepted = accepted p; output = product_text p c; answer = product_answer p; put = put }
 
   -- or a prefix of it
   pub plan_started : (p : Product) (out out' : Writing) → AppendsPrefix (product_text p c) out out' → OutputStarted (product_words p file top) contents out out'

@@ -16,7 +16,7 @@ use Rattle.bsv_top.specs.declared.status.Status.TheVariants as status
 use Rattle.bsv_top.specs.declared.stop.Stop.{Stop}
 use Rattle.bsv_top.specs.declared.stop.Stop.TheVariants as stop
 use Rattle.bsv_top.specs.Answers as a
-use Rattle.bsv_top.specs.Answers.{Answer, sim_words, trace_fault_line}
+use Rattle.bsv_top.specs.Answers.{Answer, Asks, sim_words, trace_fault_line}
 use Rattle.bsv_top.specs.LaidOut.{IsLaidOut}
 use Rattle.bsv_top.specs.Outcomes as o
 use Rattle.bsv_top.specs.Outcomes.{IsDoneBy, IsUnread, OutputStarted}
@@ -49,8 +49,9 @@ module _ (file : List ℕ) (contents : List ℕ → List ℕ) (top trace : List 
   simulated_done w next h =
       let done = lifting.done_here tree c.design c.schedule x.compiled.design.alike x.compiled.design.parts w (contents trace) next h in
       record {
+        accepted = record { file = file; top = top; asks = Asks.sim trace refl; tree = tree; made = c.schedule; planned = planned; laid = laid };
         output = report (subject tree) done.rows;
-        answer = a.Answer.done tree c.schedule done.qs done.rows refl planned laid done.clean done.runs;
+        answer = a.Answer.done tree c.schedule done.qs done.rows refl planned laid x.compiled.design.verilog.clocked done.clean done.runs;
         put = done.put;
       }
 
@@ -64,7 +65,7 @@ module _ (file : List ℕ) (contents : List ℕ → List ℕ) (top trace : List 
       let bad = lifting.faulty_here tree c.design c.schedule x.compiled.design.alike x.compiled.design.parts w (contents trace) next number h in (
         report (subject tree) bad.rows,
         subst (λ (n : ℕ). Answer words contents status.TraceFault (report (subject tree) bad.rows) (trace_fault_line n)) (sym bad.number_is)
-            (a.Answer.trace_fault tree c.schedule bad.qs bad.rows refl planned laid bad.bad bad.runs),
+            (a.Answer.trace_fault tree c.schedule bad.qs bad.rows refl planned laid x.compiled.design.verilog.clocked bad.bad bad.runs),
         bad.put,
       )
 

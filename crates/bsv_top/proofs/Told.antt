@@ -53,6 +53,14 @@ only_memory stop.Unwritable e = absurd cc
 only_memory stop.OutOfMemory e = refl
 only_memory (stop.BadLine number) e = absurd cc
 
+-- it is that the output took no more, or it is not
+pub unwritable_or : (s : Stop) → (s ≡ stop.Unwritable) ⊎ (s ≡ stop.Unwritable → ⊥)
+unwritable_or (stop.Refused refusal) = inr (λ e. let n : ⊥ = cc in n)
+unwritable_or (stop.Unread name) = inr (λ e. let n : ⊥ = cc in n)
+unwritable_or stop.Unwritable = inl refl
+unwritable_or stop.OutOfMemory = inr (λ e. let n : ⊥ = cc in n)
+unwritable_or (stop.BadLine number) = inr (λ e. let n : ⊥ = cc in n)
+
 -- a file that could not be read counts as a fault
 pub unread_faults : (words : List (List ℕ)) (name : List ℕ) (files files' : Reading) (out out' : Writing) → IsUnread words name files files' out out' → MayFault files.faults files'.faults
 unread_faults words name files files' out out' (IsUnread.source file top asks may blamed reached put) = may

@@ -14,6 +14,7 @@ use Rattle.bsv_flow.specs.declared.loading.Loaded.{Loaded}
 use Rattle.bsv_flow.specs.declared.refusal.Refusal.{Refusal}
 use Rattle.bsv_flow.specs.Breaches.{element_name}
 use Rattle.bsv_flow.specs.Buildings.{IsProgram, IsBuilt, Rejects}
+use Rattle.bsv_flow.specs.Clocked.{IsWellClocked}
 use Rattle.bsv_flow.specs.Compilings.{IsPlanned}
 use Rattle.bsv_flow.specs.Refusals.{refusal_line}
 use Rattle.bsv_flow.specs.Schedulings.{IsVerilogOf, subject}
@@ -88,12 +89,12 @@ pub data Answer (words : List (List ℕ)) (contents : List ℕ → List ℕ) : S
   -- each line of the trace asks for a request, and the clocks of a run of these requests are reported
   done : {file top trace : List ℕ} (tree : TreeData) (made : Schedule) (qs : List Asking) (rows : List Row)
       → words ≡ sim_words file top trace → IsPlanned file contents top tree made → IsLaidOut tree
-      → IsClean (tree_scheme tree).elements (contents trace) qs → Runs false (tree_scheme tree) made qs rows
+      → IsWellClocked (tree_scheme tree) made → IsClean (tree_scheme tree).elements (contents trace) qs → Runs false (tree_scheme tree) made qs rows
       → Answer words contents status.Done (report (subject tree) rows) []
   -- and so are those of the lines before the first bad one
   trace_fault : {file top trace : List ℕ} (tree : TreeData) (made : Schedule) (qs : List Asking) (rows : List Row)
       → words ≡ sim_words file top trace → IsPlanned file contents top tree made → IsLaidOut tree
-      → HasBadLine (tree_scheme tree).elements (contents trace) qs → Runs false (tree_scheme tree) made qs rows
+      → IsWellClocked (tree_scheme tree) made → HasBadLine (tree_scheme tree).elements (contents trace) qs → Runs false (tree_scheme tree) made qs rows
       → Answer words contents status.TraceFault (report (subject tree) rows) (trace_fault_line (length qs + 1))
 
 -- there is an answer

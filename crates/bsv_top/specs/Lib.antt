@@ -1,6 +1,7 @@
 pub mod Answers
 pub mod Counts
 pub mod Forms
+pub mod Headline
 pub mod LaidOut
 pub mod OneAnswer
 pub mod Outcomes

@@ -10,6 +10,7 @@ use Rattle.bsv_flow.specs.Loads.{Reaches}
 use Rattle.bsv_top.specs.declared.status.Status.{Status}
 use Rattle.bsv_top.specs.declared.status.Status.TheVariants as status
 use Rattle.bsv_top.specs.Answers.{Answer, Asks, sim_words, cannot_read_line, no_memory_line}
+use Rattle.bsv_top.specs.LaidOut.{IsLaidOut}
 
 -- the words ask for no run
 abbrev pub AsksNoRun : List (List ℕ) → Type 0
@@ -43,8 +44,29 @@ pub record Answered (words : List (List ℕ)) (contents : List ℕ → List ℕ)
   pub put : out' ≡ appended output out
   pub told : err' ≡ appended text err
 
--- all is done, and the whole output of an answer is put
+-- the statuses of what is accepted
+abbrev pub Accepts : Status → Type 0
+Accepts status.Done = Unit {0}
+Accepts status.Refused = ⊥
+Accepts status.Usage = ⊥
+Accepts status.ReadFault = ⊥
+Accepts status.WriteFault = ⊥
+Accepts status.OutOfMemory = ⊥
+Accepts status.TraceFault = Unit {0}
+
+-- what the words ask for is accepted, and can be laid out
+pub record IsAccepted (words : List (List ℕ)) (contents : List ℕ → List ℕ) : Type 0 where
+  pub file : List ℕ
+  pub top : List ℕ
+  pub asks : Asks words file top
+  pub tree : TreeData
+  pub made : Schedule
+  pub planned : IsPlanned file contents top tree made
+  pub laid : IsLaidOut tree
+
+-- all is done: what is asked for is accepted, and the whole output of an answer is put
 pub record IsDoneBy (words : List (List ℕ)) (contents : List ℕ → List ℕ) (out out' : Writing) : Type 0 where
+  pub accepted : IsAccepted words contents
   pub output : List ℕ
   pub answer : Answer words contents status.Done output []
   pub put : out' ≡ appended output out

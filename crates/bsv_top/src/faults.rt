@@ -103,6 +103,7 @@ pub(crate) fn tell_stop<E: Sink>(err: &mut E, stop: Stop) -> Status
         × (E.writing err.new ≡ appended (text_of stop) (E.writing err.old)) }
     ensures failed { result ≡ Status.WriteFault → (stop ≡ Stop.Unwritable)
         ⊎ MayFault (E.writing err.old).faults (E.writing err.new).faults }
+    ensures quiet { stop ≡ Stop.Unwritable → E.writing err.new ≡ E.writing err.old }
     ensures prefix { AppendsPrefix (text_of stop) (E.writing err.old) (E.writing err.new) }
     ensures count { (E.writing err.old).faults ≤ (E.writing err.new).faults }
 {

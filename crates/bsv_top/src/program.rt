@@ -4,7 +4,8 @@ ghost use Rattle.bsv_io.specs.InMemory.{contents_of};
 ghost use Rattle.bsv_io.specs.Reading.{bytes_given};
 ghost use Rattle.bsv_io.specs.Sure.{NoFault};
 ghost use Rattle.bsv_io.specs.Writing.{appended, count_after};
-ghost use Rattle.bsv_top.specs.Answers.{Answer, HasAnswer, HasNoForm, no_memory_line, printed};
+ghost use Rattle.bsv_top.specs.Answers.{Answer, Asks, HasAnswer, HasNoForm};
+ghost use Rattle.bsv_top.specs.Answers.{no_memory_line, printed};
 ghost use Rattle.bsv_top.specs.Answers.{schedule_words, sim_words, verilog_words};
 ghost use Rattle.bsv_design.specs.scheme.Schemes.{Asking};
 ghost use Rattle.bsv_tree.specs.meaning.Schemes.{tree_scheme};
@@ -17,8 +18,9 @@ ghost use Rattle.bsv_vtext.specs.Signals.{VModuleData};
 ghost use Rattle.bsv_vtext.specs.VText.{vtext};
 ghost use Rattle.bsv_top.specs.OneAnswer.{AsksNoVerilog, HaveModules, IsSameText, LayOut};
 ghost use Rattle.bsv_top.specs.Counts.{CountsAnswer};
-ghost use Rattle.bsv_top.specs.Outcomes.{Answered, AsksNoRun, IsDecided, IsFault, OutputStarted};
-ghost use Rattle.bsv_top.specs.Outcomes.{TextStarted, Unreadable};
+ghost use Rattle.bsv_top.specs.Headline.{Headline};
+ghost use Rattle.bsv_top.specs.Outcomes.{Accepts, Answered, AsksNoRun, IsDecided, IsFault};
+ghost use Rattle.bsv_top.specs.Outcomes.{OutputStarted, TextStarted, Unreadable};
 ghost use Rattle.bsv_top.specs.Places.{IsTraceWithin, ReadsWithin};
 ghost use Rattle.bsv_top.specs.LaidOut.{IsLaidOut};
 ghost use Rattle.bsv_top.specs.Traces.{IsClean};
@@ -56,6 +58,13 @@ pub fn run<R: Threads + Sync, F: Files, O: Sink, E: Sink>(
     ensures answer { (contents : List ℕ → List ℕ) → (F.reading files.old).contents ≡ Some contents
         → IsDecided result → Answered (map string_bytes words.now) contents result
         (O.writing out.old) (O.writing out.new) (E.writing err.old) (E.writing err.new) }
+
+    // What is accepted keeps the headline: it obeys its attributes, and each trace without a bad line
+    // has one run, which `sim` prints and each written module shows.
+    ensures headline { (contents : List ℕ → List ℕ) → (F.reading files.old).contents ≡ Some contents
+        → Accepts result → (file top : List ℕ) (tree : TreeData) (made : TheSchedule)
+        → Asks (map string_bytes words.now) file top → IsPlanned file contents top tree made
+        → Headline contents file top tree made }
 
     // At every status a prefix of an answer's output and of a fault text is put.
     ensures output { (contents : List ℕ → List ℕ) → (F.reading files.old).contents ≡ Some contents
@@ -97,8 +106,13 @@ pub fn run<R: Threads + Sync, F: Files, O: Sink, E: Sink>(
         (F.reading files.old) (F.reading files.new) (O.writing out.old) (O.writing out.new)
         (E.writing err.old) (E.writing err.new) }
     ensures write_fault { result ≡ Status.WriteFault
-        → MayFault (O.writing out.old).faults (O.writing out.new).faults
+        → (MayFault (O.writing out.old).faults (O.writing out.new).faults
+        × (E.writing err.new ≡ E.writing err.old))
         ⊎ MayFault (E.writing err.old).faults (E.writing err.new).faults }
+
+    // Where a put of the output failed, nothing is put as a fault text.
+    ensures quiet { (O.writing out.old).faults < (O.writing out.new).faults
+        → E.writing err.new ≡ E.writing err.old }
 
     // Where a count of faults rose, the status is that of a fault.
     ensures files_rose { (F.reading files.old).faults < (F.reading files.new).faults
@@ -158,7 +172,7 @@ pub fn run_surely<R: Threads + Sync>(
 ///
 /// Words that ask for a schedule, and files that have one, have it as their answer; words that ask for
 /// Verilog have the text of every module that carries the tree; and words that ask for a run, files that are
-/// accepted and a trace without a bad line have a report.
+/// accepted and a trace without a bad line have a report. What is accepted and laid out keeps the headline.
 pub fn one_answer()
     ensures some { (words : List (List ℕ)) (contents : List ℕ → List ℕ) → LayOut words contents
         → HaveModules words contents → HasAnswer words contents }
@@ -186,4 +200,7 @@ pub fn one_answer()
         → IsPlanned file contents top tree made → IsLaidOut tree
         → IsClean (tree_scheme tree).elements (contents trace) qs
         → (output : List ℕ) × Answer (sim_words file top trace) contents Status.Done output [] }
+    ensures headline { (contents : List ℕ → List ℕ) (file top : List ℕ)
+        (tree : TreeData) (made : TheSchedule) → IsPlanned file contents top tree made
+        → IsLaidOut tree → Headline contents file top tree made }
 {}

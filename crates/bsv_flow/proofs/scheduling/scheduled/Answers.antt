@@ -74,6 +74,9 @@ returns-clause-compiled g c =
     (rules_there _ c.in_ok-design.design made.alike made.kept)
     (schedule_there c.in_ok-design.design c.in_ok-schedule.schedule c.in_ok-execution.execution c.in_ok-urgency.urgency
     orders.execution orders.urgency c.in_ok-execution.ensures.executes c.in_ok-urgency.ensures.urges orders.stops)
+    (obeyed_of _ c.in_ok-design.design made.alike made.parts c.in_ok-schedule.schedule
+    c.in_ok-execution.execution c.in_ok-urgency.urgency orders.execution orders.urgency
+    c.in_ok-execution.ensures.executes c.in_ok-urgency.ensures.urges orders.stops c.in_ok-asserted.ensures.accepted)
     net verilog.module verilog.results verilog.carries verilog.ignores verilog.runs verilog.unasked verilog.begins verilog.resets)
 
 pub returns-clause-runs : goal.returns-clause-runs

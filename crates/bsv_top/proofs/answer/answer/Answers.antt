@@ -1,10 +1,24 @@
 use Rattle.std.proofs.Common.{◌∙◌, ℕ, List, sym, ap, subst}
 use Rattle.std.proofs.lemmas.Result.{on_ok_weaker}
 use Rattle.bsv_top.specs.Forms.{words_of}
-use Rattle.bsv_top.specs.Outcomes.{IsUnread, OutputStarted}
+use Rattle.bsv_top.specs.Outcomes.{IsDoneBy, IsUnread, OutputStarted}
 use Rattle.bsv_top.specs.Stops.{IsStopOf}
 use Rattle.bsv_top.proofs.Spelled.{same_trace}
 use Rattle.bsv_top.proofs.answer.answer.Goals as goal
+
+pub returns-in-Plan-clause-done : goal.returns-in-Plan-clause-done
+returns-in-Plan-clause-done g c =
+    on_ok_weaker c.plan.result
+    (λ done contents told.
+    subst (λ (words : List (List ℕ)). IsDoneBy words contents (g.O.Sink.writing c.args.out.now) (g.O.Sink.writing c.plan.new.out)) (sym (ap words_of c.in-Plan.is))
+    (done contents told)) c.plan.ensures.done
+
+pub returns-in-Sim-clause-done : goal.returns-in-Sim-clause-done
+returns-in-Sim-clause-done g c =
+    on_ok_weaker c.simulate.result
+    (λ done contents told.
+    subst (λ (words : List (List ℕ)). IsDoneBy words contents (g.O.Sink.writing c.args.out.now) (g.O.Sink.writing c.simulate.new.out)) (sym (ap words_of c.in-Sim.is))
+    (done contents told)) c.simulate.ensures.done
 
 pub returns-in-Plan-clause-started : goal.returns-in-Plan-clause-started
 returns-in-Plan-clause-started g c = λ contents told.

@@ -1,4 +1,5 @@
-use Rattle.std.proofs.Common.{◌≡◌, ◌∙◌, ◌⊎◌, inl, ⊎_elim, ℕ, List, [], Err, map, string_bytes, refl, sym, ap, subst}
+use Rattle.std.proofs.Common.{◌≡◌, ◌∙◌, ◌⊎◌, inl, inr, ⊎_elim, ℕ, List, [], Err, map, string_bytes, refl, sym, ap, subst, arith}
+use Rattle.bsv_lemmas.proofs.Choices.{same_err}
 use Rattle.bsv_io.proofs.Appended.{appended-nil, nothing_put}
 use Rattle.bsv_io.proofs.NoFaults.{NoFault-MayFault}
 use Rattle.bsv_top.specs.declared.status.Status.{Status as TheStatus}
@@ -7,10 +8,11 @@ use Rattle.bsv_top.specs.declared.stop.Stop.TheVariants as stop
 use Rattle.bsv_top.specs.Answers as a
 use Rattle.bsv_top.specs.Answers.{no_memory_line, usage_line}
 use Rattle.bsv_top.specs.Outcomes as o
-use Rattle.bsv_top.specs.Outcomes.{Answered, IsDecided, IsDoneBy, IsUnread, OutputStarted}
+use Rattle.bsv_top.specs.Outcomes.{Accepts, Answered, IsDecided, IsDoneBy, IsUnread, OutputStarted}
 use Rattle.bsv_top.specs.Stops.{IsStopOf}
+use Rattle.bsv_top.proofs.Headlined.{accepted_headline, accepted_stop, accepts_no_fault, accepts_no_usage}
 use Rattle.bsv_top.proofs.OneAnswer as one
-use Rattle.bsv_top.proofs.Told.{decided_tells, done_answered, has_form, one_status, only_bad, only_memory, stop_answered, stop_complete, stop_text, stop_unreadable, unread_faults}
+use Rattle.bsv_top.proofs.Told.{decided_tells, done_answered, has_form, one_status, only_bad, only_memory, stop_answered, stop_complete, stop_text, stop_unreadable, unread_faults, unwritable_or}
 use Rattle.bsv_top.proofs.program.run.Goals as goal
 
 -- ---- words without a form
@@ -34,7 +36,16 @@ returns-in_default-clause-complete g c = λ contents told no_read no_write no_te
     inl
     (said.0 ∙ (one.one_answer (map string_bytes c.args.words.now) contents status.Usage other [] output usage_line text (a.Answer.usage c.in_default.ensures.none) answer).status_is)
 
+pub returns-in_default-clause-headline : goal.returns-in_default-clause-headline
+returns-in_default-clause-headline g c = λ contents told is.
+    absurd (accepts_no_usage c.tell_usage.result is (c.tell_usage.ensures.told (accepts_no_fault c.tell_usage.result is)).0)
+
 -- ---- what is done
+
+pub returns-in-Ok-clause-headline : goal.returns-in-Ok-clause-headline
+returns-in-Ok-clause-headline g c = λ contents told is.
+    let done = subst (λ (words : List (List ℕ)). IsDoneBy words contents (g.O.Sink.writing c.args.out.now) (g.O.Sink.writing c.answer.new.out)) (sym c.in-Some.ensures.form) (c.in-Ok.ensures.done contents told) in
+    accepted_headline (map string_bytes c.args.words.now) contents done.accepted
 
 pub returns-in-Ok-clause-no_form : goal.returns-in-Ok-clause-no_form
 returns-in-Ok-clause-no_form g c = λ none. absurd (has_form (map string_bytes c.args.words.now) c.in-Some.form c.in-Some.ensures.form none)
@@ -73,6 +84,14 @@ returns-in-Ok-clause-complete g c = λ contents told no_read no_write no_tell ot
     (done_answered (map string_bytes c.args.words.now) contents (g.O.Sink.writing c.args.out.now) (g.O.Sink.writing c.answer.new.out) (g.E.Sink.writing c.args.err.now) (g.E.Sink.writing c.args.err.now) done refl) answer)
 
 -- ---- what is not
+
+pub returns-in-Err-clause-headline : goal.returns-in-Err-clause-headline
+returns-in-Err-clause-headline g c = λ contents told is.
+    let said = c.tell_stop.ensures.told (accepts_no_fault c.tell_stop.result is) in
+    accepted_headline (map string_bytes c.args.words.now) contents
+    (accepted_stop (map string_bytes c.args.words.now) contents (g.O.Sink.writing c.args.out.now) (g.O.Sink.writing c.answer.new.out) c.in-Err.stop
+    (subst (λ (words : List (List ℕ)). IsStopOf words contents (g.O.Sink.writing c.args.out.now) (g.O.Sink.writing c.answer.new.out) c.in-Err.stop) (sym c.in-Some.ensures.form) (c.in-Err.ensures.stopped c.in-Err.stop refl contents told))
+    (subst Accepts said.0 is))
 
 pub returns-in-Err-clause-no_form : goal.returns-in-Err-clause-no_form
 returns-in-Err-clause-no_form g c = λ none. absurd (has_form (map string_bytes c.args.words.now) c.in-Some.form c.in-Some.ensures.form none)
@@ -123,6 +142,20 @@ returns-in-Err-clause-read_fault g c = λ is.
     (λ name e.
     subst (λ (words : List (List ℕ)). IsUnread words name (g.F.Files.reading c.args.files.now) (g.F.Files.reading c.answer.new.files) (g.O.Sink.writing c.args.out.now) (g.O.Sink.writing c.answer.new.out)) (sym c.in-Some.ensures.form)
     (c.in-Err.ensures.unread name (ap Err e))) said.1
+
+pub returns-in-Err-clause-write_fault : goal.returns-in-Err-clause-write_fault
+returns-in-Err-clause-write_fault g c = λ is.
+    elim (c.tell_stop.ensures.failed is) [
+      | inl e ↦ inl (c.in-Err.ensures.unwritable (ap Err e), c.tell_stop.ensures.quiet e)
+      | inr may ↦ inr may
+    ]
+
+pub returns-in-Err-clause-quiet : goal.returns-in-Err-clause-quiet
+returns-in-Err-clause-quiet g c = λ rose.
+    elim (unwritable_or c.in-Err.stop) [
+      | inl e ↦ c.tell_stop.ensures.quiet e
+      | inr n ↦ (let same = c.in-Err.ensures.out_kept (λ h. n (same_err c.in-Err.stop stop.Unwritable h)) in absurd (omega (arith, rose, same)))
+    ]
 
 pub returns-in-Err-clause-complete : goal.returns-in-Err-clause-complete
 returns-in-Err-clause-complete g c = λ contents told no_read no_write no_tell other output text answer.
