@@ -53,6 +53,9 @@ impl Count {
     }
 }
 
+/// The file whose sources weigh up to what a design may weigh: each is run by its own command alone.
+const HEAVY: &str = "building.cases";
+
 /// Runs a case, and tells where it does not answer as it says.
 fn run_case<R: Files + AllocGlobal + Print + Threads + Sync>(
     rt: &R,
@@ -69,7 +72,7 @@ fn run_case<R: Files + AllocGlobal + Print + Threads + Sync>(
         println!(rt; "{file}:{line}: over files and sinks that never fail the answer is another")?;
         return Ok(Count::DIFFERS);
     }
-    if !is_alike(rt, case, &answer)? {
+    if file != HEAVY && !is_alike(rt, case, &answer)? {
         let line = case.line;
         println!(rt; "{file}:{line}: another command answers to the source in another way")?;
         return Ok(Count::DIFFERS);
