@@ -7,6 +7,4 @@ pub mod Feeding
 pub mod Values
 pub mod Events
 pub mod Runs
-pub mod Obeying
-pub mod Attributes
 pub mod Shows

@@ -1,6 +1,5 @@
 ghost use Rattle.std.specs.Prelude.{◌≡◌, ℕ, Bool, List};
 ghost use Rattle.bsv_bits.specs.Words.{Bits};
-ghost use Rattle.bsv_clock.specs.Obeying.{Obeys};
 ghost use Rattle.bsv_design.specs.scheme.Seen.{design_data};
 ghost use Rattle.bsv_design.specs.declared.design.Design.{Design as TheDesign};
 ghost use Rattle.bsv_design.specs.scheme.Schemes.{Scheme, Asking, AreAlike, design_scheme};
@@ -10,7 +9,6 @@ ghost use Rattle.bsv_design.specs.declared.schedule.Schedule.{Schedule};
 ghost use Rattle.bsv_schedule.specs.relating.Elements.{relating};
 ghost use Rattle.bsv_schedule.specs.relating.Relating.{Agrees};
 ghost use Rattle.bsv_prim.specs.declared.part.Part.{Part};
-ghost use Rattle.bsv_clock.specs.Attributes.{ObeysInClock};
 ghost use Rattle.bsv_clock.specs.Shows.{Carries, Cell, Given};
 ghost use Rattle.bsv_clock.specs.Clocks.{IsClock};
 ghost use Rattle.bsv_clock.specs.Events.{Happens, TellAlike, results_in_turn, results_under};
@@ -108,13 +106,6 @@ pub fn value_methods()
     ensures free { (aggressive : Bool) (S : Scheme) (made : Schedule) (q r : Asking) (s : List Part)
         → IsLawful S → IsScheduleOf S made → AskAlike S q r
         → HappenAlike aggressive S made q r s }
-{}
-
-/// A clock of a schedule that obeys the attributes obeys them.
-pub fn attributes()
-    ensures { (aggressive : Bool) (S : Scheme) (made : Schedule) (q : Asking) (s : List Part)
-        (fired : List ℕ) (after : List Part) → Obeys S made
-        → IsClock aggressive S made q s fired after → ObeysInClock aggressive S q s fired }
 {}
 
 /// What happens in a clock is one, and so is a run; and schemes that do the same run the same.

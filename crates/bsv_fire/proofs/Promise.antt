@@ -244,6 +244,8 @@ module _ (d : Design) (needs : List (List Need)) (made : Schedule) (rules : Keep
       registers = registers_are;
       inputs = inputs_are;
       count = ap length is.fires ∙ (holds.long_fires ∙ sym elements_are);
+      count_readies = ap length is.readies ∙ (holds.long_readies ∙ sym elements_are);
+      count_results = ap length is.results ∙ (length-map (net b needs made).results _ ∙ (holds.long_results ∙ sym elements_are));
       count_sites = ap length is.sites ∙ (holds.long_sites ∙ sym elements_are);
       no_result = no_result_told;
       calls = calls_told;

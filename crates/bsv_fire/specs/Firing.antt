@@ -46,6 +46,8 @@ pub record Fires (aggressive : Bool) (S : Scheme) (made : Schedule) (c : NetData
   pub registers : map cell c.registers ≡ cells_of S.kinds
   pub inputs : c.inputs ≡ input_widths S
   pub count : length c.fires ≡ length S.elements
+  pub count_readies : length c.readies ≡ length S.elements
+  pub count_results : length c.results ≡ length S.elements
   pub count_sites : length c.sites ≡ length S.elements
   -- what gives nothing names no node
   pub no_result : NamesNoResult S c

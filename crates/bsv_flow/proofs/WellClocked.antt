@@ -1,5 +1,5 @@
 -- A lawful scheme whose schedule obeys the attributes has exactly one clock from each state that fits.
-use Rattle.std.proofs.Common.{◌≡◌, ℕ, false, List}
+use Rattle.std.proofs.Common.{false, List}
 use Rattle.bsv_prim.specs.declared.part.Part.{Part}
 use Rattle.bsv_design.specs.declared.schedule.Schedule.{Schedule}
 use Rattle.bsv_design.specs.scheme.Schemes.{Scheme, Asking}

@@ -20,7 +20,7 @@ use Rattle.bsv_top.specs.Answers as a
 use Rattle.bsv_top.specs.Answers.{Answer, Asks, trace_fault_line}
 use Rattle.bsv_top.specs.Headline.{Headline, IsRunOver}
 use Rattle.bsv_top.specs.LaidOut.{IsLaidOut}
-use Rattle.bsv_top.specs.Outcomes.{Accepts, IsAccepted, IsDoneBy}
+use Rattle.bsv_top.specs.Outcomes.{Accepts, IsAccepted}
 use Rattle.bsv_top.specs.Stops.{IsStopOf, status_of}
 use Rattle.bsv_top.specs.Traces.{IsClean, lines_of}
 use Rattle.bsv_top.proofs.Grounds as grounds
