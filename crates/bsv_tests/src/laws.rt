@@ -1,6 +1,4 @@
-use bsv_clock::{
-    attributes, carried, fed, lawful, one_clock, one_run, settled, steady, value_methods,
-};
+use bsv_clock::{carried, fed, lawful, one_clock, one_run, settled, steady, value_methods};
 use bsv_schedule::{answered, obeyed, one_order, ordered};
 
 #[test]
@@ -15,7 +13,6 @@ fn the_laws_can_be_called() {
     one_clock();
     fed();
     value_methods();
-    attributes();
     one_run();
     carried();
 }
