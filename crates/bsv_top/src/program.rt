@@ -38,8 +38,8 @@ use std::thread::Threads;
 /// the output goes to `out`, and a fault text of one line to `err`. The answer is the exit status.
 ///
 /// The clauses that begin with `contents` speak of a source of files that tells its contents.
-/// Want of memory may come at any point; of a run over a trace also after the lines of a clock, of which
-/// there are then no more.
+/// Want of memory may come at any point; of a run over a trace also after the lines of a clock, of
+/// which there are then no more.
 pub fn run<R: Threads + Sync, F: Files, O: Sink, E: Sink>(
     rt: &R,
     alloc: Global,
