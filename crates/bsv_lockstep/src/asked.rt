@@ -1,25 +1,35 @@
 use bsv_bits::{OutOfMemory, Word};
-use bsv_design::{Design, Port, Requests};
+use bsv_design::{Design, Element, Port, Requests};
 use sqlite_items::at;
 use std::alloc::Global;
 
-/// An argument of a method, which is 0 where it is not given.
-fn argument(port: &Port, given: &[Word], place: usize) -> Word {
-    match at(given, place) {
-        Some(word) => *word,
-        None => Word::new(port.width, 0).unwrap_or(Word::bit(false)),
+/// The word of an argument that nothing gives: of a method that acts its bits are all 1 in each second clock, since
+/// whoever drives it may change it while the method is not asked; else it is 0.
+fn idle(method: &Element, port: &Port, clock: u64) -> Word {
+    let Some(zero) = Word::new(port.width, 0) else {
+        return Word::bit(false);
+    };
+    if !method.role.is_value() && clock % 2 == 1 {
+        zero.not()
+    } else {
+        zero
     }
 }
 
 /// Adds the arguments of a method, and whether it is asked.
 fn push_inputs(
     words: &mut Vec<Word>,
-    ports: &[Port],
+    method: &Element,
     asked: bool,
     given: &[Word],
+    clock: u64,
 ) -> Result<(), OutOfMemory> {
-    for (place, port) in ports.iter().enumerate() {
-        words.push(argument(port, given, place))?;
+    for (place, port) in method.arguments.as_slice().iter().enumerate() {
+        words.push(
+            at(given, place)
+                .copied()
+                .unwrap_or(idle(method, port, clock)),
+        )?;
     }
     words.push(Word::bit(asked))?;
     Ok(())
@@ -36,17 +46,18 @@ fn given_to(requests: &Requests, number: usize, asked: bool) -> &[Word] {
     }
 }
 
-/// The words of all inputs: of each method of the top its arguments, and whether it is asked.
+/// The words of all inputs in a clock, counted from 1: of each method of the top its arguments, and whether it is asked.
 pub(crate) fn inputs(
     alloc: Global,
     design: &Design,
     requests: &Requests,
+    clock: u64,
 ) -> Result<Vec<Word>, OutOfMemory> {
     let mut words = Vec::new(alloc);
     for (number, asked) in requests.asked.as_slice().iter().enumerate() {
         if let Some(method) = at(design.elements.as_slice(), number) {
             let given = given_to(requests, number, *asked);
-            push_inputs(&mut words, method.arguments.as_slice(), *asked, given)?;
+            push_inputs(&mut words, method, *asked, given, clock)?;
         }
     }
     Ok(words)

@@ -43,8 +43,14 @@ impl Run {
         })
     }
 
-    /// Runs the clock of a line of the trace, and tells whether the net agrees.
-    fn run_line(&mut self, alloc: Global, compiled: &Compiled, text: &[u8]) -> Result<bool>
+    /// Runs the clock of a line of the trace, counted from 1, and tells whether the net agrees.
+    fn run_line(
+        &mut self,
+        alloc: Global,
+        compiled: &Compiled,
+        text: &[u8],
+        number: u64,
+    ) -> Result<bool>
         requires compiled { BelongTogether compiled.now }
         requires fits { FitsRun compiled.now.design self.old }
         ensures fits { FitsRun compiled.now.design self.new }
@@ -56,7 +62,7 @@ impl Run {
         }
         let before = shown(alloc, design, &self.state)?;
         let registers = filled(alloc, net.registers.as_slice(), &before)?;
-        let inputs = inputs(alloc, design, &self.requests)?;
+        let inputs = inputs(alloc, design, &self.requests, number)?;
         let values = evaluated(alloc, net, &registers, &inputs)?;
         clock(
             alloc,
@@ -80,7 +86,7 @@ pub(crate) fn outcome_of(alloc: Global, compiled: &Compiled, trace: &str) -> Res
     let mut clocks = 0u64;
     for text in trace.split('\n') {
         clocks = clocks.saturating_add(1);
-        if !run.run_line(alloc, compiled, text.as_bytes())? {
+        if !run.run_line(alloc, compiled, text.as_bytes(), clocks)? {
             return Ok(Outcome::Differ(clocks));
         }
     }
