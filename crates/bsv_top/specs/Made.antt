@@ -31,22 +31,26 @@ pub record IsMade (words : List (List ℕ)) (n : ℕ) : Type 0 where
 abbrev pub line : List ℕ → List ℕ
 line text = text ++ line_feed
 
--- `n` queues in a row: a counter goes into the first one, each rule moves a word on to the next queue and adds to it, and
+-- queues in a row, as many as the size: a counter goes into the first one, each rule moves a word on to the next queue and adds to it, and
 -- what comes out of the last one is summed
-unfoldable pub made_text : ℕ → List ℕ
-made_text n =
+unfoldable pub text_with : List ℕ → List ℕ
+text_with size =
     line (codes "import FIFO::*;")
     ++ line (codes "module mkMade(Empty);")
     ++ line (codes "Reg#(Bit#(32)) c <- mkReg(0);")
     ++ line (codes "Reg#(Bit#(32)) s <- mkReg(0);")
-    ++ line (codes "FIFO#(Bit#(32)) f[" ++ decimal n ++ codes "];")
-    ++ line (codes "for (Integer i = 0; i < " ++ decimal n ++ codes "; i = i + 1) f[i] <- mkFIFO;")
+    ++ line (codes "FIFO#(Bit#(32)) f[" ++ size ++ codes "];")
+    ++ line (codes "for (Integer i = 0; i < " ++ size ++ codes "; i = i + 1) f[i] <- mkFIFO;")
     ++ line (codes "rule feed; f[0].enq(c); c <= c + 1; endrule")
-    ++ line (codes "for (Integer i = 1; i < " ++ decimal n ++ codes "; i = i + 1) begin")
+    ++ line (codes "for (Integer i = 1; i < " ++ size ++ codes "; i = i + 1) begin")
     ++ line (codes "rule move; f[i].enq(f[i - 1].first + fromInteger(i)); f[i - 1].deq; endrule")
     ++ line (codes "end")
-    ++ line (codes "rule drain; s <= s + f[" ++ decimal n ++ codes " - 1].first; f[" ++ decimal n ++ codes " - 1].deq; endrule")
+    ++ line (codes "rule drain; s <= s + f[" ++ size ++ codes " - 1].first; f[" ++ size ++ codes " - 1].deq; endrule")
     ++ line (codes "endmodule")
+
+-- with the size in decimal
+unfoldable pub made_text : ℕ → List ℕ
+made_text n = text_with (decimal n)
 
 -- the one file that there is, and its module
 unfoldable pub made_file : List ℕ
@@ -88,14 +92,18 @@ sum_line (Some word) = codes "s = " ++ constant_text word ++ line_feed
 
 -- six lines: the size, how many elements and primitive instances there are, the clocks, how many elements fired over all
 -- of them, and the state of the register `s`
-unfoldable pub summary_of : ℕ → ℕ → ℕ → ℕ → Option Bits → List ℕ
-summary_of n elements instances fired sum =
-    codes "made " ++ decimal n ++ line_feed
-    ++ codes "elements " ++ decimal elements ++ line_feed
-    ++ codes "instances " ++ decimal instances ++ line_feed
+unfoldable pub summary_with : List ℕ → List ℕ → List ℕ → List ℕ → List ℕ → List ℕ
+summary_with size elements instances fired sum =
+    codes "made " ++ size ++ line_feed
+    ++ codes "elements " ++ elements ++ line_feed
+    ++ codes "instances " ++ instances ++ line_feed
     ++ codes "clocks 100" ++ line_feed
-    ++ codes "fired " ++ decimal fired ++ line_feed
-    ++ sum_line sum
+    ++ codes "fired " ++ fired ++ line_feed
+    ++ sum
+
+-- with the numbers in decimal
+unfoldable pub summary_of : ℕ → ℕ → ℕ → ℕ → Option Bits → List ℕ
+summary_of n elements instances fired sum = summary_with (decimal n) (decimal elements) (decimal instances) (decimal fired) (sum_line sum)
 
 -- the summary of a run
 abbrev pub summary : ℕ → Subject → List Row → List ℕ

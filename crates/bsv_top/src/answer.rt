@@ -27,7 +27,7 @@ pub(crate) fn answer<R: Threads + Sync, F: Files, O: Sink>(
     files: &mut F,
     out: &mut O,
 ) -> Result<(), Stop>
-    requires { (n : ℕ) → form.entry ≡ Form.Made n → (1 ≤ n) × (n ≤ 400) }
+    requires { (n : ℕ) → form ≡ Form.Made n → (1 ≤ n) × (n ≤ 400) }
     ensures done { OnOk result ((contents : List ℕ → List ℕ)
         → (F.reading files.old).contents ≡ Some contents
         → IsDoneBy (words_of form.entry) contents

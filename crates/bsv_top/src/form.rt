@@ -2,7 +2,7 @@ ghost use Rattle.std.specs.Prelude.{◌≡◌, ◌≤◌, ℕ, List, map, string
 ghost use Rattle.std.specs.Prelude.{IfNone, IfSome};
 ghost use Rattle.bsv_top.specs.Answers.{HasNoForm, sim_words};
 ghost use Rattle.bsv_top.specs.Forms.{planning_words, words_of};
-ghost use Rattle.bsv_top.specs.Made.{IsMade};
+ghost use Rattle.bsv_top.specs.Made.{made_words};
 ghost use Rattle.bsv_top.specs.Products.{command_of, product_words};
 ghost use Rattle.bsv_top.specs.declared.form.Product.{Product as TheProduct};
 
@@ -115,8 +115,10 @@ fn size_said(text: &str) -> Option<u32>
 
 /// The size that the words after the program's name ask for, where they ask for a made design.
 fn size_of(words: &[String]) -> Option<u32>
-    ensures size { IfSome result (λ size. IsMade (map string_bytes words.now) size) }
-    ensures none { IfNone result ((n : ℕ) → IsMade (map string_bytes words.now) n → ⊥) }
+    ensures size { IfSome result (λ size. (map string_bytes words.now ≡ made_words size)
+        × (1 ≤ size) × (size ≤ 400)) }
+    ensures none { IfNone result ((n : ℕ) → 1 ≤ n → n ≤ 400
+        → map string_bytes words.now ≡ made_words n → ⊥) }
 {
     let [command, size] = words else {
         return None;

@@ -91,7 +91,10 @@ fn run_clocks(
             &requests,
             &mut fired,
         )?;
-        count = count.checked_add(fired.list.len() as u64).ok_or(OutOfMemory)?;
+        let Some(more) = count.checked_add(fired.list.len() as u64) else {
+            return Err(OutOfMemory);
+        };
+        count = more;
     }
     Ok(count)
 }
