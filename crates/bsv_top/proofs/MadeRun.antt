@@ -1,6 +1,6 @@
 -- The made design is run for 100 clocks without requests.
 use Rattle.std.specs.Prelude.{replicate, Option}
-use Rattle.std.proofs.Common.{◌≡◌, ◌∙◌, ℕ, zero, suc, ◌+◌, ◌≤◌, false, List, [], ◌∷◌, ◌++◌, map, length, Result, Err, codes, refl, sym, ap, subst, arith, append-nil}
+use Rattle.std.proofs.Common.{◌≡◌, ◌∙◌, ℕ, zero, suc, ◌+◌, ◌≤◌, false, List, [], ◌∷◌, ◌++◌, map, length, Result, Err, codes, refl, sym, ap, subst, arith}
 use Rattle.std.proofs.lemmas.List.{length-map, replicate_more}
 use Rattle.bsv_bits.specs.Words.{Bits}
 use Rattle.bsv_io.specs.Writing.{Writing, appended, AppendsPrefix}
@@ -112,10 +112,8 @@ fired_more c clocks count more s after fired q h asked happens is =
 
 -- ---- the summary
 
-pub texts_same : (a b c d e a' b' c' d' e' : List ℕ) → a ≡ a' → b ≡ b' → c ≡ c' → d ≡ d' → e ≡ e' → summary_with a b c d (e ++ []) ≡ summary_with a' b' c' d' e'
-texts_same a b c d e a' b' c' d' e' first second third fourth fifth =
-    let last = append-nil e in
-    cc
+pub texts_same : (a b c d e a' b' c' d' e' : List ℕ) → a ≡ a' → b ≡ b' → c ≡ c' → d ≡ d' → e ≡ e' → summary_with a b c d e ≡ summary_with a' b' c' d' e'
+texts_same a b c d e a' b' c' d' e' first second third fourth fifth = cc
 
 counts_same : (n k m j i o : ℕ) (w v : Option Bits) → k ≡ j → m ≡ i → n ≡ o → w ≡ v → (size : ℕ) → summary_of size k m n w ≡ summary_of size j i o v
 counts_same n k m j i o w v first second third fourth size = cc

@@ -28,25 +28,27 @@ pub record IsMade (words : List (List ℕ)) (n : ℕ) : Type 0 where
 
 -- ---- the text
 
-abbrev pub line : List ℕ → List ℕ
-line text = text ++ line_feed
+-- pieces of a text, one after the other
+abbrev pub text_of : List (List ℕ) → List ℕ
+text_of [] = []
+text_of (piece ∷ pieces) = piece ++ text_of pieces
 
--- queues in a row, as many as the size: a counter goes into the first one, each rule moves a word on to the next queue and adds to it, and
--- what comes out of the last one is summed
+-- queues in a row, as many as the size: a counter goes into the first one, each rule moves a word on to the next queue and
+-- adds to it, and what comes out of the last one is summed
 unfoldable pub text_with : List ℕ → List ℕ
-text_with size =
-    line (codes "import FIFO::*;")
-    ++ line (codes "module mkMade(Empty);")
-    ++ line (codes "Reg#(Bit#(32)) c <- mkReg(0);")
-    ++ line (codes "Reg#(Bit#(32)) s <- mkReg(0);")
-    ++ line (codes "FIFO#(Bit#(32)) f[" ++ size ++ codes "];")
-    ++ line (codes "for (Integer i = 0; i < " ++ size ++ codes "; i = i + 1) f[i] <- mkFIFO;")
-    ++ line (codes "rule feed; f[0].enq(c); c <= c + 1; endrule")
-    ++ line (codes "for (Integer i = 1; i < " ++ size ++ codes "; i = i + 1) begin")
-    ++ line (codes "rule move; f[i].enq(f[i - 1].first + fromInteger(i)); f[i - 1].deq; endrule")
-    ++ line (codes "end")
-    ++ line (codes "rule drain; s <= s + f[" ++ size ++ codes " - 1].first; f[" ++ size ++ codes " - 1].deq; endrule")
-    ++ line (codes "endmodule")
+text_with size = text_of (
+    codes "import FIFO::*;" ∷ line_feed
+    ∷ codes "module mkMade(Empty);" ∷ line_feed
+    ∷ codes "Reg#(Bit#(32)) c <- mkReg(0);" ∷ line_feed
+    ∷ codes "Reg#(Bit#(32)) s <- mkReg(0);" ∷ line_feed
+    ∷ codes "FIFO#(Bit#(32)) f[" ∷ size ∷ codes "];" ∷ line_feed
+    ∷ codes "for (Integer i = 0; i < " ∷ size ∷ codes "; i = i + 1) f[i] <- mkFIFO;" ∷ line_feed
+    ∷ codes "rule feed; f[0].enq(c); c <= c + 1; endrule" ∷ line_feed
+    ∷ codes "for (Integer i = 1; i < " ∷ size ∷ codes "; i = i + 1) begin" ∷ line_feed
+    ∷ codes "rule move; f[i].enq(f[i - 1].first + fromInteger(i)); f[i - 1].deq; endrule" ∷ line_feed
+    ∷ codes "end" ∷ line_feed
+    ∷ codes "rule drain; s <= s + f[" ∷ size ∷ codes " - 1].first; f[" ∷ size ∷ codes " - 1].deq; endrule" ∷ line_feed
+    ∷ codes "endmodule" ∷ line_feed ∷ [])
 
 -- with the size in decimal
 unfoldable pub made_text : ℕ → List ℕ
@@ -93,13 +95,13 @@ sum_line (Some word) = codes "s = " ++ constant_text word ++ line_feed
 -- six lines: the size, how many elements and primitive instances there are, the clocks, how many elements fired over all
 -- of them, and the state of the register `s`
 unfoldable pub summary_with : List ℕ → List ℕ → List ℕ → List ℕ → List ℕ → List ℕ
-summary_with size elements instances fired sum =
-    codes "made " ++ size ++ line_feed
-    ++ codes "elements " ++ elements ++ line_feed
-    ++ codes "instances " ++ instances ++ line_feed
-    ++ codes "clocks 100" ++ line_feed
-    ++ codes "fired " ++ fired ++ line_feed
-    ++ sum
+summary_with size elements instances fired sum = text_of (
+    codes "made " ∷ size ∷ line_feed
+    ∷ codes "elements " ∷ elements ∷ line_feed
+    ∷ codes "instances " ∷ instances ∷ line_feed
+    ∷ codes "clocks 100" ∷ line_feed
+    ∷ codes "fired " ∷ fired ∷ line_feed
+    ∷ sum ∷ [])
 
 -- with the numbers in decimal
 unfoldable pub summary_of : ℕ → ℕ → ℕ → ℕ → Option Bits → List ℕ

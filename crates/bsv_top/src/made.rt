@@ -1,4 +1,4 @@
-ghost use Rattle.std.specs.Prelude.{◌≡◌, ◌≤◌, ℕ, List, [], ◌∷◌, codes, length, None, Err};
+ghost use Rattle.std.specs.Prelude.{◌≡◌, ◌≤◌, ◌+◌, ℕ, List, [], ◌∷◌, codes, length, None, Err};
 ghost use Rattle.std.specs.Prelude.{IfOk, IfErr, OnOk};
 ghost use Rattle.bsv_design.specs.scheme.Schemes.{kinds_of};
 ghost use Rattle.bsv_design.specs.scheme.Seen.{design_data};
@@ -67,6 +67,13 @@ fn made_files(alloc: Global, size: u32) -> Result<SureFiles, OutOfMemory>
     Ok(SureFiles::new(files))
 }
 
+/// The sum of two counts, where there is a number for it.
+fn sum_of(count: u64, more: usize) -> Result<u64, OutOfMemory>
+    ensures { IfOk result (λ sum. sum ≡ count + more) }
+{
+    count.checked_add(more as u64).ok_or(OutOfMemory)
+}
+
 /// Runs 100 clocks without requests from the opening state, and counts the elements that fire.
 fn run_clocks(
     alloc: Global,
@@ -91,10 +98,7 @@ fn run_clocks(
             &requests,
             &mut fired,
         )?;
-        let Some(more) = count.checked_add(fired.list.len() as u64) else {
-            return Err(OutOfMemory);
-        };
-        count = more;
+        count = sum_of(count, fired.list.as_slice().len())?;
     }
     Ok(count)
 }

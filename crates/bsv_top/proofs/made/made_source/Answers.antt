@@ -5,4 +5,4 @@ use Rattle.bsv_top.proofs.made.made_source.Goals as goal
 
 pub returns : goal.returns
 unfolding made_text text_with
-returns c = IfOk-weaker c.join.result _ _ (λ source h. h ∙ ap text_with (c.as_bytes.ensures.value ∙ c.format.ensures.text)) c.join.ensures
+returns c = IfOk-weaker c.join.result _ _ (λ source h. h ∙ ap text_with (c.as_bytes-size.ensures.value ∙ c.format.ensures.text)) c.join.ensures

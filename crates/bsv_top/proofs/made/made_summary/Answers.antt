@@ -12,11 +12,16 @@ use Rattle.bsv_top.proofs.made.made_summary.Goals as goal
 pub returns-in_err-compiled-clause-stopped : goal.returns-in_err-compiled-clause-stopped
 unfolding made_contents made_file made_top
 returns-in_err-compiled-clause-stopped g c =
-    let p = err_from_is_err_and c.from_residual.result c.from_residual.ensures.1 in
+    let p = err_from_is_err_and c.from_residual-in_err-compiled.result c.from_residual-in_err-compiled.ensures.1 in
     let told = ap (λ (s : SureSource). Some (contents_of s.files)) c.in_ok-files.ensures in
     subst (λ r. IfErr r (λ s. IsMadeStop c.args.size s)) (sym p.1)
     (made_stops {A = Compiled} c.args.size c.in_err-compiled.field-0.0 p.0 p.2 (λ r e. c.in_err-compiled.ensures.refused r e (made_contents c.args.size) told)
     (λ name e. NoFault-MayFault _ _ (NoFault-sure_reading c.in_ok-files.files c.compile.new.files) (c.in_err-compiled.ensures.read_fault name e).0))
+
+pub returns-in_err-text-clause-stopped : goal.returns-in_err-text-clause-stopped
+returns-in_err-text-clause-stopped g c =
+    let p = err_from_is_err_and c.from_residual-in_err-text.result c.from_residual-in_err-text.ensures.1 in
+    subst (λ r. IfErr r (λ s. IsMadeStop c.args.size s)) (sym p.1) (subst (IsMadeStop c.args.size) (sym p.2) tt)
 
 pub returns-clause-done : goal.returns-clause-done
 unfolding made_contents made_file made_top

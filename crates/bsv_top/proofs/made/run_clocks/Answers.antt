@@ -1,4 +1,4 @@
-use Rattle.std.proofs.Common.{sym, subst}
+use Rattle.std.proofs.Common.{ℕ, ◌+◌, List, length, sym, ap, ◌∙◌, subst}
 use Rattle.bsv_design.specs.scheme.Schemes.{kinds_of}
 use Rattle.bsv_design.specs.scheme.Seen.{asking, design_data}
 use Rattle.bsv_design.specs.scheme.States.{FitsKinds}
@@ -17,8 +17,9 @@ loop-clock-init c =
 
 pub loop-clock-preserved : goal.loop-clock-preserved
 loop-clock-preserved c = record {
-  fired = fired_more c.args.compiled.now c.loop-clock._clock c.loop-clock.count c.in-Some.more c.loop-clock.state.parts.items c.clock.new.state.parts.items c.clock.new.fired
-      (asking c.in_ok-requests.requests) c.loop-clock.invariant.fired c.in_ok-requests.ensures.nothing c.in_ok-clock.ensures.happens cc;
+  fired = fired_more c.args.compiled.now c.loop-clock._clock c.loop-clock.count _ c.loop-clock.state.parts.items c.clock.new.state.parts.items c.clock.new.fired
+      (asking c.in_ok-requests.requests) c.loop-clock.invariant.fired c.in_ok-requests.ensures.nothing c.in_ok-clock.ensures.happens
+      (c.in_ok-count.ensures ∙ ap (λ (n : ℕ). c.loop-clock.count + n) (ap (λ (xs : List ℕ). length xs) c.as_slice.ensures.value));
   parts = c.clock.ensures.fits;
   room = c.clock.ensures.room;
 }
