@@ -1,6 +1,5 @@
 -- Two answers of one made design are one.
 use Rattle.std.proofs.Common.{◌≡◌, ◌∙◌, ℕ, ◌+◌, false, List, [], ◌∷◌, length, codes, refl, sym, ap, ap₂, subst}
-use Rattle.bsv_bits.specs.Words.{Bits}
 use Rattle.bsv_prim.specs.declared.part.Part.{Part}
 use Rattle.bsv_design.specs.declared.schedule.Schedule.{Schedule}
 use Rattle.bsv_design.specs.scheme.States.{opening}
@@ -11,12 +10,10 @@ use Rattle.bsv_clock.proofs.Clocks.{clock_fed}
 use Rattle.bsv_clock.proofs.OneRun.{same_runs}
 use Rattle.bsv_clock.proofs.Steadily.{steady_scheme}
 use Rattle.bsv_flow.specs.Compilings.{IsPlanned}
-use Rattle.bsv_flow.specs.Refusals.{refusal_line}
 use Rattle.bsv_flow.specs.Schedulings.{Subject, subject}
 use Rattle.bsv_flow.proofs.Planned.{one_tree_planned, one_made_planned}
 use Rattle.bsv_flow.proofs.Trees as trees
 use Rattle.bsv_top.specs.declared.status.Status.{Status}
-use Rattle.bsv_top.specs.declared.status.Status.TheVariants as status
 use Rattle.bsv_top.specs.Answers as a
 use Rattle.bsv_top.specs.Answers.{MadeAnswer}
 use Rattle.bsv_top.specs.LaidOut.{IsLaidOut}

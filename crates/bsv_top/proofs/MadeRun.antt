@@ -1,6 +1,6 @@
 -- The made design is run for 100 clocks without requests.
 use Rattle.std.specs.Prelude.{replicate, Option}
-use Rattle.std.proofs.Common.{◌≡◌, ◌∙◌, ℕ, zero, suc, ◌+◌, ◌≤◌, false, List, [], ◌∷◌, ◌++◌, map, length, Result, Err, codes, refl, sym, ap, subst, arith}
+use Rattle.std.proofs.Common.{◌≡◌, ◌∙◌, ℕ, zero, suc, ◌+◌, ◌≤◌, false, List, [], ◌∷◌, ◌++◌, length, Result, Err, codes, refl, sym, ap, subst, arith}
 use Rattle.std.proofs.lemmas.List.{length-map, replicate_more}
 use Rattle.bsv_bits.specs.Words.{Bits}
 use Rattle.bsv_io.specs.Writing.{Writing, appended, AppendsPrefix}

@@ -160,12 +160,12 @@ makes_by : (command size : List ℕ) (b : Bool) → bytes_eq command (codes "mad
 unfolding second_of
 makes_by command size true same = elim (sized size 400) [
   | inl found ↦ make found.0 (record {
-      words_are = ap (λ (first : List ℕ). first ∷ size ∷ []) ((bytes_eq-Decides command (codes "made")).0 same) ∙ ap (λ (text : List ℕ). codes "made" ∷ text ∷ []) found.3;
-      least = found.1;
-      most = found.2;
-    })
+    words_are = ap (λ (first : List ℕ). first ∷ size ∷ []) ((bytes_eq-Decides command (codes "made")).0 same) ∙ ap (λ (text : List ℕ). codes "made" ∷ text ∷ []) found.3;
+    least = found.1;
+    most = found.2;
+  })
   | inr unsized ↦ none (no_form (command ∷ size ∷ []) (λ p f t h. let no_value : ⊥ = cc in no_value) (λ f t r h. let no_value : ⊥ = cc in no_value)
-    (λ n h. unsized n h.least h.most (ap second_of h.words_are)))
+      (λ n h. unsized n h.least h.most (ap second_of h.words_are)))
 ]
 makes_by command size false different = neither (command ∷ size ∷ [])
     (λ p f t h. let no_value : ⊥ = cc in no_value) (λ f t r h. let no_value : ⊥ = cc in no_value)

@@ -38,20 +38,28 @@ fn join(alloc: Global, pieces: &[&[u8]]) -> Result<Vec<u8>, OutOfMemory>
     Ok(text)
 }
 
-/// The text of the made design of a size: `n` queues in a row.
+/// The text of the made design of the size `n`: so many queues in a row, with a rule between each two.
 #[tactic(auto, unfolding(crate::specs::Made::made_text))]
 pub fn made_source(alloc: Global, n: u32) -> Result<Vec<u8>, OutOfMemory>
     ensures { IfOk result (λ source. source.items ≡ made_text n) }
 {
     let mut digits = Buffer::new();
     let size = digits.format(n).as_bytes();
-    let head = b"import FIFO::*;\nmodule mkMade(Empty);\nReg#(Bit#(32)) c <- mkReg(0);\nReg#(Bit#(32)) s <- mkReg(0);\nFIFO#(Bit#(32)) f[";
+    let head = b"import FIFO::*;\nmodule mkMade(Empty);\nReg#(Bit#(32)) c <- mkReg(0);\n";
+    let sum = b"Reg#(Bit#(32)) s <- mkReg(0);\nFIFO#(Bit#(32)) f[";
     let queues = b"];\nfor (Integer i = 0; i < ";
-    let feed = b"; i = i + 1) f[i] <- mkFIFO;\nrule feed; f[0].enq(c); c <= c + 1; endrule\nfor (Integer i = 1; i < ";
-    let moves = b"; i = i + 1) begin\nrule move; f[i].enq(f[i - 1].first + fromInteger(i)); f[i - 1].deq; endrule\nend\nrule drain; s <= s + f[";
+    let feed = b"; i = i + 1) f[i] <- mkFIFO;\nrule feed; f[0].enq(c); c <= c + 1; endrule\n";
+    let more = b"for (Integer i = 1; i < ";
+    let begin = b"; i = i + 1) begin\nrule move; f[i].enq(f[i - 1].first + fromInteger(i)); ";
+    let drain = b"f[i - 1].deq; endrule\nend\nrule drain; s <= s + f[";
     let last = b" - 1].first; f[";
     let end = b" - 1].deq; endrule\nendmodule\n";
-    join(alloc, &[head, size, queues, size, feed, size, moves, size, last, size, end])
+    join(
+        alloc,
+        &[
+            head, sum, size, queues, size, feed, more, size, begin, drain, size, last, size, end,
+        ],
+    )
 }
 
 /// The one file that there is: the text of the made design.
@@ -75,11 +83,7 @@ fn sum_of(count: u64, more: usize) -> Result<u64, OutOfMemory>
 }
 
 /// Runs 100 clocks without requests from the opening state, and counts the elements that fire.
-fn run_clocks(
-    alloc: Global,
-    compiled: &Compiled,
-    state: &mut State,
-) -> Result<u64, OutOfMemory>
+fn run_clocks(alloc: Global, compiled: &Compiled, state: &mut State) -> Result<u64, OutOfMemory>
     requires compiled { BelongTogether compiled.now }
     requires start { state.old.parts.items
         ≡ opening (kinds_of (design_data compiled.now.design)) }

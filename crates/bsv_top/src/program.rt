@@ -171,9 +171,10 @@ pub fn run_surely<R: Threads + Sync>(
 /// but for the place of a `Syntax`. The output is left open where words ask for Verilog: two modules may
 /// carry one tree.
 ///
-/// Words that ask for a run, over a trace or of a made design, have an answer where what is accepted can be laid out, and words that ask for
-/// Verilog where it has a module. The program builds the module that it puts: so it has built one wherever
-/// such words are done, and of a tree that had none it could tell nothing but want of memory.
+/// Words that ask for a run, over a trace or of a made design, have an answer where what is accepted can be
+/// laid out, and words that ask for Verilog where it has a module. The program builds the module that it
+/// puts: so it has built one wherever such words are done, and of a tree that had none it could tell nothing
+/// but want of memory.
 ///
 /// Words that ask for a schedule, and files that have one, have it as their answer; words that ask for
 /// Verilog have the text of every module that carries the tree; and words that ask for a run, files that are

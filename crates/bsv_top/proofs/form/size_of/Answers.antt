@@ -1,4 +1,4 @@
-use Rattle.std.proofs.Common.{◌≡◌, ◌≤◌, ℕ, Option, None, Some, IfSome, map, string_bytes, codes, sym, ap, ◌∙◌, arith}
+use Rattle.std.proofs.Common.{◌≡◌, ℕ, Option, None, Some, IfSome, map, string_bytes, codes, sym, ap, ◌∙◌, arith}
 use Rattle.bsv_top.proofs.Items.{same_two, two_items, text_is}
 use Rattle.bsv_top.proofs.form.size_of.Goals as goal
 

@@ -1,4 +1,4 @@
-use Rattle.std.proofs.Common.{ℕ, List, length, codes, decimal, ap, ◌∙◌}
+use Rattle.std.proofs.Common.{List, length, codes, decimal, ap, ◌∙◌}
 use Rattle.std.proofs.lemmas.Result.{IfOk-weaker}
 use Rattle.bsv_prim.specs.declared.part.Part.{Part}
 use Rattle.bsv_design.specs.declared.design.NamedPart.{NamedPart}
