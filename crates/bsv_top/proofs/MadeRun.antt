@@ -40,7 +40,7 @@ use Rattle.bsv_top.specs.Made.{IsMade, fired_count, held_at, made_contents, made
 use Rattle.bsv_top.specs.MadeRuns.{HasFired, IsMadeStop, IsSummary}
 use Rattle.bsv_top.specs.Outcomes.{IsDoneBy, OutputStarted, started}
 use Rattle.bsv_top.specs.Stops.{IsStopOf, stop_of}
-use Rattle.bsv_top.specs.Running.{state_after}
+use Rattle.bsv_top.specs.Reports.{state_after}
 use Rattle.bsv_top.proofs.Grounds as grounds
 use Rattle.bsv_top.proofs.Happening.{some_run}
 use Rattle.bsv_top.proofs.Named.{kinds_are, outlines_are}

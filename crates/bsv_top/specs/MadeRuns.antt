@@ -10,7 +10,8 @@ use Rattle.bsv_top.specs.declared.stop.Stop.{Stop}
 use Rattle.bsv_top.specs.declared.stop.Stop.TheVariants as stop
 use Rattle.bsv_top.specs.Answers.{MadeAnswer}
 use Rattle.bsv_top.specs.Made.{fired_count, nothing_for, summary}
-use Rattle.bsv_top.specs.Running.{its_subject, state_after}
+use Rattle.bsv_top.specs.Reports.{state_after}
+use Rattle.bsv_top.specs.Running.{its_subject}
 
 -- so many clocks without requests were run from the opening state; so many elements fired, and this is the state after them
 pub record HasFired (c : Compiled) (clocks count : ℕ) (s : List Part) : Type 0 where
