@@ -55,7 +55,7 @@ pub fn run<R: Threads + Sync, F: Files, O: Sink, E: Sink>(
         → (result ≡ Status.Usage ⊎ result ≡ Status.WriteFault)
         × (F.reading files.new ≡ F.reading files.old) × (O.writing out.new ≡ O.writing out.old) }
 
-    // A made design is one that no file tells of: nothing is read.
+    // Of a made design no file tells anything: nothing is read.
     ensures unread { (n : ℕ) → IsMade (map string_bytes words.now) n
         → F.reading files.new ≡ F.reading files.old }
 
@@ -80,8 +80,8 @@ pub fn run<R: Threads + Sync, F: Files, O: Sink, E: Sink>(
         (E.writing err.new) }
 
     // Nothing at all is put to the output where a file is refused; and nothing where memory is
-    // wanting, but by a run over a trace: it may want memory after it started, and then it put a prefix
-    // of an answer's output, as above.
+    // wanting, but by a run over a trace: it may want memory after it started, and then it put a
+    // prefix of an answer's output, as above.
     ensures refused { result ≡ Status.Refused → O.writing out.new ≡ O.writing out.old }
     ensures no_memory { result ≡ Status.OutOfMemory
         → (E.writing err.new ≡ appended no_memory_line (E.writing err.old))
