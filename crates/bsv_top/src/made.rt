@@ -39,7 +39,6 @@ fn join(alloc: Global, pieces: &[&[u8]]) -> Result<Vec<u8>, OutOfMemory>
 }
 
 /// The text of the made design of the size `n`: so many queues in a row, with a rule between each two.
-#[tactic(auto, unfolding(crate::specs::Made::made_text))]
 pub fn made_source(alloc: Global, n: u32) -> Result<Vec<u8>, OutOfMemory>
     ensures { IfOk result (λ source. source.items ≡ made_text n) }
 {
@@ -149,7 +148,6 @@ fn sum_line(alloc: Global, sum: Option<Word>) -> Result<Vec<u8>, OutOfMemory>
 }
 
 /// The lines of a summary.
-#[tactic(auto, unfolding(crate::specs::Made::summary_of))]
 fn summary(
     alloc: Global,
     size: u32,
