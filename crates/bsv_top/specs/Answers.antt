@@ -74,8 +74,9 @@ printed tree made = schedule_text (element_name (tree_scheme tree)) made
 abbrev pub IsNoProgram : Loaded → Type 0
 IsNoProgram l = (program : Typed) → IsProgram l program → ⊥
 
--- The same for a made design, of which no file tells anything: the summary of a run of 100 clocks without requests. Its text
--- is accepted. This is not proved but tried: so the definition says as well what is answered of a text that is refused.
+-- What is answered to `made N`, whatever the files say: the summary of a run of 100 clocks without requests. That the text
+-- is accepted is tried for each N, and not proved: so the definition says as well what is answered where it is refused, or
+-- typed as no program.
 pub data MadeAnswer (n : ℕ) : Status → List ℕ → List ℕ → Type 0 where
   refused : (r : Refusal) → Rejects made_file (made_contents n) made_top r → MadeAnswer n status.Refused [] (refusal_line r)
   no_program : (l : Loaded) → IsBuilt made_file (made_contents n) made_top l → IsNoProgram l
