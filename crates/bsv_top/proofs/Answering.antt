@@ -19,8 +19,8 @@ use Rattle.bsv_top.specs.Answers as a
 use Rattle.bsv_top.specs.Answers.{Answer, HasAnswer, sim_words, trace_fault_line}
 use Rattle.bsv_top.specs.LaidOut.{IsLaidOut}
 use Rattle.bsv_top.specs.Outcomes.{OutputStarted, started}
-use Rattle.bsv_top.specs.Reports.{report}
-use Rattle.bsv_top.specs.Running.{IsStarted, state_after}
+use Rattle.bsv_top.specs.Reports.{report, state_after}
+use Rattle.bsv_top.specs.Running.{IsStarted}
 use Rattle.bsv_top.specs.Traces.{AreAsked, AreAskedToBad, IsClean, lines_of}
 use Rattle.bsv_top.proofs.Asked.{Verdict, asked_append, bad_append, total, verdict}
 use Rattle.bsv_top.proofs.Grounds as grounds

@@ -24,7 +24,7 @@ use Rattle.bsv_clock.specs.Settling.{end_of, fired_in, fires, stops_in, the_cloc
 use Rattle.bsv_clock.proofs.Clocks.{clock_fed, only_after, some_clock}
 use Rattle.bsv_clock.proofs.Members.{found, is_found, kept_in, once_long}
 use Rattle.bsv_clock.proofs.Steadily.{steady_scheme}
-use Rattle.bsv_top.specs.Running.{state_after}
+use Rattle.bsv_top.specs.Reports.{state_after}
 use Rattle.bsv_clock.proofs.Stopping.{execution_order, stops_true, stops_within, true_stops, urgency_order}
 use Rattle.bsv_graph.proofs.Below.{count_below}
 

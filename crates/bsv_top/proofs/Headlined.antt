@@ -17,7 +17,7 @@ use Rattle.bsv_top.specs.declared.status.Status.TheVariants as status
 use Rattle.bsv_top.specs.declared.stop.Stop.{Stop}
 use Rattle.bsv_top.specs.declared.stop.Stop.TheVariants as stop
 use Rattle.bsv_top.specs.Answers as a
-use Rattle.bsv_top.specs.Answers.{Answer, Asks, trace_fault_line}
+use Rattle.bsv_top.specs.Answers.{Answer, Asks, MadeAnswer, trace_fault_line}
 use Rattle.bsv_top.specs.Headline.{Headline, IsRunOver}
 use Rattle.bsv_top.specs.LaidOut.{IsLaidOut}
 use Rattle.bsv_top.specs.Outcomes.{Accepts, IsAccepted}
@@ -69,11 +69,18 @@ module _ (words : List (List ℕ)) (contents : List ℕ → List ℕ) where
       let here = subst (λ (t : List ℕ). IsPlanned file contents t x.tree x.made) same.1 (subst (λ (f : List ℕ). IsPlanned f contents x.top x.tree x.made) same.0 x.planned) in
       headline contents file top tree made planned (subst IsLaidOut (one_tree_planned file contents top x.tree tree x.made made here planned) x.laid)
 
+  -- a made design has no bad line
+  made_whole : (n : ℕ) (s : Status) (output text : List ℕ) → MadeAnswer n s output text → s ≡ status.TraceFault → ⊥
+  made_whole n s output text (a.MadeAnswer.refused r h) e = let no_value : ⊥ = cc in no_value
+  made_whole n s output text (a.MadeAnswer.no_program l built none) e = let no_value : ⊥ = cc in no_value
+  made_whole n s output text (a.MadeAnswer.done tree made rows p laid runs) e = let no_value : ⊥ = cc in no_value
+
   -- what has a report up to a bad line is accepted
   accepted_at : (s : Status) (output text : List ℕ) → Answer words contents s output text → s ≡ status.TraceFault → IsAccepted words contents
   accepted_at s output text (a.Answer.usage none) e = absurd (let n : ⊥ = cc in n)
   accepted_at s output text (a.Answer.refused r k h) e = absurd (let n : ⊥ = cc in n)
   accepted_at s output text (a.Answer.no_program l k built none) e = absurd (let n : ⊥ = cc in n)
+  accepted_at s output text (a.Answer.made is h) e = absurd (made_whole _ s output text h e)
   accepted_at s output text (a.Answer.scheduled tree made is p) e = absurd (let n : ⊥ = cc in n)
   accepted_at s output text (a.Answer.written tree made v is p has) e = absurd (let n : ⊥ = cc in n)
   accepted_at s output text (a.Answer.done tree made qs rows is p laid well clean runs) e = absurd (let n : ⊥ = cc in n)

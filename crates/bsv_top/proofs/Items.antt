@@ -3,6 +3,13 @@ use Rattle.std.proofs.Common.{◌≡◌, ℕ, Bool, true, false, not, List, [], 
 use Rattle.std.specs.Str.{bytes_eq}
 use Rattle.std.proofs.lemmas.Slice.Eq.{bytes_eq-Decides}
 
+-- a list of two has its items
+pub two_items : {A : Type 0} (xs : List A) (a b : A) → length xs ≡ 2 → a ≡ get_or xs 0 a → b ≡ get_or xs 1 b → xs ≡ a ∷ b ∷ []
+two_items [] a b len first second = absurd (omega (arith, len))
+two_items (p ∷ []) a b len first second = absurd (omega (arith, len))
+two_items (p ∷ q ∷ []) a b len first second = cc
+two_items (p ∷ q ∷ r ∷ rest) a b len first second = absurd (omega (arith, len))
+
 -- a list of three has its items
 pub three_items : {A : Type 0} (xs : List A) (a b c : A) → length xs ≡ 3 → a ≡ get_or xs 0 a → b ≡ get_or xs 1 b → c ≡ get_or xs 2 c → xs ≡ a ∷ b ∷ c ∷ []
 three_items [] a b c len first second third = absurd (omega (arith, len))
@@ -10,6 +17,10 @@ three_items (p ∷ []) a b c len first second third = absurd (omega (arith, len)
 three_items (p ∷ q ∷ []) a b c len first second third = absurd (omega (arith, len))
 three_items (p ∷ q ∷ r ∷ []) a b c len first second third = cc
 three_items (p ∷ q ∷ r ∷ s ∷ rest) a b c len first second third = absurd (omega (arith, len))
+
+-- lists of two with the same items
+pub same_two : {A : Type 0} (a b x y : A) → a ≡ x → b ≡ y → a ∷ b ∷ [] ≡ x ∷ y ∷ []
+same_two a b x y first second = cc
 
 -- lists of three with the same items
 pub same_three : {A : Type 0} (a b c x y z : A) → a ≡ x → b ≡ y → c ≡ z → a ∷ b ∷ c ∷ [] ≡ x ∷ y ∷ z ∷ []

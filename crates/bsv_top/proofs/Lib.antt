@@ -8,6 +8,8 @@ mod Items
 mod Grounds
 mod Lifting
 mod Answering
+mod MadeRun
+mod MadeOnce
 mod Decides
 mod Spelled
 mod OneAnswer

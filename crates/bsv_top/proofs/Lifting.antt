@@ -53,7 +53,7 @@ continues_to g S T made al s [] (row ∷ rows) h = absurd h
 continues_to g S T made al s (q ∷ qs) [] h = absurd h
 continues_to g S T made al s (q ∷ qs) (row ∷ rows) h = (happens_to g S T made q s row.fired row.after al h.0, continues_to g S T made al row.after qs rows h.1)
 
-runs_to : (g : Bool) (S T : Scheme) (made : Schedule) → AreAlike S T → (qs : List Asking) (rows : List Row) → Runs g S made qs rows → Runs g T made qs rows
+pub runs_to : (g : Bool) (S T : Scheme) (made : Schedule) → AreAlike S T → (qs : List Asking) (rows : List Row) → Runs g S made qs rows → Runs g T made qs rows
 runs_to g S T made al qs rows h =
     continues_to g S T made al (opening T.kinds) qs rows (subst (λ (ks : List Kind). Continues g S made (opening ks) qs rows) al.kinds h)
 

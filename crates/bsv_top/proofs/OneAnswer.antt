@@ -34,15 +34,17 @@ use Rattle.bsv_top.specs.declared.form.Product.TheVariants as product
 use Rattle.bsv_top.specs.declared.status.Status.{Status}
 use Rattle.bsv_top.specs.declared.status.Status.TheVariants as status
 use Rattle.bsv_top.specs.Answers as a
-use Rattle.bsv_top.specs.Answers.{Answer, Asks, HasNoForm, IsNoProgram, schedule_words, sim_words, verilog_words, printed, no_memory_line, trace_fault_line, usage_line}
+use Rattle.bsv_top.specs.Answers.{Answer, Asks, HasNoForm, MadeAnswer, IsNoProgram, schedule_words, sim_words, verilog_words, printed, no_memory_line, trace_fault_line, usage_line}
 use Rattle.bsv_top.specs.LaidOut.{IsLaidOut}
+use Rattle.bsv_top.specs.Made.{IsMade}
 use Rattle.bsv_top.specs.OneAnswer.{AsksNoVerilog, IsSameText}
 use Rattle.bsv_top.specs.Reports.{clocks_text, report}
 use Rattle.bsv_top.specs.Traces.{IsClean, HasBadLine, lines_of}
 use Rattle.bsv_top.proofs.Asked.{asked_once, bad_once, not_both}
 use Rattle.bsv_top.proofs.Decides.{not_refused, not_other}
 use Rattle.bsv_top.proofs.Grounds as grounds
-use Rattle.bsv_top.proofs.Spelled.{forms_apart, products_apart, same_asked, same_sim}
+use Rattle.bsv_top.proofs.MadeOnce.{made_once}
+use Rattle.bsv_top.proofs.Spelled.{forms_apart, made_asks, products_apart, same_asked, same_sim, same_size}
 
 -- ---- reports of runs that tell the same
 
@@ -232,7 +234,8 @@ module _ (words : List (List ℕ)) (contents : List ℕ → List ℕ) where
       subst (λ (x : List ℕ). Tells words contents file x s output text) same.1 (subst (λ (x : List ℕ). Tells words contents x t s output text) same.0 h)
 
   told : (file top : List ℕ) (s : Status) (output text : List ℕ) → Asks words file top → Answer words contents s output text → Tells words contents file top s output text
-  told file top s output text asks (a.Answer.usage none) = absurd (none file top asks)
+  told file top s output text asks (a.Answer.usage none) = absurd (none.asks_none file top asks)
+  told file top s output text asks (a.Answer.made is h) = absurd (made_asks words _ file top is asks)
   told file top s output text asks (a.Answer.refused {file = f} {top = t} r k h) = tells_at f t file top s output text (same_asked words f t file top k asks) (Tells.refused r h)
   told file top s output text asks (a.Answer.no_program {file = f} {top = t} l k built none) =
       tells_at f t file top s output text (same_asked words f t file top k asks) (Tells.no_program l built none)
@@ -253,21 +256,40 @@ module _ (words : List (List ℕ)) (contents : List ℕ → List ℕ) where
 
   same_usage : (s : Status) (output text : List ℕ) → HasNoForm words → Answer words contents s output text → IsUsage s output text
   same_usage s output text none (a.Answer.usage h) = record { status_is = refl; output_is = refl; text_is = refl }
-  same_usage s output text none (a.Answer.refused r k h) = absurd (none _ _ k)
-  same_usage s output text none (a.Answer.no_program l k built other) = absurd (none _ _ k)
-  same_usage s output text none (a.Answer.scheduled tree made is p) = absurd (none _ _ (Asks.schedule is))
-  same_usage s output text none (a.Answer.written tree made v is p has) = absurd (none _ _ (Asks.verilog is))
-  same_usage s output text none (a.Answer.done tree made qs rows is p laid well clean runs) = absurd (none _ _ (Asks.sim _ is))
-  same_usage s output text none (a.Answer.trace_fault tree made qs rows is p laid well bad runs) = absurd (none _ _ (Asks.sim _ is))
+  same_usage s output text none (a.Answer.made is h) = absurd (none.makes_none _ is)
+  same_usage s output text none (a.Answer.refused r k h) = absurd (none.asks_none _ _ k)
+  same_usage s output text none (a.Answer.no_program l k built other) = absurd (none.asks_none _ _ k)
+  same_usage s output text none (a.Answer.scheduled tree made is p) = absurd (none.asks_none _ _ (Asks.schedule is))
+  same_usage s output text none (a.Answer.written tree made v is p has) = absurd (none.asks_none _ _ (Asks.verilog is))
+  same_usage s output text none (a.Answer.done tree made qs rows is p laid well clean runs) = absurd (none.asks_none _ _ (Asks.sim _ is))
+  same_usage s output text none (a.Answer.trace_fault tree made qs rows is p laid well bad runs) = absurd (none.asks_none _ _ (Asks.sim _ is))
 
   same_form : (s s' : Status) (output more text said : List ℕ) (file top : List ℕ) → Asks words file top → Answer words contents s output text → Answer words contents s' more said
       → SameAnswer words s s' output more text said
   same_form s s' output more text said file top asks answer other =
       same words contents file top s s' output more text said (told file top s output text asks answer) (told file top s' more said asks other)
 
+  -- words of a made design have an answer of that
+  told_made : (n : ℕ) (s : Status) (output text : List ℕ) → IsMade words n → Answer words contents s output text → MadeAnswer n s output text
+  told_made n s output text is (a.Answer.usage none) = absurd (none.makes_none n is)
+  told_made n s output text is (a.Answer.made {n = m} k h) = subst (λ (x : ℕ). MadeAnswer x s output text) (same_size words m n k is) h
+  told_made n s output text is (a.Answer.refused r k h) = absurd (made_asks words n _ _ is k)
+  told_made n s output text is (a.Answer.no_program l k built other) = absurd (made_asks words n _ _ is k)
+  told_made n s output text is (a.Answer.scheduled tree made k p) = absurd (made_asks words n _ _ is (Asks.schedule k))
+  told_made n s output text is (a.Answer.written tree made v k p has) = absurd (made_asks words n _ _ is (Asks.verilog k))
+  told_made n s output text is (a.Answer.done tree made qs rows k p laid well clean runs) = absurd (made_asks words n _ _ is (Asks.sim _ k))
+  told_made n s output text is (a.Answer.trace_fault tree made qs rows k p laid well bad runs) = absurd (made_asks words n _ _ is (Asks.sim _ k))
+
+  same_made : (s s' : Status) (output more text said : List ℕ) (n : ℕ) → IsMade words n → Answer words contents s output text → Answer words contents s' more said
+      → SameAnswer words s s' output more text said
+  same_made s s' output more text said n is answer other =
+      let one = made_once n s s' output more text said (told_made n s output text is answer) (told_made n s' more said is other) in
+      record { status_is = one.status_is; output_is = λ none. one.output_is; text_is = one.text_is }
+
   -- the words of an answer have a form or none
-  asked : (s : Status) (output text : List ℕ) → Answer words contents s output text → ((file : List ℕ) × (top : List ℕ) × Asks words file top) ⊎ HasNoForm words
-  asked s output text (a.Answer.usage none) = inr none
+  asked : (s : Status) (output text : List ℕ) → Answer words contents s output text → ((file : List ℕ) × (top : List ℕ) × Asks words file top) ⊎ (HasNoForm words ⊎ ((n : ℕ) × IsMade words n))
+  asked s output text (a.Answer.usage none) = inr (inl none)
+  asked s output text (a.Answer.made {n = n} is h) = inr (inr (n, is))
   asked s output text (a.Answer.refused {file = f} {top = t} r k h) = inl (f, t, k)
   asked s output text (a.Answer.no_program {file = f} {top = t} l k built none) = inl (f, t, k)
   asked s output text (a.Answer.scheduled {file = f} {top = t} tree made is p) = inl (f, t, Asks.schedule is)
@@ -279,7 +301,8 @@ module _ (words : List (List ℕ)) (contents : List ℕ → List ℕ) where
   one_answer s s' output more text said answer other =
       elim (asked s output text answer) [
         | inl form ↦ same_form s s' output more text said form.0 form.1 form.2 answer other
-        | inr none ↦ (
+        | inr (inr made) ↦ same_made s s' output more text said made.0 made.1 answer other
+        | inr (inl none) ↦ (
             let one = same_usage s output text none answer in
             let two = same_usage s' more said none other in
             record {

@@ -52,7 +52,7 @@ module _ (file : List ℕ) (contents : List ℕ → List ℕ) (top : List ℕ) (
 
   -- it is put whole
   pub plan_done : (p : Product) (out out' : Writing) → out' ≡ appended (product_text p c) out → IsDoneBy (product_words p file top) contents out out'
-  plan_done p out out' put = record { accepted = accepted p; output = product_text p c; answer = product_answer p; put = put }
+  plan_done p out out' put = record { accepted = λ f t asks. accepted p; output = product_text p c; answer = product_answer p; put = put }
 
   -- or a prefix of it
   pub plan_started : (p : Product) (out out' : Writing) → AppendsPrefix (product_text p c) out out' → OutputStarted (product_words p file top) contents out out'

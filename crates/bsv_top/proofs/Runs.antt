@@ -10,8 +10,7 @@ use Rattle.bsv_trace.specs.Texts.{clock_text, opening_text}
 use Rattle.bsv_clock.specs.Runs.{Row, Continues}
 use Rattle.bsv_flow.specs.Breaches.{element_name}
 use Rattle.bsv_flow.specs.Schedulings.{Subject}
-use Rattle.bsv_top.specs.Reports.{report, clocks_text}
-use Rattle.bsv_top.specs.Running.{state_after}
+use Rattle.bsv_top.specs.Reports.{report, clocks_text, state_after}
 
 -- ---- runs
 

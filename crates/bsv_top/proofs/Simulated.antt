@@ -49,7 +49,7 @@ module _ (file : List ℕ) (contents : List ℕ → List ℕ) (top trace : List 
   simulated_done w next h =
       let done = lifting.done_here tree c.design c.schedule x.compiled.design.alike x.compiled.design.parts w (contents trace) next h in
       record {
-        accepted = record { file = file; top = top; asks = Asks.sim trace refl; tree = tree; made = c.schedule; planned = planned; laid = laid };
+        accepted = λ f t asked. record { file = file; top = top; asks = Asks.sim trace refl; tree = tree; made = c.schedule; planned = planned; laid = laid };
         output = report (subject tree) done.rows;
         answer = a.Answer.done tree c.schedule done.qs done.rows refl planned laid x.compiled.design.verilog.clocked done.clean done.runs;
         put = done.put;

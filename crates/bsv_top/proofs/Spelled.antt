@@ -1,6 +1,8 @@
 -- Words that have a form, and words that have none.
-use Rattle.std.proofs.Common.{◌≡◌, ◌∙◌, ℕ, Bool, true, false, List, [], ◌∷◌, codes, refl, sym, ap, subst}
+use Rattle.std.proofs.Common.{◌≡◌, ◌≤◌, ◌∙◌, ◌⊎◌, inl, inr, ℕ, zero, suc, Bool, true, false, List, [], ◌∷◌, codes, decimal, refl, sym, ap, subst, arith}
+use Rattle.std.proofs.lemmas.Fmt.{decimal_injective}
 use Rattle.std.specs.Str.{bytes_eq}
+use Rattle.std.proofs.lemmas.Bool.{cases_lt}
 use Rattle.std.proofs.lemmas.Slice.Eq.{bytes_eq-Decides}
 use Rattle.bsv_io.specs.Reading.{Reading}
 use Rattle.bsv_top.specs.declared.form.Product.{Product}
@@ -8,6 +10,7 @@ use Rattle.bsv_top.specs.declared.form.Product.TheVariants as product
 use Rattle.bsv_top.specs.Places.{IsTraceWithin}
 use Rattle.bsv_top.specs.Products.{command_of, product_words}
 use Rattle.bsv_top.specs.Answers.{Asks, HasNoForm, schedule_words, sim_words, verilog_words}
+use Rattle.bsv_top.specs.Made.{IsMade, made_words}
 
 -- the parts of words
 second_of : List (List ℕ) → List ℕ
@@ -67,10 +70,24 @@ pub asks_product : (p : Product) (file top : List ℕ) → Asks (product_words p
 asks_product p file top = asks (product_words p file top) p file top refl
 
 pub no_form : (words : List (List ℕ)) → ((p : Product) (file top : List ℕ) → words ≡ product_words p file top → ⊥)
-    → ((file top trace : List ℕ) → words ≡ sim_words file top trace → ⊥) → HasNoForm words
-no_form words no_plan no_sim file top (Asks.schedule h) = no_plan product.Schedule file top h
-no_form words no_plan no_sim file top (Asks.verilog h) = no_plan product.Verilog file top h
-no_form words no_plan no_sim file top (Asks.sim trace h) = no_sim file top trace h
+    → ((file top trace : List ℕ) → words ≡ sim_words file top trace → ⊥) → ((n : ℕ) → IsMade words n → ⊥) → HasNoForm words
+no_form words no_plan no_sim no_made = record { asks_none = by; makes_none = no_made }
+  where
+    by : (file top : List ℕ) → Asks words file top → ⊥
+    by file top (Asks.schedule h) = no_plan product.Schedule file top h
+    by file top (Asks.verilog h) = no_plan product.Verilog file top h
+    by file top (Asks.sim trace h) = no_sim file top trace h
+
+-- words of a made design ask for no file
+pub made_asks : (words : List (List ℕ)) (n : ℕ) (file top : List ℕ) → IsMade words n → Asks words file top → ⊥
+made_asks words n file top h (Asks.schedule is) = let e : made_words n ≡ schedule_words file top = sym h.words_are ∙ is in cc
+made_asks words n file top h (Asks.verilog is) = let e : made_words n ≡ verilog_words file top = sym h.words_are ∙ is in cc
+made_asks words n file top h (Asks.sim trace is) = let e : made_words n ≡ sim_words file top trace = sym h.words_are ∙ is in cc
+
+-- and name one size
+pub same_size : (words : List (List ℕ)) (m n : ℕ) → IsMade words m → IsMade words n → m ≡ n
+unfolding second_of
+same_size words m n h k = decimal_injective m n (omega (arith, h.most)) (omega (arith, k.most)) (ap second_of (sym h.words_are ∙ k.words_are))
 
 -- a first word that is neither command is that of no product
 no_command : (command : List ℕ) → (command ≡ codes "schedule" → ⊥) → (command ≡ codes "verilog" → ⊥) → (p : Product) → command ≡ command_of p → ⊥
@@ -80,11 +97,12 @@ no_command command no_schedule no_verilog product.Verilog = no_verilog
 pub data Spells (words : List (List ℕ)) : Type 0 where
   plan : (p : Product) (file top : List ℕ) → words ≡ product_words p file top → Spells words
   run : (file top trace : List ℕ) → words ≡ sim_words file top trace → Spells words
+  make : (n : ℕ) → IsMade words n → Spells words
   none : HasNoForm words → Spells words
 
 neither : (words : List (List ℕ)) → ((p : Product) (file top : List ℕ) → words ≡ product_words p file top → ⊥)
-    → ((file top trace : List ℕ) → words ≡ sim_words file top trace → ⊥) → Spells words
-neither words no_plan no_sim = none (no_form words no_plan no_sim)
+    → ((file top trace : List ℕ) → words ≡ sim_words file top trace → ⊥) → ((n : ℕ) → words ≡ made_words n → ⊥) → Spells words
+neither words no_plan no_sim no_made = none (no_form words no_plan no_sim (λ n h. no_made n h.words_are))
 
 -- another command
 other : (command word : List ℕ) → bytes_eq command word ≡ false → command ≡ word → ⊥
@@ -104,6 +122,7 @@ plans_by command file top false false one two = neither (command ∷ file ∷ to
     let first : command ≡ command_of p = cc in
     no_command command (other command (codes "schedule") one) (other command (codes "verilog") two) p first)
     (λ f t r h. let no_value : ⊥ = cc in no_value)
+    (λ n h. let no_value : ⊥ = cc in no_value)
 
 runs_by : (command file top trace : List ℕ) (b : Bool) → bytes_eq command (codes "sim") ≡ b → Spells (command ∷ file ∷ top ∷ trace ∷ [])
 runs_by command file top trace true same =
@@ -113,12 +132,53 @@ runs_by command file top trace false different = neither (command ∷ file ∷ t
     (λ f t r h.
     let first : command ≡ codes "sim" = cc in
     other command (codes "sim") different first)
+    (λ n h. let no_value : ⊥ = cc in no_value)
+
+last_or : (n bound : ℕ) → n ≤ suc bound → (n ≡ suc bound) ⊎ (n ≤ bound)
+last_or n bound most = elim (cases_lt bound n) [
+  | inl above ↦ inl (omega (arith, above, most))
+  | inr below ↦ inr (omega (arith, below))
+]
+
+-- a text is the decimal of a number up to a bound, or of none
+sized : (text : List ℕ) (bound : ℕ) → ((n : ℕ) × (1 ≤ n) × (n ≤ bound) × (text ≡ decimal n)) ⊎ ((n : ℕ) → 1 ≤ n → n ≤ bound → text ≡ decimal n → ⊥)
+sized text zero = inr (λ n least most is. let no_value : ⊥ = omega (arith, least, most) in no_value)
+sized text (suc bound) = elim (sized text bound) [
+  | inl found ↦ inl (found.0, found.1, omega (arith, found.2), found.3)
+  | inr unsaid ↦ by unsaid (bytes_eq text (decimal (suc bound))) refl
+]
+  where
+    by : ((n : ℕ) → 1 ≤ n → n ≤ bound → text ≡ decimal n → ⊥) → (b : Bool) → bytes_eq text (decimal (suc bound)) ≡ b
+        → ((n : ℕ) × (1 ≤ n) × (n ≤ suc bound) × (text ≡ decimal n)) ⊎ ((n : ℕ) → 1 ≤ n → n ≤ suc bound → text ≡ decimal n → ⊥)
+    by unsaid true same = inl (suc bound, omega arith, omega arith, (bytes_eq-Decides text (decimal (suc bound))).0 same)
+    by unsaid false different = inr (λ n least most is. elim (last_or n bound most) [
+      | inl e ↦ other text (decimal (suc bound)) different (is ∙ ap decimal e)
+      | inr below ↦ unsaid n least below is
+    ])
+
+makes_by : (command size : List ℕ) (b : Bool) → bytes_eq command (codes "made") ≡ b → Spells (command ∷ size ∷ [])
+unfolding second_of
+makes_by command size true same = elim (sized size 400) [
+  | inl found ↦ make found.0 (record {
+    words_are = ap (λ (first : List ℕ). first ∷ size ∷ []) ((bytes_eq-Decides command (codes "made")).0 same) ∙ ap (λ (text : List ℕ). codes "made" ∷ text ∷ []) found.3;
+    least = found.1;
+    most = found.2;
+  })
+  | inr unsized ↦ none (no_form (command ∷ size ∷ []) (λ p f t h. let no_value : ⊥ = cc in no_value) (λ f t r h. let no_value : ⊥ = cc in no_value)
+      (λ n h. unsized n h.least h.most (ap second_of h.words_are)))
+]
+makes_by command size false different = neither (command ∷ size ∷ [])
+    (λ p f t h. let no_value : ⊥ = cc in no_value) (λ f t r h. let no_value : ⊥ = cc in no_value)
+    (λ n h.
+    let first : command ≡ codes "made" = cc in
+    other command (codes "made") different first)
 
 pub spells : (words : List (List ℕ)) → Spells words
-spells [] = neither [] (λ p f t h. let no_value : ⊥ = cc in no_value) (λ f t r h. let no_value : ⊥ = cc in no_value)
-spells (command ∷ []) = neither (command ∷ []) (λ p f t h. let no_value : ⊥ = cc in no_value) (λ f t r h. let no_value : ⊥ = cc in no_value)
-spells (command ∷ file ∷ []) = neither (command ∷ file ∷ []) (λ p f t h. let no_value : ⊥ = cc in no_value) (λ f t r h. let no_value : ⊥ = cc in no_value)
+spells [] = neither [] (λ p f t h. let no_value : ⊥ = cc in no_value) (λ f t r h. let no_value : ⊥ = cc in no_value) (λ n h. let no_value : ⊥ = cc in no_value)
+spells (command ∷ []) =
+    neither (command ∷ []) (λ p f t h. let no_value : ⊥ = cc in no_value) (λ f t r h. let no_value : ⊥ = cc in no_value) (λ n h. let no_value : ⊥ = cc in no_value)
+spells (command ∷ size ∷ []) = makes_by command size (bytes_eq command (codes "made")) refl
 spells (command ∷ file ∷ top ∷ []) = plans_by command file top (bytes_eq command (codes "schedule")) (bytes_eq command (codes "verilog")) refl refl
 spells (command ∷ file ∷ top ∷ trace ∷ []) = runs_by command file top trace (bytes_eq command (codes "sim")) refl
 spells (command ∷ file ∷ top ∷ trace ∷ more ∷ rest) = neither (command ∷ file ∷ top ∷ trace ∷ more ∷ rest)
-    (λ p f t h. let no_value : ⊥ = cc in no_value) (λ f t r h. let no_value : ⊥ = cc in no_value)
+    (λ p f t h. let no_value : ⊥ = cc in no_value) (λ f t r h. let no_value : ⊥ = cc in no_value) (λ n h. let no_value : ⊥ = cc in no_value)

@@ -17,8 +17,8 @@ use Rattle.bsv_top.specs.declared.halt.Halt.TheVariants as halt
 use Rattle.bsv_top.specs.declared.lines.Lines.{Lines}
 use Rattle.bsv_top.specs.declared.clocks.Run.{Run}
 use Rattle.bsv_top.specs.Reading.{HasNoFeed, IsEnded, IsOver}
-use Rattle.bsv_top.specs.Reports.{report}
-use Rattle.bsv_top.specs.Running.{BeginsClock, EndsLine, HasRun, IsStartedOf, IsDoneOf, IsFaultyOf, RunsLine, StandsAt, its_subject, lines_of_clock, state_after}
+use Rattle.bsv_top.specs.Reports.{report, state_after}
+use Rattle.bsv_top.specs.Running.{BeginsClock, EndsLine, HasRun, IsStartedOf, IsDoneOf, IsFaultyOf, RunsLine, StandsAt, its_subject, lines_of_clock}
 use Rattle.bsv_top.specs.Traces.{IsBad, AreAsked, AreAskedToBad, HasBadLine, bytes_in, line_text, lines_of}
 use Rattle.bsv_top.proofs.Asked.{asked_append, asked_long, bad_append, bad_after, bytes_after, over_bad, total, total_append}
 use Rattle.bsv_top.proofs.Listed.{BeginsLine, begins_line, ends_line, ended_line, last_line, unended_append}

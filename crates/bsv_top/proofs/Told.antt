@@ -1,5 +1,5 @@
 -- What a stop tells: its status, its text, and what is known of the words and the contents.
-use Rattle.std.proofs.Common.{◌≡◌, ◌∙◌, ◌⊎◌, inl, inr, ℕ, List, [], refl, sym, subst}
+use Rattle.std.proofs.Common.{◌≡◌, ◌≤◌, ◌∙◌, ◌⊎◌, inl, inr, ℕ, List, [], refl, sym, subst}
 use Rattle.bsv_io.specs.Faults.{MayFault}
 use Rattle.bsv_io.specs.Reading.{Reading}
 use Rattle.bsv_io.specs.Writing.{Writing, appended, AppendsPrefix}
@@ -21,9 +21,10 @@ use Rattle.bsv_top.proofs.OneAnswer as one
 use Rattle.bsv_top.proofs.Spelled.{asks}
 
 -- words of a form have one
-pub has_form : (words : List (List ℕ)) (f : Form) → words ≡ words_of f → HasNoForm words → ⊥
-has_form words (form.Plan p) is none = none p.file.now p.top.now (asks words p.product p.file.now p.top.now is)
-has_form words (form.Sim s) is none = none s.file.now s.top.now (Asks.sim s.trace.now is)
+pub has_form : (words : List (List ℕ)) (f : Form) → ((n : ℕ) → f ≡ form.Made n → (1 ≤ n) × (n ≤ 400)) → words ≡ words_of f → HasNoForm words → ⊥
+has_form words (form.Plan p) sized is none = none.asks_none p.file.now p.top.now (asks words p.product p.file.now p.top.now is)
+has_form words (form.Sim s) sized is none = none.asks_none s.file.now s.top.now (Asks.sim s.trace.now is)
+has_form words (form.Made size) sized is none = let sizes = sized size refl in none.makes_none size (record { words_are = is; least = sizes.0; most = sizes.1 })
 
 -- a decided status is not that of a write fault
 pub decided_tells : (s : Status) → IsDecided s → s ≡ status.WriteFault → ⊥

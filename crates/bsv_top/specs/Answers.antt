@@ -21,6 +21,7 @@ use Rattle.bsv_flow.specs.Schedulings.{IsVerilogOf, subject}
 use Rattle.bsv_top.specs.declared.status.Status.{Status}
 use Rattle.bsv_top.specs.declared.status.Status.TheVariants as status
 use Rattle.bsv_top.specs.LaidOut.{IsLaidOut}
+use Rattle.bsv_top.specs.Made.{IsMade, made_contents, made_file, made_top, nothing_for, summary}
 use Rattle.bsv_top.specs.Reports.{report}
 use Rattle.bsv_top.specs.Traces.{IsClean, HasBadLine}
 
@@ -45,8 +46,9 @@ pub data Asks (words : List (List ℕ)) (file top : List ℕ) : Type 0 where
   sim : (trace : List ℕ) → words ≡ sim_words file top trace → Asks words file top
 
 -- the words have no form that the program knows
-abbrev pub HasNoForm : List (List ℕ) → Type 0
-HasNoForm words = (file top : List ℕ) → Asks words file top → ⊥
+pub record HasNoForm (words : List (List ℕ)) : Type 0 where
+  pub asks_none : (file top : List ℕ) → Asks words file top → ⊥
+  pub makes_none : (n : ℕ) → IsMade words n → ⊥
 
 -- ---- texts
 
@@ -72,6 +74,17 @@ printed tree made = schedule_text (element_name (tree_scheme tree)) made
 abbrev pub IsNoProgram : Loaded → Type 0
 IsNoProgram l = (program : Typed) → IsProgram l program → ⊥
 
+-- What is answered to `made N`, whatever the files say: the summary of a run of 100 clocks without requests. That the text
+-- is accepted is tried for each N, and not proved: so the definition says as well what is answered where it is refused, or
+-- typed as no program.
+pub data MadeAnswer (n : ℕ) : Status → List ℕ → List ℕ → Type 0 where
+  refused : (r : Refusal) → Rejects made_file (made_contents n) made_top r → MadeAnswer n status.Refused [] (refusal_line r)
+  no_program : (l : Loaded) → IsBuilt made_file (made_contents n) made_top l → IsNoProgram l
+      → MadeAnswer n status.OutOfMemory [] no_memory_line
+  done : (tree : TreeData) (made : Schedule) (rows : List Row) → IsPlanned made_file (made_contents n) made_top tree made
+      → IsLaidOut tree → Runs false (tree_scheme tree) made (nothing_for 100 (tree_scheme tree)) rows
+      → MadeAnswer n status.Done (summary n (subject tree) rows) []
+
 -- the status, the output and the fault text for words and the contents of the files by name
 pub data Answer (words : List (List ℕ)) (contents : List ℕ → List ℕ) : Status → List ℕ → List ℕ → Type 0 where
   usage : HasNoForm words → Answer words contents status.Usage [] usage_line
@@ -79,6 +92,8 @@ pub data Answer (words : List (List ℕ)) (contents : List ℕ → List ℕ) : S
       → Answer words contents status.Refused [] (refusal_line r)
   no_program : {file top : List ℕ} (l : Loaded) → Asks words file top → IsBuilt file contents top l → IsNoProgram l
       → Answer words contents status.OutOfMemory [] no_memory_line
+  made : {n : ℕ} {s : Status} {output text : List ℕ} → IsMade words n → MadeAnswer n s output text
+      → Answer words contents s output text
   scheduled : {file top : List ℕ} (tree : TreeData) (made : Schedule) → words ≡ schedule_words file top
       → IsPlanned file contents top tree made
       → Answer words contents status.Done (printed tree made) []

@@ -3,6 +3,8 @@ pub mod Counts
 pub mod Forms
 pub mod Headline
 pub mod LaidOut
+pub mod Made
+pub mod MadeRuns
 pub mod OneAnswer
 pub mod Outcomes
 pub mod Places

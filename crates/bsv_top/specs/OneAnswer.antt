@@ -11,12 +11,14 @@ use Rattle.bsv_flow.specs.Schedulings.{IsVerilogOf}
 use Rattle.bsv_vtext.specs.Signals.{VModuleData}
 use Rattle.bsv_top.specs.Answers.{sim_words, verilog_words}
 use Rattle.bsv_top.specs.LaidOut.{IsLaidOut}
+use Rattle.bsv_top.specs.Made.{IsMade, made_contents, made_file, made_top}
 
--- where the words ask for a simulation, what is accepted can be laid out
-abbrev pub LayOut : List (List ℕ) → (List ℕ → List ℕ) → Type 0
-LayOut words contents =
-    (file top trace : List ℕ) (tree : TreeData) (made : Schedule) → words ≡ sim_words file top trace
-    → IsPlanned file contents top tree made → IsLaidOut tree
+-- where the words ask for a run, what is accepted can be laid out
+pub record LayOut (words : List (List ℕ)) (contents : List ℕ → List ℕ) : Type 0 where
+  pub simulated : (file top trace : List ℕ) (tree : TreeData) (made : Schedule) → words ≡ sim_words file top trace
+      → IsPlanned file contents top tree made → IsLaidOut tree
+  pub made : (n : ℕ) (tree : TreeData) (made : Schedule) → IsMade words n
+      → IsPlanned made_file (made_contents n) made_top tree made → IsLaidOut tree
 
 -- where the words ask for Verilog, what is accepted has a module
 abbrev pub HaveModules : List (List ℕ) → (List ℕ → List ℕ) → Type 0

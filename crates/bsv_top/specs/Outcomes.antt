@@ -12,7 +12,7 @@ use Rattle.bsv_top.specs.declared.status.Status.TheVariants as status
 use Rattle.bsv_top.specs.Answers.{Answer, Asks, sim_words, cannot_read_line, no_memory_line}
 use Rattle.bsv_top.specs.LaidOut.{IsLaidOut}
 
--- the words ask for no run
+-- the words ask for no run over a trace
 abbrev pub AsksNoRun : List (List ℕ) → Type 0
 AsksNoRun words = (file top trace : List ℕ) → words ≡ sim_words file top trace → ⊥
 
@@ -64,9 +64,9 @@ pub record IsAccepted (words : List (List ℕ)) (contents : List ℕ → List �
   pub planned : IsPlanned file contents top tree made
   pub laid : IsLaidOut tree
 
--- all is done: what is asked for is accepted, and the whole output of an answer is put
+-- all is done: what is asked for of a file is accepted, and the whole output of an answer is put
 pub record IsDoneBy (words : List (List ℕ)) (contents : List ℕ → List ℕ) (out out' : Writing) : Type 0 where
-  pub accepted : IsAccepted words contents
+  pub accepted : (file top : List ℕ) → Asks words file top → IsAccepted words contents
   pub output : List ℕ
   pub answer : Answer words contents status.Done output []
   pub put : out' ≡ appended output out

@@ -1,6 +1,5 @@
 -- A trace that is run: how far its clocks were run, and what was put of their report.
-use Rattle.std.specs.Prelude.{◌≡◌, ◌≤◌, ℕ, ◌+◌, false, List, [], ◌∷◌, ◌++◌, length, Some}
-use Rattle.bsv_prim.specs.declared.part.Part.{Part}
+use Rattle.std.specs.Prelude.{◌≡◌, ◌≤◌, ℕ, ◌+◌, false, List, [], ◌++◌, length, Some}
 use Rattle.bsv_design.specs.declared.design.Design.{Design}
 use Rattle.bsv_design.specs.declared.schedule.Schedule.{Schedule}
 use Rattle.bsv_design.specs.scheme.Schemes.{Asking, Outline, kinds_of}
@@ -20,7 +19,7 @@ use Rattle.bsv_top.specs.declared.lines.Lines.{Lines}
 use Rattle.bsv_top.specs.declared.clocks.Run.{Run}
 use Rattle.bsv_top.specs.Places.{piece_limit}
 use Rattle.bsv_top.specs.Reading.{HasNoFeed}
-use Rattle.bsv_top.specs.Reports.{report}
+use Rattle.bsv_top.specs.Reports.{report, state_after}
 use Rattle.bsv_top.specs.Traces.{AreAsked, IsClean, HasBadLine, bytes_in, line_text, lines_of}
 
 -- ---- what a clock asks for
@@ -81,10 +80,6 @@ pub record StandsAt (outlines : List Outline) (read : List ℕ) (l : Lines) (qs 
   pub done : length front ≡ l.done
   pub at : bytes_in (length front) front ≡ l.at
   pub long : length read ≡ l.at + length l.held.items
-
-abbrev pub state_after : List Part → List Row → List Part
-state_after s [] = s
-state_after s (row ∷ rows) = state_after row.after rows
 
 -- so far: these bytes were read, their lines were run from the opening state, and the report of that was put
 pub record HasRun (c : Compiled) (start : Writing) (read : List ℕ) (r : Run) (w : Writing) : Type 0 where

@@ -11,6 +11,7 @@ ghost use Rattle.bsv_top.specs.Stops.{IsStopOf};
 ghost use Rattle.bsv_top.specs.declared.stop.Stop.{Stop as TheStop};
 
 use crate::form::Form;
+use crate::made::make;
 use crate::planning::plan;
 use crate::simulation::simulate;
 use crate::stop::Stop;
@@ -26,6 +27,7 @@ pub(crate) fn answer<R: Threads + Sync, F: Files, O: Sink>(
     files: &mut F,
     out: &mut O,
 ) -> Result<(), Stop>
+    requires { (n : ℕ) → form ≡ Form.Made n → (1 ≤ n) × (n ≤ 400) }
     ensures done { OnOk result ((contents : List ℕ → List ℕ)
         → (F.reading files.old).contents ≡ Some contents
         → IsDoneBy (words_of form.entry) contents
@@ -45,6 +47,8 @@ pub(crate) fn answer<R: Threads + Sync, F: Files, O: Sink>(
         (F.reading files.old) (F.reading files.new) (O.writing out.old) (O.writing out.new) }
     ensures unwritable { result ≡ Err Stop.Unwritable
         → MayFault (O.writing out.old).faults (O.writing out.new).faults }
+    ensures unchosen { (n : ℕ) → form.entry ≡ Form.Made n
+        → F.reading files.new ≡ F.reading files.old }
     ensures no_output { result ≡ Err Stop.OutOfMemory → AsksNoRun (words_of form.entry)
         → O.writing out.new ≡ O.writing out.old }
     ensures sources_within { AsksNoRun (words_of form.entry)
@@ -72,5 +76,6 @@ pub(crate) fn answer<R: Threads + Sync, F: Files, O: Sink>(
     match form {
         Form::Plan(form) => plan(rt, alloc, form, files, out),
         Form::Sim(form) => simulate(rt, alloc, form, files, out),
+        Form::Made(size) => make(rt, alloc, size, out),
     }
 }

@@ -1,8 +1,12 @@
-ghost use Rattle.std.specs.Prelude.{◌≡◌, ℕ, List, map, string_bytes, IfNone, IfSome};
+ghost use Rattle.std.specs.Prelude.{◌≡◌, ◌≤◌, ℕ, List, map, string_bytes, decimal, bytes_eq, Some};
+ghost use Rattle.std.specs.Prelude.{IfNone, IfSome};
 ghost use Rattle.bsv_top.specs.Answers.{HasNoForm, sim_words};
 ghost use Rattle.bsv_top.specs.Forms.{planning_words, words_of};
+ghost use Rattle.bsv_top.specs.Made.{made_words};
 ghost use Rattle.bsv_top.specs.Products.{command_of, product_words};
 ghost use Rattle.bsv_top.specs.declared.form.Product.{Product as TheProduct};
+
+use itoa::Buffer;
 
 /// What is put of a design that is not run.
 #[derive(Clone, Copy)]
@@ -32,6 +36,8 @@ pub(crate) struct Simulation<'a> {
 pub(crate) enum Form<'a> {
     Plan(Planning<'a>),
     Sim(Simulation<'a>),
+    /// The made design of this size.
+    Made(u32),
 }
 
 /// What the first word asks for, where it asks for no run.
@@ -86,16 +92,57 @@ fn simulation_of(words: &[String]) -> Option<Simulation<'_>>
     })
 }
 
+/// Whether the text is the number in decimal, without a leading zero.
+fn is_decimal(text: &str, number: u32) -> bool
+    ensures { result ≡ bytes_eq text.now (decimal number) }
+{
+    let mut digits = Buffer::new();
+    text == digits.format(number)
+}
+
+/// The size of a made design, from 1 to 400, that a text says in decimal without a leading zero.
+fn size_said(text: &str) -> Option<u32>
+    ensures size { IfSome result (λ size. (text.now ≡ decimal size) × (1 ≤ size) × (size ≤ 400)) }
+    ensures none { IfNone result ((n : ℕ) → 1 ≤ n → n ≤ 400 → text.now ≡ decimal n → ⊥) }
+{
+    for size in 1..401u32 {
+        if is_decimal(text, size) {
+            return Some(size);
+        }
+    }
+    None
+}
+
+/// The size that the words after the program's name ask for, where they ask for a made design.
+fn size_of(words: &[String]) -> Option<u32>
+    ensures size { IfSome result (λ size. (map string_bytes words.now ≡ made_words size)
+        × (1 ≤ size) × (size ≤ 400)) }
+    ensures none { IfNone result ((n : ℕ) → 1 ≤ n → n ≤ 400
+        → map string_bytes words.now ≡ made_words n → ⊥) }
+{
+    let [command, size] = words else {
+        return None;
+    };
+    if command.as_str() != "made" {
+        return None;
+    }
+    size_said(size.as_str())
+}
+
 /// The form that the words have, where they have one.
 pub(crate) fn form_of(words: &[String]) -> Option<Form<'_>>
     ensures form { IfSome result (λ form. map string_bytes words.now ≡ words_of form) }
+    ensures size { (n : ℕ) → result ≡ Some (Form.Made n) → (1 ≤ n) × (n ≤ 400) }
     ensures none { IfNone result (HasNoForm (map string_bytes words.now)) }
 {
     if let Some(form) = planning_of(words) {
         return Some(Form::Plan(form));
     }
-    match simulation_of(words) {
-        Some(form) => Some(Form::Sim(form)),
+    if let Some(form) = simulation_of(words) {
+        return Some(Form::Sim(form));
+    }
+    match size_of(words) {
+        Some(size) => Some(Form::Made(size)),
         None => None,
     }
 }

@@ -4,7 +4,7 @@
 //! done), `planning` (a command line to the schedule or to Verilog), `lines` (the lines of a trace, gathered
 //! across its pieces), `halt` (why a trace is not run to its end), `clocks` (a piece of a trace to clocks and
 //! their lines), `follow` (a file to the pieces of a trace), `simulation` (a command line to the report),
-//! `answer` (any command line), `faults` (the fault texts), `program` (the call itself).
+//! `made` (a made design of any size, and the summary of its run), `answer` (any command line), `faults` (the fault texts), `program` (the call itself).
 #![tactic(auto)]
 
 mod answer;
@@ -14,11 +14,13 @@ mod follow;
 mod form;
 mod halt;
 mod lines;
+mod made;
 mod planning;
 mod program;
 mod simulation;
 mod status;
 mod stop;
 
+pub use made::made_source;
 pub use program::{one_answer, run, run_surely};
 pub use status::Status;

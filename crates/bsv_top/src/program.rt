@@ -19,6 +19,7 @@ ghost use Rattle.bsv_vtext.specs.VText.{vtext};
 ghost use Rattle.bsv_top.specs.OneAnswer.{AsksNoVerilog, HaveModules, IsSameText, LayOut};
 ghost use Rattle.bsv_top.specs.Counts.{CountsAnswer};
 ghost use Rattle.bsv_top.specs.Headline.{Headline};
+ghost use Rattle.bsv_top.specs.Made.{IsMade, made_contents, made_file, made_top, made_words};
 ghost use Rattle.bsv_top.specs.Outcomes.{Accepts, Answered, AsksNoRun, IsDecided, IsFault};
 ghost use Rattle.bsv_top.specs.Outcomes.{OutputStarted, TextStarted, Unreadable};
 ghost use Rattle.bsv_top.specs.Places.{IsTraceWithin, ReadsWithin};
@@ -54,6 +55,10 @@ pub fn run<R: Threads + Sync, F: Files, O: Sink, E: Sink>(
         → (result ≡ Status.Usage ⊎ result ≡ Status.WriteFault)
         × (F.reading files.new ≡ F.reading files.old) × (O.writing out.new ≡ O.writing out.old) }
 
+    // Of a made design no file tells anything: nothing is read.
+    ensures unread { (n : ℕ) → IsMade (map string_bytes words.now) n
+        → F.reading files.new ≡ F.reading files.old }
+
     // What the words and the contents decide: the status, the whole output, the whole fault text.
     ensures answer { (contents : List ℕ → List ℕ) → (F.reading files.old).contents ≡ Some contents
         → IsDecided result → Answered (map string_bytes words.now) contents result
@@ -75,8 +80,8 @@ pub fn run<R: Threads + Sync, F: Files, O: Sink, E: Sink>(
         (E.writing err.new) }
 
     // Nothing at all is put to the output where a file is refused; and nothing where memory is
-    // wanting, but by a run: it may want memory after it started, and then it put a prefix of an
-    // answer's output, as above.
+    // wanting, but by a run over a trace: it may want memory after it started, and then it put a
+    // prefix of an answer's output, as above.
     ensures refused { result ≡ Status.Refused → O.writing out.new ≡ O.writing out.old }
     ensures no_memory { result ≡ Status.OutOfMemory
         → (E.writing err.new ≡ appended no_memory_line (E.writing err.old))
@@ -166,9 +171,10 @@ pub fn run_surely<R: Threads + Sync>(
 /// but for the place of a `Syntax`. The output is left open where words ask for Verilog: two modules may
 /// carry one tree.
 ///
-/// Words that ask for a run have an answer where what is accepted can be laid out, and words that ask for
-/// Verilog where it has a module. The program builds the module that it puts: so it has built one wherever
-/// such words are done, and of a tree that had none it could tell nothing but want of memory.
+/// Words that ask for a run, over a trace or of a made design, have an answer where what is accepted can be
+/// laid out, and words that ask for Verilog where it has a module. The program builds the module that it
+/// puts: so it has built one wherever such words are done, and of a tree that had none it could tell nothing
+/// but want of memory.
 ///
 /// Words that ask for a schedule, and files that have one, have it as their answer; words that ask for
 /// Verilog have the text of every module that carries the tree; and words that ask for a run, files that are
@@ -200,6 +206,10 @@ pub fn one_answer()
         → IsPlanned file contents top tree made → IsLaidOut tree
         → IsClean (tree_scheme tree).elements (contents trace) qs
         → (output : List ℕ) × Answer (sim_words file top trace) contents Status.Done output [] }
+    ensures made { (contents : List ℕ → List ℕ) (n : ℕ) (tree : TreeData) (made : TheSchedule)
+        → IsMade (made_words n) n → IsPlanned made_file (made_contents n) made_top tree made
+        → IsLaidOut tree
+        → (output : List ℕ) × Answer (made_words n) contents Status.Done output [] }
     ensures headline { (contents : List ℕ → List ℕ) (file top : List ℕ)
         (tree : TreeData) (made : TheSchedule) → IsPlanned file contents top tree made
         → IsLaidOut tree → Headline contents file top tree made }

@@ -72,3 +72,25 @@ pub returns-in-Sim-clause-sources_within : goal.returns-in-Sim-clause-sources_wi
 returns-in-Sim-clause-sources_within g c = λ none far.
     let form = c.in-Sim.form in
     absurd (none form.file.now form.top.now form.trace.now (ap words_of c.in-Sim.is))
+
+-- ---- a made design
+
+pub returns-in-Made-clause-done : goal.returns-in-Made-clause-done
+returns-in-Made-clause-done g c =
+    on_ok_weaker c.make.result
+    (λ done contents told.
+    subst (λ (words : List (List ℕ)). IsDoneBy words contents (g.O.Sink.writing c.args.out.now) (g.O.Sink.writing c.make.new.out)) (sym (ap words_of c.in-Made.is))
+    (done contents)) c.make.ensures.done
+
+pub returns-in-Made-clause-stopped : goal.returns-in-Made-clause-stopped
+returns-in-Made-clause-stopped g c = λ s h contents told.
+    subst (λ (words : List (List ℕ)). IsStopOf words contents (g.O.Sink.writing c.args.out.now) (g.O.Sink.writing c.make.new.out) s) (sym (ap words_of c.in-Made.is))
+    (c.make.ensures.stopped s h contents)
+
+pub returns-in-Made-clause-started : goal.returns-in-Made-clause-started
+returns-in-Made-clause-started g c = λ contents told.
+    subst (λ (words : List (List ℕ)). OutputStarted words contents (g.O.Sink.writing c.args.out.now) (g.O.Sink.writing c.make.new.out)) (sym (ap words_of c.in-Made.is))
+    (c.make.ensures.started contents)
+
+pub returns-in-Made-clause-unread : goal.returns-in-Made-clause-unread
+returns-in-Made-clause-unread g c = λ name h. absurd (c.make.ensures.unread name h)

@@ -4,6 +4,7 @@ use Rattle.bsv_top.specs.Answers.{sim_words}
 use Rattle.bsv_top.proofs.AllAnswers as all
 use Rattle.bsv_top.proofs.Answering.{clean_answer}
 use Rattle.bsv_top.proofs.Headlined.{headline}
+use Rattle.bsv_top.proofs.MadeRun.{made_answer}
 use Rattle.bsv_top.proofs.OneAnswer as one
 use Rattle.bsv_top.proofs.program.one_answer.Goals as goal
 
@@ -16,5 +17,6 @@ returns c = record {
   planned = λ contents file top tree made p. a.Answer.scheduled tree made refl p;
   verilog = λ contents file top tree made v p has. a.Answer.written tree made v refl p has;
   simulated = λ contents file top trace tree made qs p laid clean. clean_answer (sim_words file top trace) contents file top trace refl tree made p laid qs clean;
+  made = λ contents n tree made is p laid. let all = made_answer n tree made p laid in (all.0, a.Answer.made is all.1);
   headline = headline;
 }

@@ -1,4 +1,4 @@
-use Rattle.std.proofs.Common.{◌≡◌, ◌∙◌, ◌⊎◌, inl, inr, ⊎_elim, ℕ, List, [], Err, map, string_bytes, refl, sym, ap, subst, arith}
+use Rattle.std.proofs.Common.{◌≡◌, ◌∙◌, ◌⊎◌, inl, inr, ⊎_elim, ℕ, List, [], Some, Err, map, string_bytes, refl, sym, ap, subst, arith}
 use Rattle.bsv_lemmas.proofs.Choices.{same_err}
 use Rattle.bsv_io.proofs.Appended.{appended-nil, nothing_put}
 use Rattle.bsv_io.proofs.NoFaults.{NoFault-MayFault}
@@ -45,10 +45,10 @@ returns-in_default-clause-headline g c = λ contents told is.
 pub returns-in-Ok-clause-headline : goal.returns-in-Ok-clause-headline
 returns-in-Ok-clause-headline g c = λ contents told is.
     let done = subst (λ (words : List (List ℕ)). IsDoneBy words contents (g.O.Sink.writing c.args.out.now) (g.O.Sink.writing c.answer.new.out)) (sym c.in-Some.ensures.form) (c.in-Ok.ensures.done contents told) in
-    accepted_headline (map string_bytes c.args.words.now) contents done.accepted
+    λ file top tree made asks. accepted_headline (map string_bytes c.args.words.now) contents (done.accepted file top asks) file top tree made asks
 
 pub returns-in-Ok-clause-no_form : goal.returns-in-Ok-clause-no_form
-returns-in-Ok-clause-no_form g c = λ none. absurd (has_form (map string_bytes c.args.words.now) c.in-Some.form c.in-Some.ensures.form none)
+returns-in-Ok-clause-no_form g c = λ none. absurd (has_form (map string_bytes c.args.words.now) c.in-Some.form (λ n is. c.in-Some.ensures.size n (ap Some is)) c.in-Some.ensures.form none)
 
 pub returns-in-Ok-clause-answer : goal.returns-in-Ok-clause-answer
 returns-in-Ok-clause-answer g c = λ contents told is.
@@ -94,7 +94,7 @@ returns-in-Err-clause-headline g c = λ contents told is.
     (subst Accepts said.0 is))
 
 pub returns-in-Err-clause-no_form : goal.returns-in-Err-clause-no_form
-returns-in-Err-clause-no_form g c = λ none. absurd (has_form (map string_bytes c.args.words.now) c.in-Some.form c.in-Some.ensures.form none)
+returns-in-Err-clause-no_form g c = λ none. absurd (has_form (map string_bytes c.args.words.now) c.in-Some.form (λ n is. c.in-Some.ensures.size n (ap Some is)) c.in-Some.ensures.form none)
 
 pub returns-in-Err-clause-answer : goal.returns-in-Err-clause-answer
 returns-in-Err-clause-answer g c = λ contents told is.
