@@ -64,8 +64,8 @@ pub fn run<R: Threads + Sync, F: Files, O: Sink, E: Sink>(
         → IsDecided result → Answered (map string_bytes words.now) contents result
         (O.writing out.old) (O.writing out.new) (E.writing err.old) (E.writing err.new) }
 
-    // What is accepted keeps the headline: it obeys its attributes, and each trace without a bad line
-    // has one run, which `sim` prints and each written module shows.
+    // What is accepted keeps the headline: it obeys its attributes, and each trace without a bad
+    // line has one run, which `sim` prints and each written module shows.
     ensures headline { (contents : List ℕ → List ℕ) → (F.reading files.old).contents ≡ Some contents
         → Accepts result → (file top : List ℕ) (tree : TreeData) (made : TheSchedule)
         → Asks (map string_bytes words.now) file top → IsPlanned file contents top tree made
