@@ -23,13 +23,17 @@ use std::thread::Threads;
 /// The words of a run that prints the report.
 const RUN: &str = "sim Gcd.bsv mkGcd trace.txt";
 
-/// The words of the runs that are done.
+/// The words of the runs over the source that are done.
 const LINES: [&str; 3] = [RUN, "schedule Gcd.bsv mkGcd", "verilog Gcd.bsv mkGcd"];
 
+/// The words of a run that is done without a file.
+const MADE: &str = "made 2";
+
 /// The words of runs that have a fault text: no form, no file, no module, and a bad trace.
-const TEXTS: [&str; 9] = [
+const TEXTS: [&str; 10] = [
     "",
     "sim",
+    "made 0",
     "sim Gcd.bsv mkGcd",
     "schedule Gcd.bsv mkGcd trace.txt",
     "verilog none.bsv mkGcd",
@@ -53,6 +57,7 @@ fn run_all<R: Files + AllocGlobal + Print + Threads + Sync>(rt: &R) -> Result<u6
     for line in LINES {
         faults = faults.saturating_add(fail_each(rt, line, contents)?);
     }
+    faults = faults.saturating_add(fail_each(rt, MADE, contents)?);
     faults = faults.saturating_add(fail_texts(rt, &TEXTS, contents)?);
     for line in LINES {
         faults = faults.saturating_add(cut_each(rt, line, contents)?);
