@@ -1,5 +1,5 @@
-ghost use Rattle.std.specs.Prelude.{◌≡◌, ◌≤◌, ℕ, List, map, string_bytes, decimal, bytes_eq, Some};
-ghost use Rattle.std.specs.Prelude.{IfNone, IfSome};
+ghost use Rattle.std.specs.Prelude.{◌≡◌, ◌≤◌, ℕ, List, map, string_bytes, decimal};
+ghost use Rattle.std.specs.Prelude.{bytes_eq, Some, IfNone, IfSome};
 ghost use Rattle.bsv_top.specs.Answers.{HasNoForm, sim_words};
 ghost use Rattle.bsv_top.specs.Forms.{planning_words, words_of};
 ghost use Rattle.bsv_top.specs.Made.{made_words};

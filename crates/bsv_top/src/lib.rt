@@ -4,7 +4,8 @@
 //! done), `planning` (a command line to the schedule or to Verilog), `lines` (the lines of a trace, gathered
 //! across its pieces), `halt` (why a trace is not run to its end), `clocks` (a piece of a trace to clocks and
 //! their lines), `follow` (a file to the pieces of a trace), `simulation` (a command line to the report),
-//! `made` (a made design of any size, and the summary of its run), `answer` (any command line), `faults` (the fault texts), `program` (the call itself).
+//! `made` (a made design of any size, and the summary of its run), `answer` (any command line), `faults`
+//! (the fault texts), `program` (the call itself).
 #![tactic(auto)]
 
 mod answer;

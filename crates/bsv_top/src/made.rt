@@ -1,5 +1,5 @@
-ghost use Rattle.std.specs.Prelude.{◌≡◌, ◌≤◌, ◌+◌, ℕ, List, [], ◌∷◌, codes, length, None, Err};
-ghost use Rattle.std.specs.Prelude.{IfOk, IfErr, OnOk};
+ghost use Rattle.std.specs.Prelude.{◌≡◌, ◌≤◌, ◌+◌, ℕ, List, [], ◌∷◌, codes, length};
+ghost use Rattle.std.specs.Prelude.{None, Err, IfOk, IfErr, OnOk};
 ghost use Rattle.bsv_design.specs.scheme.Schemes.{kinds_of};
 ghost use Rattle.bsv_design.specs.scheme.Seen.{design_data};
 ghost use Rattle.bsv_design.specs.scheme.States.{opening};
