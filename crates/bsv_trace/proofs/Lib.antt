@@ -9,5 +9,6 @@ pub mod Pieces
 pub mod Places
 pub mod QueueTexts
 pub mod Readable
+pub mod ShownLines
 pub mod Sound
 pub mod Turns

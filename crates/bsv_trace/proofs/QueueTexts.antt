@@ -1,16 +1,23 @@
 -- The words of a queue, one by one.
-use Rattle.std.proofs.Common.{◌≡◌, ◌∙◌, ℕ, zero, suc, ◌+◌, ◌≤◌, ◌==◌, false, if◌then◌else◌, List, [], ◌∷◌, ◌++◌, map, length, drop, slice_get, Some, refl, ap, append-nil, arith, codes}
+use Rattle.std.proofs.Common.{◌≡◌, ◌∙◌, ℕ, zero, suc, ◌+◌, ◌≤◌, ◌<◌, ◌==◌, false, if◌then◌else◌, List, [], ◌∷◌, ◌++◌, map, length, drop, slice_get, Some, refl, sym, ap, append-nil, arith, codes}
 use Rattle.std.specs.List.{join_with_byte}
 use Rattle.std.proofs.lemmas.Bool.Decides.{nat_tests}
 use Rattle.bsv_lemmas.proofs.Places.{drop_one}
-use Rattle.bsv_bits.specs.Words.{Bits}
+use Rattle.std.proofs.lemmas.Option.{slice_get-get_or}
+use Rattle.bsv_bits.specs.Words.{Bits, bit}
 use Rattle.bsv_bits.specs.Constants.{constant_text}
+use Rattle.bsv_prim.specs.Table.{word_at}
 use Rattle.bsv_trace.specs.Texts.{word_text, words_from}
 
 -- the words from a place on begin with the one that is there
 pub words_here : (words : List Bits) (number : ℕ) (word : Bits) → slice_get words number ≡ Some word
     → words_from number (drop number words) ≡ word_text number word ++ words_from (number + 1) (drop (number + 1) words)
 words_here words number word at = ap (words_from number) (drop_one words number word at)
+
+-- the same of the word that a register shows
+pub words_there : (words : List Bits) (number : ℕ) (word : Bits) → number < length words → word ≡ word_at words number
+    → words_from number (drop number words) ≡ word_text number word ++ words_from (number + 1) (drop (number + 1) words)
+words_there words number word within is = words_here words number word (slice_get-get_or words number (bit false) within ∙ ap Some (sym is))
 
 pub no_words : (words : List Bits) (number : ℕ) → length words ≤ number → words_from number (drop number words) ≡ []
 no_words [] zero up = refl

@@ -1,4 +1,5 @@
 pub mod Lines
 pub mod Numbers
 pub mod Reading
+pub mod Shown
 pub mod Texts

@@ -2,8 +2,8 @@
 //!
 //! Modules in reading order: `number` (the numbers of a line), `call` (a call of a method, with its
 //! arguments), `lines` (a whole line), `law` (a line asks for one thing), `text` (names, constants and
-//! lists of them), `state` (the lines of a state), `report` (the opening and the clocks of a report),
-//! `order` (the text of a schedule). What a line is stands in `specs/Lines.antt`, and what is written in
+//! lists of them), `state` (the lines of a state), `registers` (the same of the registers that show it),
+//! `report` (the opening and the clocks of a report), `order` (the text of a schedule). What a line is stands in `specs/Lines.antt`, and what is written in
 //! `specs/Texts.antt`.
 #![tactic(auto)]
 
@@ -12,6 +12,7 @@ mod law;
 mod lines;
 mod number;
 mod order;
+mod registers;
 mod report;
 mod state;
 mod text;
@@ -19,4 +20,5 @@ mod text;
 pub use law::one_request;
 pub use lines::{BadLine, line};
 pub use order::write_schedule;
-pub use report::{write_clock, write_opening};
+pub use registers::registers_after;
+pub use report::{write_clock, write_clock_registers, write_opening, write_opening_registers};

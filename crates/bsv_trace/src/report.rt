@@ -1,10 +1,13 @@
-ghost use Rattle.std.specs.Prelude.{◌≡◌, ◌≤◌, ◌++◌, OnOk, OnErr};
+ghost use Rattle.std.specs.Prelude.{◌≡◌, ◌≤◌, ◌++◌, List, OnOk, OnErr};
 ghost use Rattle.std.specs.List.{flat_map};
 ghost use Rattle.bsv_io.specs.Faults.{MayFault};
 ghost use Rattle.bsv_io.specs.Writing.{appended, AppendsPrefix};
 ghost use Rattle.bsv_io.specs.Adding.{Adds};
+ghost use Rattle.bsv_prim.specs.declared.part.Part.{Part as ThePart};
+ghost use Rattle.bsv_trace.specs.Shown.{ShowParts, ShowSome};
 ghost use Rattle.bsv_trace.specs.Texts as texts;
 
+use crate::registers::add_registers;
 use crate::state::add_state;
 use crate::text::{add_list, add_name};
 use bsv_bits::Word;
@@ -222,6 +225,100 @@ pub fn write_clock<S: Sink>(
         fired,
         design.parts.as_slice(),
         state.parts.as_slice(),
+    )?;
+    buffer.flush(sink)
+}
+
+/// Adds the lines of a clock, with the state that the registers show.
+#[tactic(auto, unfolding(crate::specs::Texts::clock_text))]
+fn add_clock_registers<S: Sink>(
+    buffer: &mut PutBuffer,
+    sink: &mut S,
+    elements: &[Element],
+    number: u64,
+    fired: &Fired,
+    instances: &[NamedPart],
+    registers: &[Word],
+) -> Result<(), Failed>
+    ensures { (ps : List ThePart) → ShowParts instances.now registers.now ps
+        → Adds (texts.clock_text (texts.name_at elements.now) number fired.now instances.now ps)
+        result buffer.old buffer.new (S.writing sink.old) (S.writing sink.new) }
+{
+    add_number(buffer, sink, number)?;
+    add_events(buffer, sink, elements, fired)?;
+    add_registers(buffer, sink, instances, registers)
+}
+
+/// Adds the opening of a report, with the state that the registers show.
+#[tactic(auto, unfolding(crate::specs::Texts::opening_text))]
+fn add_opening_registers<S: Sink>(
+    buffer: &mut PutBuffer,
+    sink: &mut S,
+    instances: &[NamedPart],
+    registers: &[Word],
+) -> Result<(), Failed>
+    ensures { (ps : List ThePart) → ShowParts instances.now registers.now ps
+        → Adds (texts.opening_text instances.now ps) result buffer.old buffer.new
+        (S.writing sink.old) (S.writing sink.new) }
+{
+    add(buffer, sink, b"opening\n")?;
+    add_registers(buffer, sink, instances, registers)
+}
+
+/// Puts what `write_opening` puts of the state that the registers show.
+pub fn write_opening_registers<S: Sink>(
+    design: &Design,
+    registers: &[Word],
+    sink: &mut S,
+) -> Result<(), Failed>
+    requires { ShowSome design.now.parts registers.now }
+    ensures ok { (ps : List ThePart) → ShowParts design.now.parts registers.now ps
+        → OnOk result (S.writing sink.new ≡ appended
+        (texts.opening_text design.now.parts ps) (S.writing sink.old)) }
+    ensures prefix { (ps : List ThePart) → ShowParts design.now.parts registers.now ps
+        → AppendsPrefix (texts.opening_text design.now.parts ps)
+        (S.writing sink.old) (S.writing sink.new) }
+    ensures count { (S.writing sink.old).faults ≤ (S.writing sink.new).faults }
+    ensures counted { OnErr result (MayFault (S.writing sink.old).faults
+        (S.writing sink.new).faults) }
+{
+    let mut buffer = PutBuffer::new();
+    add_opening_registers(&mut buffer, sink, design.parts.as_slice(), registers)?;
+    buffer.flush(sink)
+}
+
+/// Puts what `write_clock` puts of the clock of a number and of the state that the registers show.
+pub fn write_clock_registers<S: Sink>(
+    design: &Design,
+    number: u64,
+    fired: &Fired,
+    registers: &[Word],
+    sink: &mut S,
+) -> Result<(), Failed>
+    requires { ShowSome design.now.parts registers.now }
+    ensures ok { (ps : List ThePart) → ShowParts design.now.parts registers.now ps
+        → OnOk result (S.writing sink.new ≡ appended
+        (texts.clock_text (texts.name_at design.now.elements) number fired.now
+        design.now.parts ps)
+        (S.writing sink.old)) }
+    ensures prefix { (ps : List ThePart) → ShowParts design.now.parts registers.now ps
+        → AppendsPrefix
+        (texts.clock_text (texts.name_at design.now.elements) number fired.now
+        design.now.parts ps)
+        (S.writing sink.old) (S.writing sink.new) }
+    ensures count { (S.writing sink.old).faults ≤ (S.writing sink.new).faults }
+    ensures counted { OnErr result (MayFault (S.writing sink.old).faults
+        (S.writing sink.new).faults) }
+{
+    let mut buffer = PutBuffer::new();
+    add_clock_registers(
+        &mut buffer,
+        sink,
+        design.elements.as_slice(),
+        number,
+        fired,
+        design.parts.as_slice(),
+        registers,
     )?;
     buffer.flush(sink)
 }

@@ -9,7 +9,7 @@ use bsv_io::{Failed, PutBuffer, Sink, add, add_constant};
 use bsv_prim::{Part, Queue};
 
 /// Whether the state of an instance of the kind has a line: registers and queues have one, wires have none.
-fn has_line(kind: Kind) -> bool
+pub(crate) fn has_line(kind: Kind) -> bool
     ensures { result ≡ texts.has_line kind }
 {
     match kind {
@@ -28,7 +28,7 @@ fn add_next_word<S: Sink>(buffer: &mut PutBuffer, sink: &mut S, word: Word) -> R
 }
 
 /// Adds a word of a queue, with a blank before it where others come before it.
-fn add_word<S: Sink>(
+pub(crate) fn add_word<S: Sink>(
     buffer: &mut PutBuffer,
     sink: &mut S,
     number: u32,
