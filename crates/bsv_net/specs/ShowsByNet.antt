@@ -1,7 +1,7 @@
 -- A net that carries a scheme: for the words of its registers and its inputs, the words of its nodes are what the clock is,
 -- and what gives nothing names no node (Hoe and Arvind 2004, "synthesis of operation-centric hardware descriptions"). Who
 -- makes a net, rewrites it or runs it speaks of this record alone.
-use Rattle.std.specs.Prelude.{◌≡◌, ℕ, Bool, false, List, map, length, slice_get, Some}
+use Rattle.std.specs.Prelude.{◌≡◌, ◌<◌, ℕ, Bool, true, false, List, map, length, slice_get, Some}
 use Rattle.bsv_bits.specs.Words.{Bits}
 use Rattle.bsv_design.specs.declared.schedule.Schedule.{Schedule}
 use Rattle.bsv_design.specs.design.Bodies.{at}
@@ -35,6 +35,12 @@ WordsCarry aggressive S made n = Carries aggressive S made (map cell n.registers
 abbrev pub NamesNoResult : Scheme → NetData → Type 0
 NamesNoResult S c =
     (n : ℕ) (o : Outline) → slice_get S.elements n ≡ Some o → gives_value o.role ≡ false → slice_get c.results n ≡ Some (length c.nodes)
+
+-- that of an element with a result is a node
+abbrev pub NamesResults : Scheme → NetData → Type 0
+NamesResults S c =
+    (n : ℕ) (o : Outline) → slice_get S.elements n ≡ Some o → gives_value o.role ≡ true
+    → (k : ℕ) × (slice_get c.results n ≡ Some k) × (k < length c.nodes)
 
 -- and of methods that act, words at their arguments count only while they are asked
 abbrev pub WordsIgnore : Bool → Scheme → Schedule → Net → Type 0
