@@ -1,0 +1,6 @@
+pub mod Codes
+pub mod Engines
+pub mod Numbers
+pub mod Rights
+pub mod Runs
+pub mod Cells
