@@ -1,0 +1,78 @@
+ghost use Rattle.std.specs.Prelude.{◌≡◌, length, IfOk};
+ghost use Rattle.bsv_engine.specs.Runs.{AllStand};
+
+use crate::run::Run;
+use bsv_bits::{Operator, OutOfMemory};
+use bsv_net::NetNode;
+use bsv_prim::RegisterInfo;
+use sqlite_items::Items;
+use std::alloc::Global;
+
+/// The width at this place.
+fn width_at(widths: &[u32], place: u32) -> u32
+{
+    match widths.get(place as usize) {
+        Some(width) => *width,
+        None => 0,
+    }
+}
+
+fn compares(operator: Operator) -> bool
+{
+    matches!(operator, Operator::Same | Operator::Less | Operator::LessSigned)
+}
+
+/// The width of a node after nodes of these widths, where it is in order.
+fn width_of(inputs: &[u32], registers: &[RegisterInfo], widths: &[u32], node: NetNode) -> u32
+{
+    match node {
+        NetNode::Input(number) => width_at(inputs, number),
+        NetNode::Register(number) => match registers.get(number as usize) {
+            Some(register) => register.width,
+            None => 0,
+        },
+        NetNode::Constant(word) => word.width(),
+        NetNode::Not(a) => width_at(widths, a),
+        NetNode::Two(operator, a, _) => {
+            if compares(operator) { 1 } else { width_at(widths, a) }
+        }
+        NetNode::Pick(_, a, _) => width_at(widths, a),
+        NetNode::Slice(_, high, low) => high.saturating_sub(low).saturating_add(1),
+        NetNode::Join(a, b) => width_at(widths, a).saturating_add(width_at(widths, b)),
+        NetNode::Extend(_, width) => width,
+        NetNode::SignExtend(_, width) => width,
+    }
+}
+
+/// The widths of nodes.
+pub fn widths_of(
+    alloc: Global,
+    inputs: &[u32],
+    registers: &[RegisterInfo],
+    nodes: &[NetNode],
+) -> Result<Items<u32>, OutOfMemory>
+{
+    let mut widths = Items::new(alloc);
+    for node in nodes {
+        let width = width_of(inputs, registers, widths.as_slice(), *node);
+        widths.push(width)?;
+    }
+    Ok(widths)
+}
+
+/// The runs of nodes of these widths.
+pub fn make_runs(alloc: Global, nodes: &[NetNode], widths: &[u32]) -> Result<Items<Run>, OutOfMemory>
+    requires { length widths.now ≡ length nodes.now }
+    ensures { IfOk result (λ runs. AllStand widths.now nodes.now 0 runs) }
+{
+    let mut runs = Items::new(alloc);
+    let mut place = 0;
+    while place < nodes.len() {
+        let (_, rest) = nodes.split_at(place);
+        let (before, own) = widths.split_at(place);
+        let run = Run::first(alloc, rest, own, before)?;
+        place += run.len();
+        runs.push(run)?;
+    }
+    Ok(runs)
+}
