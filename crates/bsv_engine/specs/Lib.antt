@@ -4,3 +4,5 @@ pub mod Numbers
 pub mod Rights
 pub mod Runs
 pub mod Cells
+pub mod Running
+pub mod Widths

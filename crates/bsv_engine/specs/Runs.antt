@@ -132,19 +132,19 @@ Stands before own nodes (run.Join xs) = Stand join_right join_node before own no
 Stands before own nodes (run.Extended xs) = Stand extended_right extended_node before own nodes xs
 Stands before own nodes (run.SignExtended xs) = Stand sign_extended_right sign_extended_node before own nodes xs
 
--- the runs stand for the nodes from this place on
-abbrev pub AllStand : List ℕ → List NetNode → ℕ → List Run → Type 0
-AllStand widths nodes place [] = place ≡ length nodes
-AllStand widths nodes place (r ∷ rs) =
-    Stands (take place widths) (drop place widths) (drop place nodes) r
-    × (place + size r ≤ length nodes)
-    × AllStand widths nodes (place + size r) rs
+-- the runs stand for the nodes from one place up to another
+abbrev pub AllStand : List ℕ → List NetNode → ℕ → ℕ → List Run → Type 0
+AllStand widths nodes from to [] = from ≡ to
+AllStand widths nodes from to (r ∷ rs) =
+    Stands (take from widths) (drop from widths) (drop from nodes) r
+    × (from + size r ≤ length nodes)
+    × AllStand widths nodes (from + size r) to rs
 
 -- ---- what holds of an engine
 
 pub record IsEngine (c : Code) (widths : List ℕ) (runs : List Run) (narrow wide : List ℕ) : Type 0 where
   pub of_net : IsOfNet c
   pub widths_are : widths ≡ of_net.right.widths
-  pub runs_stand : AllStand widths c.nodes 0 runs
+  pub runs_stand : AllStand widths c.nodes 0 (length c.nodes) runs
   pub narrow_room : length narrow ≡ length c.nodes
   pub wide_room : length wide ≡ length c.nodes

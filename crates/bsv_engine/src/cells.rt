@@ -24,27 +24,28 @@ fn kept(width: u32, narrow: u64, wide: u128) -> Word
 }
 
 impl Cells<'_> {
-    /// The word of a node.
+    /// The word of a node, or a bit that is 0 where there is none.
     pub fn at(self, node: u32) -> Word
+        requires narrow { length self.narrow.now ≡ length self.widths.now }
+        requires wide { length self.wide.now ≡ length self.widths.now }
         ensures { result
-            ≡ bodies.at (all_kept self.widths.now self.narrow.now self.wide.now) node }
+            ≡ bodies.at (all_kept self.entry.widths.now self.entry.narrow.now self.entry.wide.now) node }
     {
         let place = node as usize;
-        let (Some(width), Some(narrow), Some(wide)) = (
-            self.widths.get(place),
-            self.narrow.get(place),
-            self.wide.get(place),
-        ) else {
-            return Word::bit(false);
-        };
-        kept(*width, *narrow, *wide)
+        if place < self.widths.len() {
+            kept(self.widths[place], self.narrow[place], self.wide[place])
+        } else {
+            Word::bit(false)
+        }
     }
 
     /// The word of a node after nodes of these words.
     pub fn word(self, inputs: &[Word], registers: &[Word], node: NetNode) -> Word
+        requires narrow { length self.narrow.now ≡ length self.widths.now }
+        requires wide { length self.wide.now ≡ length self.widths.now }
         ensures { result
             ≡ computed inputs.now registers.now
-            (bodies.at (all_kept self.widths.now self.narrow.now self.wide.now)) node }
+            (bodies.at (all_kept self.entry.widths.now self.entry.narrow.now self.entry.wide.now)) node }
     {
         match node {
             NetNode::Input(number) => word_at(inputs, number),

@@ -1,4 +1,4 @@
-ghost use Rattle.std.specs.Prelude.{◌≡◌, ◌≤◌, ◌++◌, length, drop, IfOk};
+ghost use Rattle.std.specs.Prelude.{◌≡◌, ◌≤◌, ◌++◌, length, drop, false, IfOk};
 ghost use Rattle.bsv_engine.specs.Runs as spec;
 
 use crate::bitwise::{And, Not, Or, Xor};

@@ -1,8 +1,6 @@
-ghost use Rattle.std.specs.Prelude.{◌≡◌, ◌+◌, ◌≤◌, List, length, take, drop};
-ghost use Rattle.bsv_bits.specs.Words.{Bits};
-ghost use Rattle.bsv_design.specs.design.Bodies.{at};
-ghost use Rattle.bsv_engine.specs.Cells.{KeptTo};
-ghost use Rattle.bsv_engine.specs.Runs.{AllStand, IsSolved, Stands, size};
+ghost use Rattle.std.specs.Prelude.{◌≡◌, ◌+◌, ◌++◌, ◌<◌, ◌≤◌, length, take, drop, false};
+ghost use Rattle.bsv_engine.specs.Running.{HasRoom, Keeps};
+ghost use Rattle.bsv_engine.specs.Runs.{AllStand, Stands, is_single, numbers, size};
 
 use crate::cells::{Cells, keep};
 use crate::run::Run;
@@ -20,6 +18,9 @@ pub struct Given<'a> {
 
 /// Keeps the word of the node of this place.
 fn single(given: Given<'_>, place: usize, narrow: &mut [u64], wide: &mut [u128])
+    requires there { place < length given.nodes.now }
+    requires room { HasRoom given narrow.old wide.old }
+    ensures { Keeps given.entry place (place + 1) narrow.old wide.old narrow.new wide.new }
 {
     let cells = Cells {
         widths: &given.widths[..place],
@@ -30,19 +31,41 @@ fn single(given: Given<'_>, place: usize, narrow: &mut [u64], wide: &mut [u128])
     keep(word, place, narrow, wide);
 }
 
+/// Keeps the words of steps, of which the first stands at this place.
+fn several(given: Given<'_>, run: &Run, place: usize, narrow: &mut [u64])
+    requires stands { Stands (take place given.widths.now) (drop place given.widths.now)
+        (drop place given.nodes.now) run.now }
+    requires there { place + size run.now ≤ length given.nodes.now }
+    requires room { length narrow.old ≡ length given.nodes.now }
+    ensures { is_single run.now ≡ false → narrow.new
+        ≡ take place narrow.old
+        ++ (numbers given.entry.inputs.now given.entry.registers.now (take place narrow.old) run.now
+        ++ drop (place + size run.now) narrow.old) }
+{
+    let (seen, rest) = narrow.split_at_mut(place);
+    run.run(given.inputs, given.registers, seen, rest);
+}
+
 /// Keeps the words of one run, which begins at this place.
 fn advance(given: Given<'_>, run: &Run, place: usize, narrow: &mut [u64], wide: &mut [u128])
+    requires stands { Stands (take place given.widths.now) (drop place given.widths.now)
+        (drop place given.nodes.now) run.now }
+    requires there { place + size run.now ≤ length given.nodes.now }
+    requires room { HasRoom given narrow.old wide.old }
+    ensures { Keeps given.entry place (place + size run.now) narrow.old wide.old narrow.new wide.new }
 {
     if run.is_single() {
         single(given, place, narrow, wide);
     } else {
-        let (seen, rest) = narrow.split_at_mut(place);
-        run.run(given.inputs, given.registers, seen, rest);
+        several(given, run, place, narrow);
     }
 }
 
 /// Keeps the words of all runs.
 pub fn run_all(given: Given<'_>, runs: &[Run], narrow: &mut [u64], wide: &mut [u128])
+    requires stand { AllStand given.widths.now given.nodes.now 0 (length given.nodes.now) runs.now }
+    requires room { HasRoom given narrow.old wide.old }
+    ensures { Keeps given.entry 0 (length given.entry.nodes.now) narrow.old wide.old narrow.new wide.new }
 {
     let mut place = 0;
     for run in runs {
