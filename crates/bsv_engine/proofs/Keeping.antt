@@ -4,7 +4,7 @@ use Rattle.std.specs.Prelude.{nat_le, nat_lt}
 use Rattle.std.proofs.Math.ListN.{set}
 use Rattle.std.proofs.Math.Pow.{pow_mono}
 use Rattle.std.proofs.Math.Nat.{mod-eq_of_lt}
-use Rattle.std.proofs.lemmas.List.{get_or-set_same, get_or-set_other}
+use Rattle.std.proofs.lemmas.List.{get_or-set_same, get_or-set_other, take_all}
 use Rattle.std.proofs.lemmas.Bool.Decides.{nat_tests}
 use Rattle.bsv_bits.specs.Words.{Bits, bit}
 use Rattle.bsv_prim.specs.Table.{IsWordOf}
@@ -84,3 +84,16 @@ keeps_more us ns vs ws place w a b c fits is before =
       as_narrow = λ h. ap (λ (x : Bits). x.value % 2 ^ 64) is ∙ lower_is (get_or us place 0) (at ws place) fits h;
       as_wide = λ h. ap (λ (x : Bits). x.value) is;
     }))
+
+-- all words are kept
+pub all_kept_whole : (us ns vs : List ℕ) (ws : List Bits) → length ws ≡ length us → length ns ≡ length us → length vs ≡ length us
+    → ((k : ℕ) → k < length us → IsWordOf (get_or us k 0) (at ws k)) → KeptTo (length us) us ns vs ws → all_kept us ns vs ≡ ws
+all_kept_whole us ns vs ws a b c fits keeps =
+    let n : ℕ = length us in
+    sym (ap₃ all_kept (take_all n us (omega arith)) (take_all n ns (omega arith)) (take_all n vs (omega arith)))
+    ∙ all_kept_are n us ns vs ws (omega arith) (omega arith) (omega arith) (omega arith)
+    (λ k l. kept_is (get_or us k 0) (get_or ns k 0) (get_or vs k 0) (at ws k) (fits k l) (keeps k l))
+    ∙ take_all n ws (omega arith)
+  where
+    ap₃ : {A B C D : Type 0} (f : A → B → C → D) {a b : A} {c d : B} {e g : C} → a ≡ b → c ≡ d → e ≡ g → f a c e ≡ f b d g
+    ap₃ f {a} {b} {c} {d} {e} {g} p q r = ap (λ x. f x c e) p ∙ ap (λ x. f b x e) q ∙ ap (f b d) r

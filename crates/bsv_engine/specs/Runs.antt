@@ -67,6 +67,11 @@ Within n (run.Extended xs) = All (extended_within n) xs
 Within n (run.SignExtended xs) = All (sign_extended_within n) xs
 Within n _ = Unit {0}
 
+-- of runs that write the words from this place on, of which there are so many in all
+abbrev pub AllWithin : ℕ → ℕ → List Run → Type 0
+AllWithin all place [] = Unit {0}
+AllWithin all place (r ∷ rs) = Within place r × (place + size r ≤ all) × AllWithin all (place + size r) rs
+
 -- a word as a machine loads it: the lower 64 bits
 abbrev pub lower : List Bits → ℕ → ℕ
 lower ws k = (at ws k).value % 2 ^ 64
@@ -142,9 +147,7 @@ AllStand widths nodes from to (r ∷ rs) =
 
 -- ---- what holds of an engine
 
-pub record IsEngine (c : Code) (widths : List ℕ) (runs : List Run) (narrow wide : List ℕ) : Type 0 where
+pub record IsEngine (c : Code) (widths : List ℕ) (runs : List Run) : Type 0 where
   pub of_net : IsOfNet c
   pub widths_are : widths ≡ of_net.right.widths
   pub runs_stand : AllStand widths c.nodes 0 (length c.nodes) runs
-  pub narrow_room : length narrow ≡ length c.nodes
-  pub wide_room : length wide ≡ length c.nodes

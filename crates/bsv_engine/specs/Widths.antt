@@ -6,10 +6,7 @@ use Rattle.bsv_net.specs.Nets.{register_widths}
 use Rattle.bsv_net.specs.declared.node.NetNode.{NetNode}
 use Rattle.bsv_net.specs.declared.node.NetNode.TheVariants as net
 
--- a number of 32 bits
-abbrev pub within : ℕ → ℕ
-within n = min n (2 ^ 32 - 1)
-
+-- of nodes that are not in order it is a number of 32 bits
 abbrev pub width_of : List ℕ → List RegisterInfo → List ℕ → NetNode → ℕ
 width_of inputs registers us (net.Input k) = slice_index inputs k
 width_of inputs registers us (net.Register k) = slice_index (register_widths registers) k
@@ -17,8 +14,8 @@ width_of inputs registers us (net.Constant w) = w.width
 width_of inputs registers us (net.Not a) = slice_index us a
 width_of inputs registers us (net.Two o a b) = if gives_bit o then 1 else slice_index us a
 width_of inputs registers us (net.Pick t a b) = slice_index us a
-width_of inputs registers us (net.Slice a high low) = within (high - low + 1)
-width_of inputs registers us (net.Join a b) = within (slice_index us a + slice_index us b)
+width_of inputs registers us (net.Slice a high low) = min (high - low + 1) (slice_index us a)
+width_of inputs registers us (net.Join a b) = min (slice_index us a + slice_index us b) (2 ^ 32 - 1)
 width_of inputs registers us (net.Extend a width) = width
 width_of inputs registers us (net.SignExtend a width) = width
 

@@ -1,4 +1,4 @@
-ghost use Rattle.std.specs.Prelude.{◌≡◌, ◌<◌, length, IfOk};
+ghost use Rattle.std.specs.Prelude.{◌≡◌, ◌<◌, length, vec_len, IfOk};
 ghost use Rattle.bsv_design.specs.design.Bodies.{at};
 ghost use Rattle.bsv_design.specs.design.Words as truth;
 ghost use Rattle.bsv_guard.specs.Fitting.{HaveWidths};
@@ -30,8 +30,10 @@ pub struct Engine {
     /// By the places of the nodes the wider words.
     wide: Vec<u128>,
     ghost right: { ∥ IsEngine
-      (record { inputs = inputs; registers = registers; nodes = nodes })
-      widths runs narrow.items wide.items ∥₁ },
+      (record { inputs = inputs; registers = registers; nodes = nodes }) widths runs ∥₁ },
+    ghost all_widths: { length widths ≡ length nodes },
+    ghost narrow_room: { vec_len narrow ≡ length nodes },
+    ghost wide_room: { vec_len wide ≡ length nodes },
 }
 
 impl Engine {

@@ -58,7 +58,10 @@ fn width_of(inputs: &[u32], registers: &[RegisterInfo], widths: &[u32], node: Ne
             }
         }
         NetNode::Pick(_, a, _) => width_at(widths, a),
-        NetNode::Slice(_, high, low) => high.saturating_sub(low).saturating_add(1),
+        NetNode::Slice(a, high, low) => {
+            let width = high.saturating_sub(low).saturating_add(1);
+            width.min(width_at(widths, a))
+        }
         NetNode::Join(a, b) => width_at(widths, a).saturating_add(width_at(widths, b)),
         NetNode::Extend(_, width) => width,
         NetNode::SignExtend(_, width) => width,

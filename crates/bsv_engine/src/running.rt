@@ -1,6 +1,6 @@
 ghost use Rattle.std.specs.Prelude.{◌≡◌, ◌+◌, ◌++◌, ◌<◌, ◌≤◌, length, take, drop, false};
 ghost use Rattle.bsv_engine.specs.Running.{HasRoom, Keeps};
-ghost use Rattle.bsv_engine.specs.Runs.{AllStand, Stands, is_single, numbers, size};
+ghost use Rattle.bsv_engine.specs.Runs.{AllStand, AllWithin, Stands, Within, is_single, numbers, size};
 
 use crate::cells::{Cells, keep};
 use crate::run::Run;
@@ -33,10 +33,8 @@ fn single(given: Given<'_>, place: usize, narrow: &mut [u64], wide: &mut [u128])
 
 /// Keeps the words of steps, of which the first stands at this place.
 fn several(given: Given<'_>, run: &Run, place: usize, narrow: &mut [u64])
-    requires stands { Stands (take place given.widths.now) (drop place given.widths.now)
-        (drop place given.nodes.now) run.now }
-    requires there { place + size run.now ≤ length given.nodes.now }
-    requires room { length narrow.old ≡ length given.nodes.now }
+    requires within { Within place run.now }
+    requires there { place + size run.now ≤ length narrow.old }
     ensures { is_single run.now ≡ false → narrow.new
         ≡ take place narrow.old
         ++ (numbers given.entry.inputs.now given.entry.registers.now (take place narrow.old) run.now
@@ -48,11 +46,12 @@ fn several(given: Given<'_>, run: &Run, place: usize, narrow: &mut [u64])
 
 /// Keeps the words of one run, which begins at this place.
 fn advance(given: Given<'_>, run: &Run, place: usize, narrow: &mut [u64], wide: &mut [u128])
-    requires stands { Stands (take place given.widths.now) (drop place given.widths.now)
-        (drop place given.nodes.now) run.now }
+    requires within { Within place run.now }
     requires there { place + size run.now ≤ length given.nodes.now }
     requires room { HasRoom given narrow.old wide.old }
-    ensures { Keeps given.entry place (place + size run.now) narrow.old wide.old narrow.new wide.new }
+    ensures { Stands (take place given.entry.widths.now) (drop place given.entry.widths.now)
+        (drop place given.entry.nodes.now) run.now
+        → Keeps given.entry place (place + size run.now) narrow.old wide.old narrow.new wide.new }
 {
     if run.is_single() {
         single(given, place, narrow, wide);
@@ -63,9 +62,11 @@ fn advance(given: Given<'_>, run: &Run, place: usize, narrow: &mut [u64], wide: 
 
 /// Keeps the words of all runs.
 pub fn run_all(given: Given<'_>, runs: &[Run], narrow: &mut [u64], wide: &mut [u128])
-    requires stand { AllStand given.widths.now given.nodes.now 0 (length given.nodes.now) runs.now }
+    requires within { AllWithin (length given.nodes.now) 0 runs.now }
     requires room { HasRoom given narrow.old wide.old }
-    ensures { Keeps given.entry 0 (length given.entry.nodes.now) narrow.old wide.old narrow.new wide.new }
+    ensures { AllStand given.entry.widths.now given.entry.nodes.now 0
+        (length given.entry.nodes.now) runs.now
+        → Keeps given.entry 0 (length given.entry.nodes.now) narrow.old wide.old narrow.new wide.new }
 {
     let mut place = 0;
     for run in runs {
