@@ -16,7 +16,7 @@ net_solved : (c : NetData) (right : IsNet c) (inputs registers : List Bits) → 
     → IsSolved inputs registers c.nodes right.widths (words c.nodes inputs registers)
 net_solved c right inputs registers first second =
     let within : list_all (is_within (length inputs) (length c.registers)) c.nodes ≡ true =
-        subst (λ n. list_all (is_within n (length c.registers)) c.nodes ≡ true) (same_length c.inputs inputs first) right.within in
+    subst (λ n. list_all (is_within n (length c.registers)) c.nodes ≡ true) (same_length c.inputs inputs first) right.within in
     solved_where c.nodes inputs registers (length c.registers) within right.widths (words_have c right inputs registers first second)
 
 pub code_solved : (c : Code) (o : IsOfNet c) (inputs registers : List Bits) → HaveWidths c.inputs inputs → HaveWidths (register_widths c.registers) registers

@@ -33,7 +33,7 @@ words_front xs inputs registers k =
     let n : ℕ = length inputs in
     let args : List Bits = inputs ++ registers in
     let split : as_nodes n xs ≡ as_nodes n (take k xs) ++ as_nodes n (drop k xs) =
-        ap (as_nodes n) (sym (take-append-drop k xs)) ∙ map-append (as_node n) (take k xs) (drop k xs) in
+    ap (as_nodes n) (sym (take-append-drop k xs)) ∙ map-append (as_node n) (take k xs) (drop k xs) in
     let grown = words_grown (of_parts no_answers) args [] (values no_answers args [] [] (as_nodes n (take k xs))) (as_nodes n (drop k xs)) in
     (grown.0, ap (values no_answers args [] []) split ∙ words_append (of_parts no_answers) args [] [] (as_nodes n (take k xs)) (as_nodes n (drop k xs)) ∙ grown.1)
 
@@ -49,12 +49,12 @@ module _ (nodes : List NetNode) (inputs registers : List Bits) (m : ℕ) (within
       let count : length before ≡ k = words_count (take k nodes) inputs registers ∙ length-take-le k nodes (omega arith) in
       let front = words_front nodes inputs registers (k + 1) in
       let split : all ≡ before ++ w ∷ front.0 =
-          front.1 ∙ ap (λ l. l ++ front.0) (words_more nodes inputs registers k x there) ∙ append_assoc before (w ∷ []) front.0 in
+      front.1 ∙ ap (λ l. l ++ front.0) (words_more nodes inputs registers k x there) ∙ append_assoc before (w ∷ []) front.0 in
       let first : take k all ≡ before = ap (take k) split ∙ take_at before (w ∷ front.0) k count in
       let here : at all k ≡ w = (
-        ap (λ l. at l k) split
-        ∙ ap (λ n. at (before ++ w ∷ front.0) n) (sym count)
-        ∙ ap or_zero (at_middle before front.0 w)) in
+      ap (λ l. at l k) split
+      ∙ ap (λ n. at (before ++ w ∷ front.0) n) (sym count)
+      ∙ ap or_zero (at_middle before front.0 w)) in
       here
       ∙ as_computed inputs registers before m x (holds_at_all (is_within (length inputs) m) nodes within k x there)
       ∙ ap (λ l. computed inputs registers (at l) x) (sym first)

@@ -132,10 +132,10 @@ module _ (inputs registers : List Bits) (nodes : List NetNode) (us ns vs : List 
         let narrow : get_or us (place + j) 0 ≤ 64 = subst (λ u. u ≤ 64) width (stand.narrow j 0 (omega arith)) in
         let word : at ws (place + j) ≡ computed inputs registers (at (seen j)) (of x) = solved.words (place + j) (of x) node in
         let here : get_or written (place + j) 0 ≡ number x = (
-          get_or-append_right (take place ns) (map number steps ++ more) place (place + j) 0 front (omega arith)
-          ∙ ap (λ i. get_or (map number steps ++ more) i 0) (omega arith)
-          ∙ get_or_append_left (map number steps) more 0 j (omega (arith, length-map steps number))
-          ∙ get_or_from_slice_get (map number steps) j (number x) 0 (mapped_at number steps j x item.1)) in
+        get_or-append_right (take place ns) (map number steps ++ more) place (place + j) 0 front (omega arith)
+        ∙ ap (λ i. get_or (map number steps ++ more) i 0) (omega arith)
+        ∙ get_or_append_left (map number steps) more 0 j (omega (arith, length-map steps number))
+        ∙ get_or_from_slice_get (map number steps) j (number x) 0 (mapped_at number steps j x item.1)) in
         let below = subst (λ (w : Bits). w.value < 2 ^ 64) word (small (place + j) (omega arith) narrow) in
         record {
           as_narrow = λ h. here ∙ law j x fit below ∙ ap (λ (w : Bits). w.value) (sym word);

@@ -28,7 +28,7 @@ module _ (c : Code) (us : List ℕ) (rs : List Run) (right : ∥ IsEngine c us r
       ∥∥₁_elim right (Prim.hlevel props) (λ (k : IsEngine c us rs).
       let all : List Bits = words c.nodes inputs registers in
       let solved : IsSolved inputs registers c.nodes us all =
-          subst (λ l. IsSolved inputs registers c.nodes l all) (sym k.widths_are) (code_solved c k.of_net inputs registers first second) in
+      subst (λ l. IsSolved inputs registers c.nodes l all) (sym k.widths_are) (code_solved c k.of_net inputs registers first second) in
       all_kept_whole us ns vs all (omega (arith, solved.long)) (omega arith) (omega arith) solved.fits
       (subst (λ n. KeptTo n us ns vs all) (sym long) (keeps k.runs_stand all solved)))
 

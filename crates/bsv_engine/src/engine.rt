@@ -30,7 +30,7 @@ pub struct Engine {
     /// By the places of the nodes the wider words.
     wide: Vec<u128>,
     ghost right: { ∥ IsEngine
-      (record { inputs = inputs; registers = registers; nodes = nodes }) widths runs ∥₁ },
+        (record { inputs = inputs; registers = registers; nodes = nodes }) widths runs ∥₁ },
     ghost all_widths: { length widths ≡ length nodes },
     ghost narrow_room: { vec_len narrow ≡ length nodes },
     ghost wide_room: { vec_len wide ≡ length nodes },
@@ -66,11 +66,9 @@ impl Engine {
 
     /// Computes the words of all nodes, for these words of the registers and of the inputs. Takes no memory.
     pub fn run(&mut self, registers: &[Word], inputs: &[Word])
-        requires registers
-            { HaveWidths (register_widths (code_of self.old).registers) registers.now }
+        requires registers { HaveWidths (register_widths (code_of self.old).registers) registers.now }
         requires inputs { HaveWidths (code_of self.old).inputs inputs.now }
-        ensures words
-            { words_of self.new ≡ words (code_of self.old).nodes inputs.now registers.now }
+        ensures words { words_of self.new ≡ words (code_of self.old).nodes inputs.now registers.now }
         ensures code { code_of self.new ≡ code_of self.old }
     {
         let given = Given {

@@ -12,7 +12,7 @@ loop-place-preserved c =
     let run = c.in_ok-run.run' in
     let pushed = c.in_ok-push.ensures.ok in
     let stands : Stands (take place widths) (drop place widths) (drop place nodes) run =
-        rw (c.split_at-in-loop-place.ensures.front, c.split_at-in-loop-place.ensures.back, c.split_at.ensures.back) at c.in_ok-run.ensures.stands in
+    rw (c.split_at-in-loop-place.ensures.front, c.split_at-in-loop-place.ensures.back, c.split_at.ensures.back) at c.in_ok-run.ensures.stands in
     let size_is = c.len-place.ensures in
     let within = stands_within (take place widths) (drop place widths) (drop place nodes) run stands in
     let end : place + size run ≤ length nodes = omega (arith, length-drop place nodes, c.loop-place.invariant.place) in

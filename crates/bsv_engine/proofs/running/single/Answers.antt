@@ -21,11 +21,11 @@ returns c = λ ws solved before.
     let long = solved.long in
     let here : slice_get given.nodes.now place ≡ Some node = slice_get_read given.nodes.now (length given.nodes.now) place node refl c.requires.there c.index-given-place.is in
     let so_far = all_kept_are place us ns vs ws (omega arith) (omega arith) (omega arith) (omega arith)
-        (λ k l. kept_is (get_or us k 0) (get_or ns k 0) (get_or vs k 0) (at ws k) (solved.fits k (omega arith)) (before k l)) in
+    (λ k l. kept_is (get_or us k 0) (get_or ns k 0) (get_or vs k 0) (at ws k) (solved.fits k (omega arith)) (before k l)) in
     let word : c.word-word.result ≡ at ws place =
-        c.word-word.ensures
-        ∙ ap (computed given.inputs.now given.registers.now (at (all_kept (take place us) (take place ns) (take place vs)))) (sym c.index-given-place.is)
-        ∙ ap (λ (l : List Bits). computed given.inputs.now given.registers.now (at l) node) so_far
-        ∙ sym (solved.words place node here) in
+    c.word-word.ensures
+    ∙ ap (computed given.inputs.now given.registers.now (at (all_kept (take place us) (take place ns) (take place vs)))) (sym c.index-given-place.is)
+    ∙ ap (λ (l : List Bits). computed given.inputs.now given.registers.now (at l) node) so_far
+    ∙ sym (solved.words place node here) in
     rw (c.keep.ensures.narrow, c.keep.ensures.wide)
     (keeps_more us ns vs ws place c.word-word.result (omega arith) (omega arith) (omega arith) (solved.fits place (omega arith)) word before)

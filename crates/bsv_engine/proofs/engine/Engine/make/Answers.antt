@@ -24,8 +24,8 @@ invariant_of-result c =
     let widths : us ≡ widths_of c.args.inputs.now c.args.registers.now [] c.args.nodes.now = c.widths.view_is ∙ c.in_ok-widths.ensures in
     let sliced : c.as_slice.result.now ≡ us = c.as_slice.ensures ∙ sym c.widths.view_is in
     let stand : AllStand us c.args.nodes.now 0 (length c.args.nodes.now) rs =
-        subst (λ l. AllStand us c.args.nodes.now 0 (length c.args.nodes.now) l) (sym c.runs.view_is)
-        (subst (λ l. AllStand l c.args.nodes.now 0 (length c.args.nodes.now) c.in_ok-runs.runs) sliced c.in_ok-runs.ensures) in
+    subst (λ l. AllStand us c.args.nodes.now 0 (length c.args.nodes.now) l) (sym c.runs.view_is)
+    (subst (λ l. AllStand l c.args.nodes.now 0 (length c.args.nodes.now) c.in_ok-runs.runs) sliced c.in_ok-runs.ensures) in
     let same = same_code _ _ _ _ _ _ inputs registers nodes in
     record {
       right = subst (λ (x : Code). ∥ IsEngine x us rs ∥₁) (sym same) (engine_is (record { inputs = c.args.inputs.now; registers = c.args.registers.now; nodes = c.args.nodes.now }) us rs c.requires widths stand);
