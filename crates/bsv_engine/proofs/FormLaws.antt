@@ -1,6 +1,6 @@
 -- Each form of steps computes the words of its nodes.
 use Rattle.std.proofs.Common.{suc, zero, ◌≡◌, ℕ, ◌+◌, ◌-◌, ◌*◌, ◌/◌, ◌%◌, ◌<◌, ◌≤◌, ◌^◌, ◌==◌, Bool, true, false, ◌&&◌, ◌||◌, List, length, slice_index, sym, ap, ap₂, subst, ◌∙◌, arith, refl, if◌then◌else◌, nat_eq, nat_lt, bit_and, bit_or, bit_xor}
-use Rattle.std.specs.Prelude.{nat_le, int_lt, ℤ, pos, negsuc}
+use Rattle.std.specs.Prelude.{nat_le, int_lt, pos, negsuc}
 use Rattle.std.proofs.Math.Pow.{mod-mod-pow, pow_mono, pow_pos}
 use Rattle.std.proofs.Math.Nat.{add-mul-mod_self_left, mod-eq_of_lt}
 use Rattle.std.proofs.lemmas.Nat.{and_mask, or_shifted, shr_le}
@@ -138,6 +138,15 @@ order_is true true m n t h k = turned m n t h k
 order_is true false m n t h k = refl
 order_is false true m n t h k = refl
 order_is false false m n t h k = refl
+
+less_signed_is : (a b : Bits) (sign : ℕ) → a.width ≡ b.width → a.value < 2 ^ a.width → b.value < 2 ^ b.width → sign ≡ 2 ^ (a.width - 1)
+    → below_signed sign a.value b.value ≡ word_less_signed a b
+less_signed_is a b sign same h k e =
+    let below : b.value < 2 ^ a.width = subst (λ (w : ℕ). b.value < 2 ^ w) (sym same) k in
+    let top : ℕ = 2 ^ (a.width - 1) in
+    ap (λ s. below_signed s a.value b.value) e
+    ∙ order_is (nat_le top a.value) (nat_le top b.value) a.value b.value (2 ^ a.width - 1) (omega (arith, h)) (omega (arith, below))
+    ∙ ap (λ w. word_less_signed a (record { width = w; value = b.value })) same
 
 shr_below : (a b w : ℕ) → a < 2 ^ w → a / 2 ^ b < 2 ^ w
 shr_below a b w h = omega (arith, shr_le a b)
@@ -282,12 +291,7 @@ module _ (us ns : List ℕ) (inputs registers : List Bits) (V : Values) (read : 
   pub less_signed_law : (x : LessSigned) → less_signed_right us x → less_signed_number ns x ≡ (computed inputs registers V (less_signed_node x)).value
   less_signed_law x right =
       let e = even x.a x.b right.0.0 right.0.1 right.1 right.2 in
-      let below : (V x.b).value < 2 ^ (V x.a).width = subst (λ (k : ℕ). (V x.b).value < 2 ^ k) (sym e.same) e.second.below in
-      let sign = sign_of x.a x.sign e.first right.3 in
-      let is : below_signed x.sign (V x.a).value (V x.b).value ≡ word_less_signed (V x.a) (V x.b) =
-      ap (λ s. below_signed s (V x.a).value (V x.b).value) sign
-      ∙ order_is (nat_le (2 ^ ((V x.a).width - 1)) (V x.a).value) (nat_le (2 ^ ((V x.a).width - 1)) (V x.b).value) (V x.a).value (V x.b).value (2 ^ (V x.a).width - 1) (omega (arith, e.first.below)) (omega (arith, below))
-      ∙ ap (λ k. word_less_signed (V x.a) (record { width = k; value = (V x.b).value })) e.same in
+      let is = less_signed_is (V x.a) (V x.b) x.sign e.same e.first.below e.second.below (sign_of x.a x.sign e.first right.3) in
       two operator.LessSigned x.a x.b (less_signed_number ns x) refl e.same
       (ap₂ (λ p q. if below_signed x.sign p q then 1 else 0) e.first.is_value e.second.is_value ∙ ap (λ t. if t then 1 else 0) is)
 

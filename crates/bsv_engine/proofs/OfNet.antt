@@ -1,5 +1,5 @@
 -- An engine of the nodes of a net.
-use Rattle.std.proofs.Common.{◌≡◌, ◌∙◌, ℕ, true, List, [], length, get_or, sym, ap, subst, arith}
+use Rattle.std.proofs.Common.{◌≡◌, ◌∙◌, true, List, [], length, sym, ap, subst}
 use Rattle.std.specs.List.{list_all}
 use Rattle.bsv_bits.specs.Words.{Bits}
 use Rattle.bsv_guard.specs.Fitting.{HaveWidths}

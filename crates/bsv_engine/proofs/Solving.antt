@@ -1,12 +1,12 @@
 -- The words of the nodes of a net are what its nodes compute, one after the other.
-use Rattle.std.proofs.Common.{◌≡◌, ◌∙◌, ℕ, ◌+◌, ◌<◌, true, List, [], ◌∷◌, ◌++◌, map, length, get_or, take, drop, Some, sym, ap, ap₂, subst, arith, refl}
+use Rattle.std.proofs.Common.{◌≡◌, ◌∙◌, ℕ, ◌+◌, ◌<◌, true, List, [], ◌∷◌, ◌++◌, length, get_or, take, drop, Some, sym, ap, arith}
 use Rattle.std.specs.Prelude.{slice_get}
 use Rattle.std.specs.List.{list_all}
 use Rattle.std.proofs.lemmas.List.{take_at, take-append-drop, length-map, length-take-le, map-append, append_assoc}
 use Rattle.std.proofs.lemmas.Option.{slice_get_within, slice_get-get_or}
 use Rattle.bsv_lemmas.proofs.Places.{at_middle}
 use Rattle.bsv_bits.specs.Words.{Bits}
-use Rattle.bsv_design.specs.design.Bodies.{at, of_parts, values, words_after}
+use Rattle.bsv_design.specs.design.Bodies.{at, of_parts, values}
 use Rattle.bsv_design.specs.design.Words.{or_zero}
 use Rattle.bsv_design.specs.scheme.Relations.{no_answers}
 use Rattle.bsv_design.proofs.Bodies.{words_append, words_long, words_grown}

@@ -1,7 +1,6 @@
 -- The words of steps are kept, where the words before them are.
-use Rattle.std.proofs.Common.{◌≡◌, ◌∙◌, ℕ, zero, suc, ◌+◌, ◌-◌, ◌%◌, ◌^◌, ◌<◌, ◌≤◌, Bool, true, false, List, [], ◌∷◌, ◌++◌, map, length, get_or, take, drop, Some, sym, ap, subst, arith, refl}
+use Rattle.std.proofs.Common.{◌≡◌, ◌∙◌, ℕ, zero, suc, ◌+◌, ◌-◌, ◌^◌, ◌<◌, ◌≤◌, Bool, true, false, List, [], ◌∷◌, ◌++◌, map, length, get_or, take, drop, Some, sym, ap, subst, arith, refl}
 use Rattle.std.specs.Prelude.{slice_get, nat_lt}
-use Rattle.std.specs.List.{All}
 use Rattle.std.proofs.Math.Pow.{pow_mono}
 use Rattle.std.proofs.Math.Nat.{mod-eq_of_lt}
 use Rattle.std.proofs.lemmas.List.{get_or-take, get_or-drop, get_or_append_left, get_or-append_right, length-map, length-take-le, length-drop}
@@ -10,7 +9,6 @@ use Rattle.std.proofs.lemmas.Option.{get_or_from_slice_get}
 use Rattle.std.proofs.lemmas.Bool.{ltb-true, ltb-false}
 use Rattle.bsv_lemmas.proofs.Places.{item_there, mapped_at}
 use Rattle.bsv_bits.specs.Words.{Bits}
-use Rattle.bsv_prim.specs.Table.{IsWordOf}
 use Rattle.bsv_design.specs.design.Bodies.{at}
 use Rattle.bsv_design.specs.design.Words.{or_zero}
 use Rattle.bsv_net.specs.Equations.{computed}

@@ -11,7 +11,7 @@ use crate::making::{make_runs, widths_of};
 use crate::run::Run;
 use crate::running::{Given, run_all};
 use bsv_bits::{OutOfMemory, Word};
-use bsv_net::NetNode;
+use bsv_net::{Net, NetNode};
 use bsv_prim::RegisterInfo;
 use sqlite_items::Items;
 use std::alloc::Global;
@@ -62,6 +62,19 @@ impl Engine {
             narrow: vec![in alloc; 0; nodes.len()]?,
             wide: vec![in alloc; 0; nodes.len()]?,
         })
+    }
+
+    /// The engine of a net.
+    pub fn of_net(alloc: Global, net: &Net) -> Result<Engine, OutOfMemory>
+        ensures { IfOk result (λ engine. code_of engine
+            ≡ record { inputs = net.now.inputs; registers = net.now.registers; nodes = net.now.nodes }) }
+    {
+        Engine::make(
+            alloc,
+            net.inputs.as_slice(),
+            net.registers.as_slice(),
+            net.nodes.as_slice(),
+        )
     }
 
     /// Computes the words of all nodes, for these words of the registers and of the inputs. Takes no memory.

@@ -20,6 +20,8 @@ mod running;
 mod shifts;
 mod step;
 mod sums;
+#[cfg(test)]
+mod tests;
 mod widths;
 
 pub use engine::Engine;

@@ -1,4 +1,4 @@
-use Rattle.std.proofs.Common.{◌≡◌, ◌+◌, ◌≤◌, ◌-◌, sym, ap, arith, length, take, drop, subst}
+use Rattle.std.proofs.Common.{◌+◌, ◌≤◌, arith, length, take, drop}
 use Rattle.std.proofs.lemmas.List.{length-drop}
 use Rattle.bsv_engine.specs.Runs.{Stands, size}
 use Rattle.bsv_engine.proofs.AllStands.{stands_more, stands_within}

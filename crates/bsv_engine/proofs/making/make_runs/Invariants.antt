@@ -1,4 +1,4 @@
-use Rattle.std.proofs.Common.{length, ◌-◌, ◌≤◌, ◌≡◌}
+use Rattle.std.proofs.Common.{length, ◌-◌, ◌≤◌}
 use Rattle.bsv_engine.specs.Runs.{AllStand}
 use Rattle.bsv_engine.proofs.making.make_runs.Given as goal
 

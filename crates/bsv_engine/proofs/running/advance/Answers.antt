@@ -1,4 +1,4 @@
-use Rattle.std.proofs.Common.{◌≡◌, ◌∙◌, ◌+◌, sym, arith, drop}
+use Rattle.std.proofs.Common.{◌∙◌, ◌+◌, sym, arith, drop}
 use Rattle.bsv_engine.specs.Runs.{size}
 use Rattle.bsv_engine.proofs.StepsKeep.{run_keeps}
 use Rattle.bsv_engine.proofs.running.advance.Goals as goal

@@ -1,4 +1,4 @@
-use Rattle.std.proofs.Common.{drop, length, ◌≤◌, ◌≡◌}
+use Rattle.std.proofs.Common.{drop, length, ◌≤◌}
 use Rattle.bsv_engine.specs.Running.{HasRoom, Keeps}
 use Rattle.bsv_engine.specs.Runs.{AllStand, AllWithin}
 use Rattle.bsv_engine.proofs.running.run_all.Given as goal

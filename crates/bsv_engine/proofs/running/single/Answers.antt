@@ -1,11 +1,9 @@
-use Rattle.std.proofs.Common.{◌≡◌, ◌∙◌, ◌<◌, ◌+◌, ◌%◌, ◌^◌, length, get_or, take, sym, ap, ap₂, subst, arith, refl}
+use Rattle.std.proofs.Common.{◌≡◌, ◌∙◌, length, get_or, take, sym, ap, arith, refl}
 use Rattle.std.specs.Prelude.{slice_get, Some, List}
 use Rattle.std.proofs.lemmas.Option.{slice_get_read}
-use Rattle.std.proofs.Math.ListN.{set}
 use Rattle.bsv_bits.specs.Words.{Bits}
 use Rattle.bsv_design.specs.design.Bodies.{at}
 use Rattle.bsv_net.specs.Equations.{computed}
-use Rattle.bsv_engine.specs.Cells.{KeptTo}
 use Rattle.bsv_engine.specs.Codes.{all_kept}
 use Rattle.bsv_engine.proofs.Keeping.{kept_is, all_kept_are, keeps_more}
 use Rattle.bsv_engine.proofs.running.single.Goals as goal

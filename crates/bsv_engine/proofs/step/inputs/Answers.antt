@@ -1,4 +1,4 @@
-use Rattle.std.proofs.Common.{◌≡◌, ◌∙◌, ◌≤◌, ap, arith, sym, get_or, length, subst, []}
+use Rattle.std.proofs.Common.{◌∙◌, ◌≤◌, ap, arith, sym, get_or, subst, []}
 use Rattle.std.proofs.lemmas.List.{length_push}
 use Rattle.bsv_net.specs.declared.node.NetNode.TheVariants as net
 use Rattle.bsv_engine.specs.Runs.{Loads}

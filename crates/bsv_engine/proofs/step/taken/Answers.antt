@@ -1,4 +1,4 @@
-use Rattle.std.proofs.Common.{◌≡◌, ◌∙◌, ◌≤◌, ap, arith, sym, get_or, length, subst}
+use Rattle.std.proofs.Common.{◌∙◌, ◌≤◌, ap, arith, sym, get_or, subst}
 use Rattle.std.proofs.lemmas.List.{length_push}
 use Rattle.bsv_engine.proofs.Standing.{stand_more}
 use Rattle.bsv_engine.proofs.step.taken.Goals as goal

@@ -1,7 +1,6 @@
-use Rattle.std.proofs.Common.{◌≡◌, ◌∙◌, ap, sym, subst, refl, length, vec_len, List, [], ℕ, arith}
-use Rattle.bsv_net.specs.declared.node.NetNode.{NetNode}
+use Rattle.std.proofs.Common.{◌≡◌, ◌∙◌, ap, sym, subst, length, List, [], ℕ, arith}
 use Rattle.bsv_engine.specs.declared.run.Run.{Run}
-use Rattle.bsv_engine.specs.Codes.{Code, IsOfNet}
+use Rattle.bsv_engine.specs.Codes.{Code}
 use Rattle.bsv_engine.specs.Engines.{code_of}
 use Rattle.bsv_engine.specs.Runs.{AllStand, IsEngine}
 use Rattle.bsv_engine.specs.Widths.{widths_of}

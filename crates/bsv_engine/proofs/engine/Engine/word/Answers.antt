@@ -1,6 +1,3 @@
-use Rattle.std.proofs.Common.{◌≡◌, ◌∙◌, ap}
-use Rattle.bsv_design.specs.design.Bodies.{at}
-use Rattle.bsv_engine.specs.Codes.{all_kept}
 use Rattle.bsv_engine.specs.Engines.{words_of}
 use Rattle.bsv_engine.proofs.engine.Engine.word.Goals as goal
 
