@@ -1,6 +1,6 @@
 -- The words that are kept, at their places, and one word more.
 use Rattle.std.proofs.Common.{◌≡◌, ◌≢◌, ◌∙◌, ℕ, zero, suc, ◌+◌, ◌%◌, ◌^◌, ◌<◌, ◌≤◌, Bool, true, false, ◌&&◌, List, [], ◌∷◌, length, get_or, take, sym, ap, ap₂, subst, arith, refl, below_more, if◌then◌else◌}
-use Rattle.std.specs.Prelude.{nat_le, nat_lt}
+use Rattle.std.specs.Prelude.{nat_le, nat_lt, ◌==◌}
 use Rattle.std.proofs.Math.ListN.{set}
 use Rattle.std.proofs.Math.Pow.{pow_mono}
 use Rattle.std.proofs.Math.Nat.{mod-eq_of_lt}
@@ -10,6 +10,7 @@ use Rattle.bsv_bits.specs.Words.{Bits, bit}
 use Rattle.bsv_prim.specs.Table.{IsWordOf}
 use Rattle.bsv_design.specs.design.Bodies.{at}
 use Rattle.bsv_design.specs.design.Computing.{word}
+use Rattle.bsv_design.specs.design.Words.{is_one}
 use Rattle.bsv_engine.specs.Cells.{IsKept, KeptTo}
 use Rattle.bsv_engine.specs.Codes.{kept, all_kept}
 
@@ -22,6 +23,34 @@ kept_at (u ∷ us) [] vs k h j l = absurd (omega arith)
 kept_at (u ∷ us) (n ∷ ns) [] k h j l = absurd (omega arith)
 kept_at (u ∷ us) (n ∷ ns) (v ∷ vs) zero h j l = refl
 kept_at (u ∷ us) (n ∷ ns) (v ∷ vs) (suc k) h j l = kept_at us ns vs k (omega arith) (omega arith) (omega arith)
+
+pub kept_narrow : (u n v : ℕ) → u ≤ 64 → word u n ≡ kept u n v
+kept_narrow u n v h = ap (λ (b : Bool). word u (if b then n else v)) (sym is)
+  where
+    is : nat_le u 64 ≡ true
+    is = grind (arith, nat_tests)
+
+pub kept_wide : (u n v : ℕ) → 64 < u → word u v ≡ kept u n v
+kept_wide u n v h = ap (λ (b : Bool). word u (if b then n else v)) (sym is)
+  where
+    is : nat_le u 64 ≡ false
+    is = grind (arith, nat_tests)
+
+large : (k : ℕ) → nat_lt (suc (suc k)) 2 ≡ false
+large k = grind (arith, nat_tests)
+
+not_one : (k : ℕ) → (suc (suc k) == 1) ≡ false
+not_one k = grind (arith, nat_tests)
+
+one_is : (n v : ℕ) → (n == 1) ≡ is_one (kept 1 n v)
+unfolding word
+one_is zero v = refl
+one_is (suc zero) v = refl
+one_is (suc (suc k)) v = not_one k ∙ ap (λ (b : Bool). is_one (if b then (record { width = 1; value = suc (suc k) }) else bit false)) (sym (large k))
+
+-- a word of one bit is 1 where its number is
+pub bit_is_one : (u n v : ℕ) → u ≡ 1 → (n == 1) ≡ is_one (kept u n v)
+bit_is_one u n v e = one_is n v ∙ ap (λ k. is_one (kept k n v)) (sym e)
 
 pub kept_past : (us ns vs : List ℕ) (k : ℕ) → length us ≤ k → bit false ≡ at (all_kept us ns vs) k
 kept_past [] ns vs k l = refl

@@ -5,6 +5,8 @@ use Rattle.bsv_prim.specs.Table.{IsWordOf}
 use Rattle.bsv_design.specs.design.Bodies.{at}
 use Rattle.bsv_net.specs.Equations.{computed}
 use Rattle.bsv_net.specs.declared.node.NetNode.{NetNode}
+use Rattle.bsv_engine.specs.Codes.{all_kept}
+use Rattle.bsv_engine.specs.declared.cells.Cells.{Cells}
 
 -- what the words of nodes are: each is computed of the words before it, and has its width
 pub record IsSolved (inputs registers : List Bits) (nodes : List NetNode) (widths : List ℕ) (ws : List Bits) : Type 0 where
@@ -16,6 +18,15 @@ pub record IsSolved (inputs registers : List Bits) (nodes : List NetNode) (width
 pub record IsKept (width narrow wide : ℕ) (w : Bits) : Type 0 where
   pub as_narrow : width ≤ 64 → narrow ≡ w.value
   pub as_wide : 64 < width → wide ≡ w.value
+
+-- the words that are kept
+abbrev pub words_in : Cells → List Bits
+words_in c = all_kept c.widths.now c.narrow.now c.wide.now
+
+-- there is a place for each word
+pub record HasPlaces (c : Cells) : Type 0 where
+  pub narrow_room : length c.narrow.now ≡ length c.widths.now
+  pub wide_room : length c.wide.now ≡ length c.widths.now
 
 -- so many words in front are kept
 abbrev pub KeptTo : ℕ → List ℕ → List ℕ → List ℕ → List Bits → Type 0

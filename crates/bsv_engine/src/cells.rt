@@ -1,7 +1,7 @@
 ghost use Rattle.std.specs.Prelude.{◌≡◌, ◌<◌, ◌%◌, ◌^◌, length, slice_set};
 ghost use Rattle.bsv_design.specs.design.Bodies as bodies;
+ghost use Rattle.bsv_design.specs.design.Words as words;
 ghost use Rattle.bsv_net.specs.Equations.{computed};
-ghost use Rattle.bsv_engine.specs.Codes.{kept, all_kept};
 
 use crate::step::low;
 use bsv_bits::Word;
@@ -16,36 +16,42 @@ pub struct Cells<'a> {
     pub wide: &'a [u128],
 }
 
-/// The word that is kept as one of these numbers.
-fn kept(width: u32, narrow: u64, wide: u128) -> Word
-    ensures { result ≡ kept width narrow wide }
-{
-    word(width, if width <= 64 { narrow as u128 } else { wide })
-}
-
 impl Cells<'_> {
+    ghost use Rattle.bsv_engine.specs.Cells.{HasPlaces, words_in};
+
     /// The word of a node, or a bit that is 0 where there is none.
     pub fn at(self, node: u32) -> Word
-        requires narrow { length self.narrow.now ≡ length self.widths.now }
-        requires wide { length self.wide.now ≡ length self.widths.now }
-        ensures { result
-            ≡ bodies.at (all_kept self.entry.widths.now self.entry.narrow.now self.entry.wide.now) node }
+        requires { HasPlaces self }
+        ensures { result ≡ bodies.at (words_in self.entry) node }
     {
         let place = node as usize;
-        if place < self.widths.len() {
-            kept(self.widths[place], self.narrow[place], self.wide[place])
-        } else {
-            Word::bit(false)
+        if place >= self.widths.len() {
+            return Word::bit(false);
         }
+        let width = self.widths[place];
+        if width <= 64 {
+            return word(width, self.narrow[place] as u128);
+        }
+        word(width, self.wide[place])
+    }
+
+    /// Whether the word of a node is 1.
+    pub fn is_one(self, node: u32) -> bool
+        requires { HasPlaces self }
+        ensures { result ≡ words.is_one (bodies.at (words_in self.entry) node) }
+    {
+        let place = node as usize;
+        if place < self.widths.len() && self.widths[place] == 1 {
+            return self.narrow[place] == 1;
+        }
+        self.at(node).value() == 1
     }
 
     /// The word of a node after nodes of these words.
     pub fn word(self, inputs: &[Word], registers: &[Word], node: NetNode) -> Word
-        requires narrow { length self.narrow.now ≡ length self.widths.now }
-        requires wide { length self.wide.now ≡ length self.widths.now }
+        requires { HasPlaces self }
         ensures { result
-            ≡ computed inputs.now registers.now
-            (bodies.at (all_kept self.entry.widths.now self.entry.narrow.now self.entry.wide.now)) node }
+            ≡ computed inputs.now registers.now (bodies.at (words_in self.entry)) node }
     {
         match node {
             NetNode::Input(number) => word_at(inputs, number),

@@ -37,7 +37,8 @@ pub struct Engine {
 }
 
 impl Engine {
-    ghost use Rattle.bsv_engine.specs.Engines.{code_of, words_of};
+    ghost use Rattle.bsv_engine.specs.Cells.{HasPlaces, words_in};
+    ghost use Rattle.bsv_engine.specs.Engines.{code_of, code_of_net, words_of};
 
     /// The engine of the nodes of a net.
     pub fn make(
@@ -66,8 +67,7 @@ impl Engine {
 
     /// The engine of a net.
     pub fn of_net(alloc: Global, net: &Net) -> Result<Engine, OutOfMemory>
-        ensures { IfOk result (λ engine. code_of engine
-            ≡ record { inputs = net.now.inputs; registers = net.now.registers; nodes = net.now.nodes }) }
+        ensures { IfOk result (λ engine. code_of engine ≡ code_of_net net.now) }
     {
         Engine::make(
             alloc,
@@ -79,9 +79,11 @@ impl Engine {
 
     /// Computes the words of all nodes, for these words of the registers and of the inputs. Takes no memory.
     pub fn run(&mut self, registers: &[Word], inputs: &[Word])
-        requires registers { HaveWidths (register_widths (code_of self.old).registers) registers.now }
+        requires registers { HaveWidths (register_widths (code_of self.old).registers)
+            registers.now }
         requires inputs { HaveWidths (code_of self.old).inputs inputs.now }
-        ensures words { words_of self.new ≡ words (code_of self.old).nodes inputs.now registers.now }
+        ensures words { words_of self.new
+            ≡ words (code_of self.old).nodes inputs.now registers.now }
         ensures code { code_of self.new ≡ code_of self.old }
     {
         let given = Given {
@@ -98,17 +100,24 @@ impl Engine {
         );
     }
 
+    /// The words after the last run.
+    fn cells(&self) -> Cells<'_>
+        ensures words { words_in result ≡ words_of self.now }
+        ensures places { HasPlaces result }
+    {
+        Cells {
+            widths: self.widths.as_slice(),
+            narrow: self.narrow.as_slice(),
+            wide: self.wide.as_slice(),
+        }
+    }
+
     /// The word of a node after the last run.
     pub fn word(&self, node: u32) -> Word
         requires { node < length (code_of self.now).nodes }
         ensures { result ≡ at (words_of self.now) node }
     {
-        let cells = Cells {
-            widths: self.widths.as_slice(),
-            narrow: self.narrow.as_slice(),
-            wide: self.wide.as_slice(),
-        };
-        cells.at(node)
+        self.cells().at(node)
     }
 
     /// Whether the word of a node is 1 after the last run.
@@ -116,6 +125,6 @@ impl Engine {
         requires { node < length (code_of self.now).nodes }
         ensures { result ≡ truth.is_one (at (words_of self.now) node) }
     {
-        self.word(node).value() == 1
+        self.cells().is_one(node)
     }
 }
