@@ -8,8 +8,8 @@ use Rattle.bsv_net.specs.declared.node.NetNode.TheVariants as net
 use Rattle.bsv_engine.specs.declared.run.Run.{Run}
 use Rattle.bsv_engine.specs.declared.run.Run.TheVariants as run
 use Rattle.bsv_engine.specs.Codes.{Code, IsOfNet}
-use Rattle.bsv_engine.specs.Numbers.{not_within, not_number, and_within, and_number, or_within, or_number, xor_within, xor_number, add_within, add_number, sub_within, sub_number, mul_within, mul_number, same_within, same_number, less_within, less_number, less_signed_within, less_signed_number, shl_within, shl_number, shr_within, shr_number, sar_within, sar_number, known_within, known_number, pick_within, pick_number, slice_within, slice_number, join_within, join_number, extended_within, extended_number, sign_extended_within, sign_extended_number}
-use Rattle.bsv_engine.specs.Rights.{not_node, not_right, and_node, and_right, or_node, or_right, xor_node, xor_right, add_node, add_right, sub_node, sub_right, mul_node, mul_right, same_node, same_right, less_node, less_right, less_signed_node, less_signed_right, shl_node, shl_right, shr_node, shr_right, sar_node, sar_right, known_node, known_right, pick_node, pick_right, slice_node, slice_right, join_node, join_right, extended_node, extended_right, sign_extended_node, sign_extended_right}
+use Rattle.bsv_engine.specs.Numbers as forms
+use Rattle.bsv_engine.specs.Rights as fit
 
 -- ---- what a run computes
 
@@ -45,25 +45,25 @@ is_single _ = false
 
 -- its places are among so many
 abbrev pub Within : ℕ → Run → Type 0
-Within n (run.Not xs) = All (not_within n) xs
-Within n (run.And xs) = All (and_within n) xs
-Within n (run.Or xs) = All (or_within n) xs
-Within n (run.Xor xs) = All (xor_within n) xs
-Within n (run.Add xs) = All (add_within n) xs
-Within n (run.Sub xs) = All (sub_within n) xs
-Within n (run.Mul xs) = All (mul_within n) xs
-Within n (run.Same xs) = All (same_within n) xs
-Within n (run.Less xs) = All (less_within n) xs
-Within n (run.LessSigned xs) = All (less_signed_within n) xs
-Within n (run.Shl xs) = All (shl_within n) xs
-Within n (run.Shr xs) = All (shr_within n) xs
-Within n (run.Sar xs) = All (sar_within n) xs
-Within n (run.Known xs) = All (known_within n) xs
-Within n (run.Pick xs) = All (pick_within n) xs
-Within n (run.Slice xs) = All (slice_within n) xs
-Within n (run.Join xs) = All (join_within n) xs
-Within n (run.Extended xs) = All (extended_within n) xs
-Within n (run.SignExtended xs) = All (sign_extended_within n) xs
+Within n (run.Not xs) = All (forms.not_within n) xs
+Within n (run.And xs) = All (forms.and_within n) xs
+Within n (run.Or xs) = All (forms.or_within n) xs
+Within n (run.Xor xs) = All (forms.xor_within n) xs
+Within n (run.Add xs) = All (forms.add_within n) xs
+Within n (run.Sub xs) = All (forms.sub_within n) xs
+Within n (run.Mul xs) = All (forms.mul_within n) xs
+Within n (run.Same xs) = All (forms.same_within n) xs
+Within n (run.Less xs) = All (forms.less_within n) xs
+Within n (run.LessSigned xs) = All (forms.less_signed_within n) xs
+Within n (run.Shl xs) = All (forms.shl_within n) xs
+Within n (run.Shr xs) = All (forms.shr_within n) xs
+Within n (run.Sar xs) = All (forms.sar_within n) xs
+Within n (run.Known xs) = All (forms.known_within n) xs
+Within n (run.Pick xs) = All (forms.pick_within n) xs
+Within n (run.Slice xs) = All (forms.slice_within n) xs
+Within n (run.Join xs) = All (forms.join_within n) xs
+Within n (run.Extended xs) = All (forms.extended_within n) xs
+Within n (run.SignExtended xs) = All (forms.sign_extended_within n) xs
 Within n _ = Unit {0}
 
 -- of runs that write the words from this place on, of which there are so many in all
@@ -80,25 +80,25 @@ abbrev pub numbers : List Bits → List Bits → List ℕ → Run → List ℕ
 numbers inputs registers ns run.One = []
 numbers inputs registers ns (run.Input xs) = map (lower inputs) xs
 numbers inputs registers ns (run.Register xs) = map (lower registers) xs
-numbers inputs registers ns (run.Not xs) = map (not_number ns) xs
-numbers inputs registers ns (run.And xs) = map (and_number ns) xs
-numbers inputs registers ns (run.Or xs) = map (or_number ns) xs
-numbers inputs registers ns (run.Xor xs) = map (xor_number ns) xs
-numbers inputs registers ns (run.Add xs) = map (add_number ns) xs
-numbers inputs registers ns (run.Sub xs) = map (sub_number ns) xs
-numbers inputs registers ns (run.Mul xs) = map (mul_number ns) xs
-numbers inputs registers ns (run.Same xs) = map (same_number ns) xs
-numbers inputs registers ns (run.Less xs) = map (less_number ns) xs
-numbers inputs registers ns (run.LessSigned xs) = map (less_signed_number ns) xs
-numbers inputs registers ns (run.Shl xs) = map (shl_number ns) xs
-numbers inputs registers ns (run.Shr xs) = map (shr_number ns) xs
-numbers inputs registers ns (run.Sar xs) = map (sar_number ns) xs
-numbers inputs registers ns (run.Known xs) = map (known_number ns) xs
-numbers inputs registers ns (run.Pick xs) = map (pick_number ns) xs
-numbers inputs registers ns (run.Slice xs) = map (slice_number ns) xs
-numbers inputs registers ns (run.Join xs) = map (join_number ns) xs
-numbers inputs registers ns (run.Extended xs) = map (extended_number ns) xs
-numbers inputs registers ns (run.SignExtended xs) = map (sign_extended_number ns) xs
+numbers inputs registers ns (run.Not xs) = map (forms.not_number ns) xs
+numbers inputs registers ns (run.And xs) = map (forms.and_number ns) xs
+numbers inputs registers ns (run.Or xs) = map (forms.or_number ns) xs
+numbers inputs registers ns (run.Xor xs) = map (forms.xor_number ns) xs
+numbers inputs registers ns (run.Add xs) = map (forms.add_number ns) xs
+numbers inputs registers ns (run.Sub xs) = map (forms.sub_number ns) xs
+numbers inputs registers ns (run.Mul xs) = map (forms.mul_number ns) xs
+numbers inputs registers ns (run.Same xs) = map (forms.same_number ns) xs
+numbers inputs registers ns (run.Less xs) = map (forms.less_number ns) xs
+numbers inputs registers ns (run.LessSigned xs) = map (forms.less_signed_number ns) xs
+numbers inputs registers ns (run.Shl xs) = map (forms.shl_number ns) xs
+numbers inputs registers ns (run.Shr xs) = map (forms.shr_number ns) xs
+numbers inputs registers ns (run.Sar xs) = map (forms.sar_number ns) xs
+numbers inputs registers ns (run.Known xs) = map (forms.known_number ns) xs
+numbers inputs registers ns (run.Pick xs) = map (forms.pick_number ns) xs
+numbers inputs registers ns (run.Slice xs) = map (forms.slice_number ns) xs
+numbers inputs registers ns (run.Join xs) = map (forms.join_number ns) xs
+numbers inputs registers ns (run.Extended xs) = map (forms.extended_number ns) xs
+numbers inputs registers ns (run.SignExtended xs) = map (forms.sign_extended_number ns) xs
 
 -- ---- which nodes it stands for
 
@@ -109,32 +109,34 @@ pub record Stand {S : Type 0} (fits : List ℕ → S → Type 0) (of : S → Net
   pub narrow : All (λ u. u ≤ 64) (take (length steps) own)
   pub within : length steps ≤ length nodes
 
+-- what is loaded reads no word before it
 abbrev pub Loads : List ℕ → ℕ → Type 0
 Loads before k = Unit {0}
 
+-- and a run
 abbrev pub Stands : List ℕ → List ℕ → List NetNode → Run → Type 0
 Stands before own nodes run.One = 1 ≤ length nodes
 Stands before own nodes (run.Input xs) = Stand Loads net.Input [] own nodes xs
 Stands before own nodes (run.Register xs) = Stand Loads net.Register [] own nodes xs
-Stands before own nodes (run.Not xs) = Stand not_right not_node before own nodes xs
-Stands before own nodes (run.And xs) = Stand and_right and_node before own nodes xs
-Stands before own nodes (run.Or xs) = Stand or_right or_node before own nodes xs
-Stands before own nodes (run.Xor xs) = Stand xor_right xor_node before own nodes xs
-Stands before own nodes (run.Add xs) = Stand add_right add_node before own nodes xs
-Stands before own nodes (run.Sub xs) = Stand sub_right sub_node before own nodes xs
-Stands before own nodes (run.Mul xs) = Stand mul_right mul_node before own nodes xs
-Stands before own nodes (run.Same xs) = Stand same_right same_node before own nodes xs
-Stands before own nodes (run.Less xs) = Stand less_right less_node before own nodes xs
-Stands before own nodes (run.LessSigned xs) = Stand less_signed_right less_signed_node before own nodes xs
-Stands before own nodes (run.Shl xs) = Stand shl_right shl_node before own nodes xs
-Stands before own nodes (run.Shr xs) = Stand shr_right shr_node before own nodes xs
-Stands before own nodes (run.Sar xs) = Stand sar_right sar_node before own nodes xs
-Stands before own nodes (run.Known xs) = Stand known_right known_node before own nodes xs
-Stands before own nodes (run.Pick xs) = Stand pick_right pick_node before own nodes xs
-Stands before own nodes (run.Slice xs) = Stand slice_right slice_node before own nodes xs
-Stands before own nodes (run.Join xs) = Stand join_right join_node before own nodes xs
-Stands before own nodes (run.Extended xs) = Stand extended_right extended_node before own nodes xs
-Stands before own nodes (run.SignExtended xs) = Stand sign_extended_right sign_extended_node before own nodes xs
+Stands before own nodes (run.Not xs) = Stand fit.not_right fit.not_node before own nodes xs
+Stands before own nodes (run.And xs) = Stand fit.and_right fit.and_node before own nodes xs
+Stands before own nodes (run.Or xs) = Stand fit.or_right fit.or_node before own nodes xs
+Stands before own nodes (run.Xor xs) = Stand fit.xor_right fit.xor_node before own nodes xs
+Stands before own nodes (run.Add xs) = Stand fit.add_right fit.add_node before own nodes xs
+Stands before own nodes (run.Sub xs) = Stand fit.sub_right fit.sub_node before own nodes xs
+Stands before own nodes (run.Mul xs) = Stand fit.mul_right fit.mul_node before own nodes xs
+Stands before own nodes (run.Same xs) = Stand fit.same_right fit.same_node before own nodes xs
+Stands before own nodes (run.Less xs) = Stand fit.less_right fit.less_node before own nodes xs
+Stands before own nodes (run.LessSigned xs) = Stand fit.less_signed_right fit.less_signed_node before own nodes xs
+Stands before own nodes (run.Shl xs) = Stand fit.shl_right fit.shl_node before own nodes xs
+Stands before own nodes (run.Shr xs) = Stand fit.shr_right fit.shr_node before own nodes xs
+Stands before own nodes (run.Sar xs) = Stand fit.sar_right fit.sar_node before own nodes xs
+Stands before own nodes (run.Known xs) = Stand fit.known_right fit.known_node before own nodes xs
+Stands before own nodes (run.Pick xs) = Stand fit.pick_right fit.pick_node before own nodes xs
+Stands before own nodes (run.Slice xs) = Stand fit.slice_right fit.slice_node before own nodes xs
+Stands before own nodes (run.Join xs) = Stand fit.join_right fit.join_node before own nodes xs
+Stands before own nodes (run.Extended xs) = Stand fit.extended_right fit.extended_node before own nodes xs
+Stands before own nodes (run.SignExtended xs) = Stand fit.sign_extended_right fit.sign_extended_node before own nodes xs
 
 -- the runs stand for the nodes from one place up to another
 abbrev pub AllStand : List ℕ → List NetNode → ℕ → ℕ → List Run → Type 0
