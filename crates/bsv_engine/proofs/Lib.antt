@@ -1,0 +1,11 @@
+pub mod AllStands
+pub mod FormLaws
+pub mod InOrder
+pub mod Keeping
+pub mod Masks
+pub mod OfNet
+pub mod Solving
+pub mod Standing
+pub mod StepsKeep
+pub mod Whole
+pub mod Written
