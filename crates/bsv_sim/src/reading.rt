@@ -1,0 +1,90 @@
+ghost use Rattle.std.specs.Prelude.{◌≡◌, ◌+◌, ◌^◌, ◌<◌};
+ghost use Rattle.bsv_sim.specs.Reading as spec;
+
+use crate::engine::Engine;
+use bsv_bits::Word;
+
+/// What the words of the nodes tell of the elements, after a run.
+#[derive(Clone, Copy)]
+pub struct Reading<'a> {
+    pub engine: &'a Engine,
+    /// Of each element the node that is 1 where it fires.
+    pub fires: &'a [u32],
+    /// Of each element the node that is 1 where it is ready.
+    pub readies: &'a [u32],
+    /// Of each element the node of what it gives, or the number of nodes where it gives nothing.
+    pub results: &'a [u32],
+    /// How many nodes there are.
+    pub nodes: usize,
+}
+
+impl Reading<'_> {
+    ghost use Rattle.bsv_sim.specs.AtHand as hand;
+
+    /// Whether the element of this position fires.
+    pub fn fires(self, number: u32) -> bool
+        requires { hand.IsReadable self }
+        ensures { result ≡ spec.fires (hand.reading self.entry) number }
+    {
+        match self.fires.get(number as usize) {
+            Some(node) => self.engine.is_one(*node),
+            None => false,
+        }
+    }
+
+    /// Whether it is ready.
+    pub fn is_ready(self, number: u32) -> bool
+        requires { hand.IsReadable self }
+        ensures { result ≡ spec.is_ready (hand.reading self.entry) number }
+    {
+        match self.readies.get(number as usize) {
+            Some(node) => self.engine.is_one(*node),
+            None => false,
+        }
+    }
+
+    /// The word of its result, where it names a node.
+    fn word(self, number: u32) -> Option<Word>
+        requires { hand.IsReadable self }
+        ensures { result ≡ spec.word (hand.reading self.entry) number }
+    {
+        match self.results.get(number as usize) {
+            Some(node) if (*node as usize) < self.nodes => Some(self.engine.word(*node)),
+            _ => None,
+        }
+    }
+
+    /// What it gives, where it fires and gives a word.
+    pub fn result(self, number: u32) -> Option<Word>
+        requires { hand.IsReadable self }
+        ensures { result ≡ spec.result (hand.reading self.entry) number }
+    {
+        if self.fires(number) {
+            self.word(number)
+        } else {
+            None
+        }
+    }
+
+    /// Whether it is a method that is asked and not ready.
+    pub fn is_blocked(self, asked: &[bool], number: u32) -> bool
+        requires { hand.IsReadable self }
+        ensures { result ≡ spec.is_blocked (hand.reading self.entry) asked.now number }
+    {
+        match asked.get(number as usize) {
+            Some(is_asked) => *is_asked && !self.is_ready(number),
+            None => false,
+        }
+    }
+
+    /// Whether it is ready and does not fire, as a rule or a method that is asked.
+    pub fn is_stopped(self, asked: &[bool], number: u32) -> bool
+        requires { hand.IsReadable self }
+        ensures { result ≡ spec.is_stopped (hand.reading self.entry) asked.now number }
+    {
+        match asked.get(number as usize) {
+            Some(is_asked) => *is_asked && self.is_ready(number) && !self.fires(number),
+            None => self.is_ready(number) && !self.fires(number),
+        }
+    }
+}
