@@ -1,4 +1,5 @@
 pub mod Simulation
+pub mod Codes
 pub mod Engines
 pub mod Inputs
 pub mod Reading

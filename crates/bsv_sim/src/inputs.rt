@@ -56,6 +56,7 @@ fn add_method(is_asked: bool, words: &[Word], inputs: &mut Vec<Word>)
 }
 
 /// The words of the inputs where this is asked.
+#[tactic(auto, unfolding(crate::specs::Inputs::of_methods))]
 pub fn ask(requests: &Requests, inputs: &mut Vec<Word>)
     requires { length (spec.inputs (asking requests.now)) ≤ vec_capacity inputs.old }
     ensures words { inputs.new.items ≡ spec.inputs (asking requests.now) }

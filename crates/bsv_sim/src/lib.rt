@@ -12,7 +12,5 @@ mod reading;
 mod registers;
 mod sim;
 mod stoppers;
-#[cfg(test)]
-mod tests;
 
 pub use sim::Sim;

@@ -53,6 +53,7 @@ impl Reading<'_> {
 
     /// Notes of each element that is stopped the first one that stops it. The last one that is noted stays, so the more
     /// urgent ones come last.
+    #[tactic(auto, unfolding(crate::specs::Stoppers::all_noted), using(crate::proofs::Tables::from_last))]
     pub fn find_stoppers(self, stops: &[Items<u32>], urgency: &[u32], stoppers: &mut [u32])
         requires { hand.IsReadable self }
         ensures { stoppers.new ≡ spec.all_noted (hand.reading self.entry) stops.now
