@@ -26,6 +26,7 @@ use Rattle.bsv_net.specs.Nets as nets
 use Rattle.bsv_net.specs.Nets.{IsNet, as_node, as_nodes, is_bit, names, nexts_fit, ports, register_widths, words}
 use Rattle.bsv_net.proofs.Solution.{words_have}
 use Rattle.bsv_sim.specs.AtHand.{all_below}
+use Rattle.bsv_sim.specs.declared.sim.Sim.{Sim}
 
 -- ---- widths
 
@@ -145,3 +146,8 @@ net_of c right = record {
 -- that a net is in order is known in one way
 pub same_net : (n : Net) (right : ∥ IsNet (net_data n) ∥₁) → net_of (net_data n) right ≡ n
 same_net n right = ap (net_of (net_data n)) (∥∥₁_prop right n.right)
+
+-- ---- a simulator
+
+pub widths_known : (sim : Sim) → HaveWidths (register_widths sim.net.registers) sim.registers.items
+widths_known sim = ∥∥₁_elim sim.widths (widths_prop (register_widths sim.net.registers) sim.registers.items) (λ h. h)

@@ -1,8 +1,6 @@
 use Rattle.std.proofs.Common.{◌≡◌, ◌∙◌, ℕ, ◌≤◌, ◌<◌, List, length, map, sym, ap, subst, arith}
 use Rattle.std.specs.Prelude.{IsTrue}
 use Rattle.std.specs.Vec.{with_items}
-use Rattle.std.proofs.Math.Logic.{∥∥₁_elim, ∥∥₁_prop}
-use Rattle.std.proofs.Math.Nat.{ℕ_set}
 use Rattle.std.proofs.lemmas.List.{length-map}
 use Rattle.bsv_bits.specs.Words.{Bits}
 use Rattle.bsv_prim.specs.declared.primitive.RegisterInfo.{RegisterInfo}
@@ -17,13 +15,10 @@ use Rattle.bsv_sim.specs.Codes.{Code}
 use Rattle.bsv_sim.specs.Engines.{code_of, words_of}
 use Rattle.bsv_sim.specs.Inputs.{inputs}
 use Rattle.bsv_sim.specs.declared.sim.Sim.{Sim}
-use Rattle.bsv_sim.proofs.NetLists.{runnable, same_net, widths_prop}
+use Rattle.bsv_sim.proofs.NetLists.{runnable, same_net, widths_known}
 use Rattle.bsv_sim.proofs.sim.Sim.step.Goals as goal
 
 -- ---- the simulator before
-
-widths_known : (sim : Sim) → HaveWidths (register_widths sim.net.registers) sim.registers.items
-widths_known sim = ∥∥₁_elim sim.widths (widths_prop (register_widths sim.net.registers) sim.registers.items) (λ h. h)
 
 nexts_long : (sim : Sim) → length sim.net.nexts ≡ length sim.registers.items
 nexts_long sim =
