@@ -1,11 +1,10 @@
 -- What is asked of a design: the words of its inputs, and which elements may fire.
 use Rattle.std.proofs.Common.{◌≡◌, ◌∙◌, ℕ, zero, suc, ◌+◌, ◌≤◌, ◌<◌, Bool, true, false, cond, ◌||◌, List, [], ◌∷◌, ◌++◌, length, map, Option, Some, None, refl, sym, ap, ap₂, subst, arith, append_assoc}
-use Rattle.std.specs.Prelude.{slice_get, unwrap_or, IsTrue}
+use Rattle.std.specs.Prelude.{slice_get, unwrap_or}
 use Rattle.std.proofs.Math.Bool.{Bool-set}
 use Rattle.std.proofs.Math.Logic.{∥∥₁_elim}
 use Rattle.std.proofs.Math.Nat.{ℕ_set}
 use Rattle.std.proofs.Math.Bridge.{le_prop}
-use Rattle.std.proofs.lemmas.Option.{slice_get-map}
 use Rattle.bsv_lemmas.proofs.Places.{item_there, mapped_at}
 use Rattle.bsv_bits.specs.Words.{Bits, bit, zero_word}
 use Rattle.bsv_design.specs.declared.design.Design.{Design}

@@ -1,6 +1,6 @@
 -- What a run of a net tells is what happens in the clock of the design that the net carries.
-use Rattle.std.proofs.Common.{◌≡◌, ◌∙◌, inl, inr, is_some, ℕ, ◌+◌, ◌-◌, ◌<◌, ◌≤◌, Bool, true, false, not, ◌&&◌, List, length, map, Option, Some, None, refl, sym, ap, ap₂, subst, arith}
-use Rattle.std.specs.Prelude.{filter, slice_get, unwrap_or, vec_capacity, if◌then◌else◌, ◌^◌}
+use Rattle.std.proofs.Common.{◌≡◌, ◌∙◌, is_some, ℕ, ◌+◌, ◌-◌, ◌<◌, ◌≤◌, Bool, true, false, not, ◌&&◌, List, length, map, Option, Some, None, refl, sym, ap, ap₂, subst, arith}
+use Rattle.std.specs.Prelude.{filter, slice_get, unwrap_or, if◌then◌else◌, ◌^◌}
 use Rattle.std.specs.List.{AllByRecursion, flat_map}
 use Rattle.std.proofs.lemmas.Bool.{and_parts, and_from}
 use Rattle.std.proofs.lemmas.List.{length-map}
@@ -8,7 +8,6 @@ use Rattle.std.proofs.lemmas.Option.{slice_get_past, slice_get_within}
 use Rattle.bsv_lemmas.proofs.Places.{item_there, mapped_at}
 use Rattle.bsv_bits.specs.Words.{Bits, bit}
 use Rattle.bsv_prim.specs.declared.part.Part.{Part}
-use Rattle.bsv_prim.specs.declared.primitive.RegisterInfo.{RegisterInfo}
 use Rattle.bsv_design.specs.declared.design.Design.{Design}
 use Rattle.bsv_design.specs.declared.element.Element.{Element}
 use Rattle.bsv_design.specs.declared.fired.Fired.{Fired}
@@ -18,9 +17,9 @@ use Rattle.bsv_design.specs.design.Roles.{gives_value}
 use Rattle.bsv_design.specs.scheme.Rooms.{HasRoom}
 use Rattle.bsv_design.specs.scheme.Schemes.{Scheme, Asking, Look, design_scheme, given, kinds_of, outline, ready, value}
 use Rattle.bsv_design.specs.scheme.Seen.{design_data}
-use Rattle.bsv_design.specs.scheme.States.{FitsKinds, emptied}
+use Rattle.bsv_design.specs.scheme.States.{emptied}
 use Rattle.bsv_graph.specs.Edges.{numbers_below}
-use Rattle.bsv_graph.specs.Orders.{In, IsOrderOf}
+use Rattle.bsv_graph.specs.Orders.{In}
 use Rattle.bsv_graph.proofs.EdgeLemmas.{in_below}
 use Rattle.bsv_guard.specs.Fitting.{HaveWidths}
 use Rattle.bsv_schedule.specs.stopping.Firing.{StopsIn}
@@ -28,10 +27,10 @@ use Rattle.bsv_schedule.proofs.DesignLemmas.{few_elements}
 use Rattle.bsv_schedule.proofs.RelationsLemmas.{filter_same}
 use Rattle.bsv_clock.specs.Clocks.{IsClock, is_asked, is_candidate, is_in, may_fire}
 use Rattle.bsv_clock.specs.Events.{Happens, IsFirstStopper, blocked_in, gives as gives_pair, results_in_turn, results_under, stopped_in}
-use Rattle.bsv_clock.specs.Grounds.{BelongTogether, Fit, IsLawful, IsScheduleOf}
+use Rattle.bsv_clock.specs.Grounds.{BelongTogether, Fit, IsLawful}
 use Rattle.bsv_clock.specs.Looks.{clock_look, look_after}
 use Rattle.bsv_clock.specs.Settling.{Doing, end_of, fired_in, look_of, stops_in, the_clock}
-use Rattle.bsv_clock.specs.Shows.{Shows, TellsClock, cell, cell_widths, input_widths, inputs_of}
+use Rattle.bsv_clock.specs.Shows.{Shows, TellsClock, input_widths}
 use Rattle.bsv_clock.specs.Steadiness.{IsSteady}
 use Rattle.bsv_clock.proofs.Belonging.{lawful_design}
 use Rattle.bsv_clock.proofs.Clocks.{clock_fed, clock_results, clock_run, some_clock}

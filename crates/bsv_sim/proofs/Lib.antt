@@ -4,3 +4,5 @@ pub mod Asked
 pub mod Told
 pub mod Lists
 pub mod Happening
+pub mod Opening
+pub mod Named

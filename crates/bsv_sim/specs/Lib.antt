@@ -7,3 +7,4 @@ pub mod AtHand
 pub mod Stoppers
 pub mod Events
 pub mod Steps
+pub mod Results

@@ -10,7 +10,9 @@ mod events;
 mod inputs;
 mod reading;
 mod registers;
+mod results;
 mod sim;
 mod stoppers;
 
+pub use results::names_results;
 pub use sim::Sim;

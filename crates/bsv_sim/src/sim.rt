@@ -45,8 +45,11 @@ fn table(alloc: Global, count: usize) -> Result<Vec<u32>, OutOfMemory>
 
 impl Sim {
     ghost use Rattle.bsv_design.specs.declared.design.Design.{Design as TheDesign};
+    ghost use Rattle.bsv_design.specs.declared.kind.Kind.{Kind};
     ghost use Rattle.bsv_design.specs.scheme.Rooms.{HasRoom};
     ghost use Rattle.bsv_design.specs.scheme.Seen.{asking};
+    ghost use Rattle.bsv_design.specs.scheme.States.{opening};
+    ghost use Rattle.bsv_clock.specs.Shows.{Shows, cell, cells_of};
     ghost use Rattle.bsv_prim.specs.declared.part.Part.{Part};
     ghost use Rattle.std.specs.Prelude.{List, ℕ};
     ghost use Rattle.bsv_sim.specs.Inputs.{inputs};
@@ -58,6 +61,10 @@ impl Sim {
         ensures net { IfOk result (λ sim. spec.net_of sim ≡ net) }
         ensures registers { IfOk result (λ sim. spec.registers_of sim
             ≡ map (λ r. r.start) net.registers) }
+        // Where they are those of parts of these kinds, they show the opening state.
+        ensures opening { IfOk result (λ sim. (ks : List Kind)
+            → map cell net.registers ≡ cells_of ks
+            → Shows ks (opening ks) (spec.registers_of sim)) }
     {
         let engine = Engine::make(
             alloc,

@@ -1,5 +1,4 @@
 use Rattle.std.proofs.Common.{◌≡◌, ◌++◌, length, map}
-use Rattle.bsv_prim.specs.declared.primitive.RegisterInfo.{RegisterInfo}
 use Rattle.bsv_sim.proofs.registers.starts.Given as goal
 
 abbrev pub invariant-loop-register : goal.invariant-loop-register

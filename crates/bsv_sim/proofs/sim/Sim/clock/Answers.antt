@@ -1,4 +1,3 @@
-use Rattle.std.proofs.Common.{ℕ, ◌≤◌, List, length, map, sym, ap, arith}
 use Rattle.std.proofs.Math.Bridge.{le_prop}
 use Rattle.std.proofs.Math.Logic.{∥∥₁_elim}
 use Rattle.bsv_design.specs.declared.fired.Fired.{Fired}
@@ -6,7 +5,6 @@ use Rattle.bsv_design.specs.declared.schedule.Schedule.{Schedule}
 use Rattle.bsv_design.specs.scheme.Schemes.{Asking}
 use Rattle.bsv_design.specs.scheme.Seen.{asking}
 use Rattle.bsv_sim.specs.declared.sim.Sim.{Sim}
-use Rattle.bsv_sim.specs.Inputs.{inputs}
 use Rattle.bsv_sim.specs.Simulation.{CanClock}
 use Rattle.bsv_sim.specs.Steps.{CanStep}
 use Rattle.bsv_sim.proofs.Happening.{asked_few, clock_happens, inputs_fit, room_for}

@@ -1,4 +1,4 @@
-use Rattle.std.proofs.Common.{◌≡◌, ◌∙◌, ℕ, ◌≤◌, ◌<◌, List, length, map, sym, ap, subst, arith}
+use Rattle.std.proofs.Common.{◌≡◌, ◌∙◌, ℕ, List, length, map, sym, ap, subst, arith}
 use Rattle.std.specs.Prelude.{IsTrue}
 use Rattle.std.specs.Vec.{with_items}
 use Rattle.std.proofs.lemmas.List.{length-map}
@@ -7,12 +7,10 @@ use Rattle.bsv_prim.specs.declared.primitive.RegisterInfo.{RegisterInfo}
 use Rattle.bsv_design.specs.design.Bodies.{at}
 use Rattle.bsv_design.specs.scheme.Seen.{asking}
 use Rattle.bsv_guard.specs.Fitting.{HaveWidths}
-use Rattle.bsv_net.specs.AtHand.{net_data}
 use Rattle.bsv_net.specs.Nets.{register_widths, words}
 use Rattle.bsv_net.proofs.Solution.{same_length}
 use Rattle.bsv_sim.specs.AtHand.{all_below}
 use Rattle.bsv_sim.specs.Codes.{Code}
-use Rattle.bsv_sim.specs.Engines.{code_of, words_of}
 use Rattle.bsv_sim.specs.Inputs.{inputs}
 use Rattle.bsv_sim.specs.declared.sim.Sim.{Sim}
 use Rattle.bsv_sim.proofs.NetLists.{runnable, same_net, widths_known}
@@ -74,9 +72,9 @@ invariant_of-self-3-clause-widths c =
     let inputs_fit = subst (λ (ws : List Bits). HaveWidths sim.net.inputs ws) (sym asked) c.requires.fit in
     let registers_fit = subst (λ (ws : List Bits). HaveWidths (register_widths sim.net.registers) ws) (sym c.as_slice.ensures.value) (widths_known sim) in
     ∣ subst (λ (ws : List Bits). HaveWidths (register_widths sim.net.registers) ws) (sym c.take_over.ensures)
-      (subst (λ (vs : List Bits). HaveWidths (register_widths sim.net.registers) (map (at vs) c.as_slice-6.result.now)) (sym run)
-      (subst (λ (ns : List ℕ). HaveWidths (register_widths sim.net.registers) (map (at (words sim.net.nodes c.as_slice-2.result.now c.as_slice.result.now)) ns)) (sym c.as_slice-6.ensures)
-      ((runnable sim.net).have c.as_slice-2.result.now c.as_slice.result.now inputs_fit registers_fit))) ∣₁
+    (subst (λ (vs : List Bits). HaveWidths (register_widths sim.net.registers) (map (at vs) c.as_slice-6.result.now)) (sym run)
+    (subst (λ (ns : List ℕ). HaveWidths (register_widths sim.net.registers) (map (at (words sim.net.nodes c.as_slice-2.result.now c.as_slice.result.now)) ns)) (sym c.as_slice-6.ensures)
+    ((runnable sim.net).have c.as_slice-2.result.now c.as_slice.result.now inputs_fit registers_fit))) ∣₁
 
 pub invariant_of-self-3-clause-table : goal.invariant_of-self-3-clause-table
 invariant_of-self-3-clause-table c =
