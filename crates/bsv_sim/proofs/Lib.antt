@@ -5,4 +5,3 @@ pub mod Told
 pub mod Lists
 pub mod Happening
 pub mod Opening
-pub mod Named

@@ -7,4 +7,3 @@ pub mod AtHand
 pub mod Stoppers
 pub mod Events
 pub mod Steps
-pub mod Results

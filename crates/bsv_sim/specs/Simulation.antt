@@ -1,22 +1,20 @@
 -- A simulator of a net, and what its clock is: the clock of the design that the net carries.
-use Rattle.std.specs.Prelude.{◌≡◌, ◌<◌, ℕ, true, false, List, length, slice_get, Some}
+use Rattle.std.specs.Prelude.{List, length}
 use Rattle.bsv_bits.specs.Words.{Bits}
 use Rattle.bsv_prim.specs.declared.part.Part.{Part}
 use Rattle.bsv_design.specs.declared.design.Design.{Design}
 use Rattle.bsv_design.specs.declared.fired.Fired.{Fired}
 use Rattle.bsv_design.specs.declared.schedule.Schedule.{Schedule}
-use Rattle.bsv_design.specs.design.Roles.{gives_value}
 use Rattle.bsv_design.specs.scheme.Rooms.{HasRoom}
-use Rattle.bsv_design.specs.scheme.Schemes.{Scheme, Outline, Asking, design_scheme, kinds_of}
+use Rattle.bsv_design.specs.scheme.Schemes.{Asking, design_scheme, kinds_of}
 use Rattle.bsv_design.specs.scheme.Seen.{design_data}
 use Rattle.bsv_design.specs.scheme.States.{AskingFits, FitsKinds}
 use Rattle.bsv_clock.specs.Events.{Happens}
 use Rattle.bsv_clock.specs.Grounds.{IsScheduleOf, KeepsRules}
 use Rattle.bsv_clock.specs.Shows.{Shows}
 use Rattle.bsv_net.specs.declared.net.Net.{Net}
-use Rattle.bsv_net.specs.declared.net_data.NetData.{NetData}
 use Rattle.bsv_net.specs.AtHand.{net_data}
-use Rattle.bsv_net.specs.ShowsByNet.{NetCarries}
+use Rattle.bsv_net.specs.ShowsByNet.{NamesResults, NetCarries}
 use Rattle.bsv_sim.specs.declared.sim.Sim.{Sim}
 
 -- the net that is run
@@ -29,13 +27,7 @@ registers_of sim = sim.registers.items
 
 -- ---- what a clock needs
 
--- what gives a value names a node
-abbrev pub NamesResults : Scheme → NetData → Type 0
-NamesResults S c =
-    (n : ℕ) (o : Outline) → slice_get S.elements n ≡ Some o → gives_value o.role ≡ true
-    → (k : ℕ) × (slice_get c.results n ≡ Some k) × (k < length c.nodes)
-
--- the net carries the design, and the schedule is that of the design
+-- the net carries the design and names a node for each result, and the schedule is that of the design
 pub record IsSimulated (d : Design) (made : Schedule) (n : Net) : Type 0 where
   pub rules : KeepsRules (design_scheme (design_data d))
   pub schedule : IsScheduleOf (design_scheme (design_data d)) made

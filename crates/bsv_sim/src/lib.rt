@@ -10,9 +10,7 @@ mod events;
 mod inputs;
 mod reading;
 mod registers;
-mod results;
 mod sim;
 mod stoppers;
 
-pub use results::names_results;
 pub use sim::Sim;
