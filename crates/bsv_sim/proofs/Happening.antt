@@ -50,7 +50,7 @@ use Rattle.bsv_sim.specs.Simulation.{IsClockOf, IsShown, IsSimulated}
 use Rattle.bsv_sim.specs.Steps.{IsStepAt, reading_of}
 use Rattle.bsv_sim.specs.Stoppers.{all_noted}
 use Rattle.bsv_sim.proofs.Asked.{asked_long, inputs_are, may_same, requests_fit}
-use Rattle.bsv_sim.proofs.Lists.{below_same, each_pair, given_kept, given_same, pairs_of}
+use Rattle.bsv_sim.proofs.Lists.{below_same, each_pair, given_same, pairs_of}
 use Rattle.bsv_sim.proofs.Tables.{IsFirst, all_long, first_noted, stops_now}
 use Rattle.bsv_sim.proofs.Told.{gives_word, nothing_told, one_told, word_told}
 
@@ -150,11 +150,10 @@ module _ (d : Design) (made : Schedule) (n : Net) (simulated : IsSimulated d mad
       of e at_k false gives None is some = nothing_told vs n.results (length n.nodes) k (simulated.carries.no_result k (outline e) at_k gives)
       of e at_k false gives (Some w) is some = absurd (let z : true ≡ false = some ∙ gives in let y : ⊥ = cc in y)
 
-  pub results_told : events.all_given r made.execution ≡ results_in_turn S q (emptied S.kinds s) F
-  unfolding events.all_given events.all_fired
+  pub results_told : events.all_given r (events.all_fired r made.execution) ≡ results_in_turn S q (emptied S.kinds s) F
+  unfolding events.all_given
   results_told =
-      given_kept (reading.fires r) (reading.word r) made.execution
-      ∙ ap (λ (ns : List ℕ). flat_map (λ k. gives_pair k (reading.word r k)) ns) list_told
+      ap (λ (ns : List ℕ). flat_map (λ k. gives_pair k (reading.word r k)) ns) list_told
       ∙ given_same (reading.word r) (λ k. value S q k L) F word_of_fired
       ∙ ap (λ (a : Look). results_under S q a F) same_look
       ∙ sym (clock_results false S made q s together steady)

@@ -1,26 +1,16 @@
 -- Lists of what is told, element by element.
-use Rattle.std.proofs.Common.{◌≡◌, ◌∙◌, inl, inr, is_some, ℕ, zero, suc, ◌+◌, ◌≤◌, Bool, true, false, cond, List, [], ◌∷◌, ◌++◌, map, Option, Some, None, refl, ap, ap₂, arith, append-nil}
-use Rattle.std.specs.Prelude.{filter, if◌then◌else◌}
+use Rattle.std.proofs.Common.{◌≡◌, ◌∙◌, inl, inr, is_some, ℕ, zero, suc, ◌+◌, ◌≤◌, Bool, true, false, cond, List, [], ◌∷◌, ◌++◌, length, map, Option, Some, None, refl, ap, ap₂, arith, append-nil}
+use Rattle.std.specs.Prelude.{filter}
 use Rattle.std.specs.List.{AllByRecursion, flat_map}
 use Rattle.std.proofs.lemmas.List.Elements.{filter-append}
 use Rattle.bsv_bits.specs.Words.{Bits}
 use Rattle.bsv_graph.specs.Edges.{numbers_below}
 use Rattle.bsv_graph.specs.Orders.{In}
 use Rattle.bsv_clock.specs.Events.{gives}
-use Rattle.bsv_sim.specs.Events.{pair}
+use Rattle.bsv_sim.specs.Events.{all_fired, pair}
+use Rattle.bsv_sim.specs.Reading.{Reading, fires}
 
--- what those give that pass the test
-pub given_kept : (t : ℕ → Bool) (o : ℕ → Option Bits) (ns : List ℕ)
-    → flat_map (λ n. gives n (if t n then o n else None)) ns ≡ flat_map (λ n. gives n (o n)) (filter t ns)
-given_kept t o [] = refl
-given_kept t o (n ∷ ns) = of (t n) (given_kept t o ns)
-  where
-    of : (b : Bool) → flat_map (λ n. gives n (if t n then o n else None)) ns ≡ flat_map (λ n. gives n (o n)) (filter t ns)
-        → gives n (if b then o n else None) ++ flat_map (λ n. gives n (if t n then o n else None)) ns
-        ≡ flat_map (λ n. gives n (o n)) (cond b (n ∷ filter t ns) (filter t ns))
-    of true ih = ap (λ (xs : List (ℕ × Bits)). gives n (o n) ++ xs) ih
-    of false ih = ih
-
+-- the same is given
 pub given_same : (o p : ℕ → Option Bits) (ns : List ℕ) → ((n : ℕ) → In ns n → o n ≡ p n) → flat_map (λ n. gives n (o n)) ns ≡ flat_map (λ n. gives n (p n)) ns
 given_same o p [] h = refl
 given_same o p (n ∷ ns) h =
@@ -61,3 +51,13 @@ below_same t m (suc k) h =
   where
     next : (m k : ℕ) → m + suc k ≡ suc (m + k)
     next m k = omega arith
+
+-- no more fire than there are
+pub fired_most : (r : Reading) (ns : List ℕ) → length (all_fired r ns) ≤ length ns
+unfolding all_fired
+fired_most r [] = omega arith
+fired_most r (n ∷ ns) = of (fires r n) (fired_most r ns)
+  where
+    of : (b : Bool) → length (filter (λ m. fires r m) ns) ≤ length ns → length (cond b (n ∷ filter (λ m. fires r m) ns) (filter (λ m. fires r m) ns)) ≤ length (n ∷ ns)
+    of true ih = omega (arith, ih)
+    of false ih = omega (arith, ih)

@@ -6,7 +6,7 @@ use Rattle.bsv_design.specs.declared.fired.Fired.{Fired}
 use Rattle.bsv_design.specs.declared.schedule.Schedule.{Schedule}
 use Rattle.bsv_graph.specs.Edges.{numbers_below}
 use Rattle.bsv_clock.specs.Events.{gives}
-use Rattle.bsv_sim.specs.Reading.{Reading, fires, result, is_blocked, is_stopped}
+use Rattle.bsv_sim.specs.Reading.{Reading, fires, word, is_blocked, is_stopped}
 use Rattle.bsv_sim.specs.Stoppers.{all_noted}
 
 -- the one that the table has of the element, where it is stopped
@@ -21,9 +21,9 @@ pair n (Some by) = (n, by) ∷ []
 unfoldable pub all_fired : Reading → List ℕ → List ℕ
 all_fired r ns = filter (λ n. fires r n) ns
 
--- what they give
+-- what these give
 unfoldable pub all_given : Reading → List ℕ → List (ℕ × Bits)
-all_given r ns = flat_map (λ n. gives n (result r n)) ns
+all_given r ns = flat_map (λ n. gives n (word r n)) ns
 
 -- those that are stopped, each with the one that stops it
 unfoldable pub all_stopped : Reading → List Bool → List ℕ → List ℕ → List (ℕ × ℕ)
@@ -38,7 +38,7 @@ pub record IsTold (r : Reading) (made : Schedule) (asked : List Bool) (ss : List
   pub list : f.list.items ≡ all_fired r made.execution
   pub stopped : f.stopped.items ≡ all_stopped r asked (all_noted r made.stops ss made.urgency) made.urgency
   pub blocked : f.blocked.items ≡ all_blocked r asked
-  pub results : f.results.items ≡ all_given r made.execution
+  pub results : f.results.items ≡ all_given r (all_fired r made.execution)
 
 -- there is room for all of that
 pub record HasRoomFor (made : Schedule) (asked : List Bool) (f : Fired) : Type 0 where

@@ -28,12 +28,9 @@ module _ (r : Reading) where
   abbrev pub is_ready : ℕ → Bool
   is_ready n = one_at r.words (slice_get r.readies n)
 
+  -- what it gives, where its entry names a node
   abbrev pub word : ℕ → Option Bits
   word n = word_of r.words r.nodes (slice_get r.results n)
-
-  -- what it gives, where it fires
-  abbrev pub result : ℕ → Option Bits
-  result n = (if fires n then word n else None)
 
   -- it is a method that is asked and not ready
   abbrev pub is_blocked : List Bool → ℕ → Bool

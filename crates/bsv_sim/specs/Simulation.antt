@@ -1,5 +1,5 @@
 -- A simulator of a net, and what its clock is: the clock of the design that the net carries.
-use Rattle.std.specs.Prelude.{List, length}
+use Rattle.std.specs.Prelude.{false, List, length}
 use Rattle.bsv_bits.specs.Words.{Bits}
 use Rattle.bsv_prim.specs.declared.part.Part.{Part}
 use Rattle.bsv_design.specs.declared.design.Design.{Design}

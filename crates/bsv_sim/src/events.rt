@@ -27,19 +27,18 @@ impl Reading<'_> {
         }
     }
 
-    /// What they give, in the execution order.
+    /// What these elements give, in their order.
     #[tactic(auto, unfolding(crate::specs::Events::all_given))]
-    fn tell_results(self, execution: &[u32], results: &mut Vec<(u32, Word)>)
+    fn tell_results(self, list: &[u32], results: &mut Vec<(u32, Word)>)
         requires readable { hand.IsReadable self }
-        requires room { length execution.now ≤ vec_capacity results.old }
-        ensures results { results.new.items
-            ≡ spec.all_given (hand.reading self.entry) execution.now }
+        requires room { length list.now ≤ vec_capacity results.old }
+        ensures results { results.new.items ≡ spec.all_given (hand.reading self.entry) list.now }
         ensures capacity { vec_capacity results.old ≤ vec_capacity results.new }
     {
         results.clear();
-        let mut rest = execution;
+        let mut rest = list;
         while let Some((number, after)) = rest.split_first() {
-            if let Some(word) = self.result(*number) {
+            if let Some(word) = self.word(*number) {
                 let _ = results.push((*number, word));
             }
             rest = after;
@@ -116,6 +115,6 @@ impl Reading<'_> {
         self.tell_fired(execution, &mut fired.list);
         self.tell_stopped(asked, stoppers, urgency, &mut fired.stopped);
         self.tell_blocked(asked, &mut fired.blocked);
-        self.tell_results(execution, &mut fired.results);
+        self.tell_results(fired.list.as_slice(), &mut fired.results);
     }
 }

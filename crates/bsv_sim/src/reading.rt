@@ -43,26 +43,14 @@ impl Reading<'_> {
         }
     }
 
-    /// The word of its result, where it names a node.
-    fn word(self, number: u32) -> Option<Word>
+    /// What it gives, where its entry names a node.
+    pub fn word(self, number: u32) -> Option<Word>
         requires { hand.IsReadable self }
         ensures { result ≡ spec.word (hand.reading self.entry) number }
     {
         match self.results.get(number as usize) {
             Some(node) if (*node as usize) < self.nodes => Some(self.engine.word(*node)),
             _ => None,
-        }
-    }
-
-    /// What it gives, where it fires and gives a word.
-    pub fn result(self, number: u32) -> Option<Word>
-        requires { hand.IsReadable self }
-        ensures { result ≡ spec.result (hand.reading self.entry) number }
-    {
-        if self.fires(number) {
-            self.word(number)
-        } else {
-            None
         }
     }
 

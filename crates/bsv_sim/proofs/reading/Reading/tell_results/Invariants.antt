@@ -8,7 +8,7 @@ abbrev pub invariant-loop-number : goal.invariant-loop-number
 invariant-loop-number l = record {
   room : vec_len l.results + length l.rest ≤ vec_capacity l.results;
   capacity : vec_capacity l.initial.results ≤ vec_capacity l.results;
-  tells : l.results.items ++ all_given (reading l.self) l.rest ≡ all_given (reading l.self) l.execution;
+  tells : l.results.items ++ all_given (reading l.self) l.rest ≡ all_given (reading l.self) l.list;
 }
 
 abbrev pub decreases-loop-number : goal.decreases-loop-number
