@@ -44,10 +44,10 @@ use Rattle.bsv_net.specs.ShowsByNet.{gives, given_at}
 use Rattle.bsv_net.proofs.WidthsFit.{cells_have, inputs_given, inputs_of_scheme}
 use Rattle.bsv_sim.specs.Events as events
 use Rattle.bsv_sim.specs.Inputs.{inputs}
-use Rattle.bsv_sim.specs.Reading as reading
-use Rattle.bsv_sim.specs.Reading.{Reading}
+use Rattle.bsv_sim.specs.Signals as signals
+use Rattle.bsv_sim.specs.Signals.{Signals}
 use Rattle.bsv_sim.specs.Simulation.{IsClockOf, IsShown, IsSimulated}
-use Rattle.bsv_sim.specs.Steps.{IsStepAt, reading_of}
+use Rattle.bsv_sim.specs.Steps.{IsStepAt, signals_of}
 use Rattle.bsv_sim.specs.Stoppers.{all_noted}
 use Rattle.bsv_sim.proofs.Asked.{asked_long, inputs_are, may_same, requests_fit}
 use Rattle.bsv_sim.proofs.Lists.{below_same, each_pair, given_same, pairs_of}
@@ -102,8 +102,8 @@ module _ (d : Design) (made : Schedule) (n : Net) (simulated : IsSimulated d mad
   abbrev vs : List Bits
   vs = words n.nodes (inputs q) ws
 
-  abbrev r : Reading
-  r = reading_of n vs
+  abbrev r : Signals
+  r = signals_of n vs
 
   told : TellsClock false S q s F E (given_at (net_data n) vs)
   unfolding design_scheme
@@ -111,10 +111,10 @@ module _ (d : Design) (made : Schedule) (n : Net) (simulated : IsSimulated d mad
       subst (λ (is : List Bits). TellsClock false S q s F E (gives (net_data n) ws is)) (sym (inputs_are d q shown.requests))
       (simulated.carries.words.clock q s ws F E fit (subst (λ (us : List ℕ). HaveWidths us ws) (sym (cells_have n.registers)) have) shown.shows clock)
 
-  fires_told : (k : ℕ) → k < length S.elements → reading.fires r k ≡ is_in F k
+  fires_told : (k : ℕ) → k < length S.elements → signals.fires r k ≡ is_in F k
   fires_told k l = one_told vs n.fires k (is_in F k) (told.elements.fires k l)
 
-  ready_told : (k : ℕ) → k < length S.elements → reading.is_ready r k ≡ ready false S q k L
+  ready_told : (k : ℕ) → k < length S.elements → signals.is_ready r k ≡ ready false S q k L
   ready_told k l = one_told vs n.readies k (ready false S q k L) (told.elements.readies k l)
 
   in_execution : (k : ℕ) → In made.execution k → k < length S.elements
@@ -125,7 +125,7 @@ module _ (d : Design) (made : Schedule) (n : Net) (simulated : IsSimulated d mad
 
   pub list_told : events.all_fired r made.execution ≡ F
   unfolding events.all_fired
-  list_told = filter_same (reading.fires r) (is_in F) made.execution (λ k i. fires_told k (in_execution k i)) ∙ clock.in_order
+  list_told = filter_same (signals.fires r) (is_in F) made.execution (λ k i. fires_told k (in_execution k i)) ∙ clock.in_order
 
   -- ---- what the elements give
 
@@ -133,7 +133,7 @@ module _ (d : Design) (made : Schedule) (n : Net) (simulated : IsSimulated d mad
   unfolding fired_in
   fired_there k i = (kept_in _ made.execution k i).0
 
-  word_of_fired : (k : ℕ) → In F k → reading.word r k ≡ value S q k L
+  word_of_fired : (k : ℕ) → In F k → signals.word r k ≡ value S q k L
   unfolding design_scheme
   word_of_fired k i =
       let l = in_execution k (fired_there k i) in
@@ -142,7 +142,7 @@ module _ (d : Design) (made : Schedule) (n : Net) (simulated : IsSimulated d mad
       of e.0 at_k (gives_value e.0.role) refl (value S q k L) refl (gives_word d q k L e.0 e.1)
     where
       of : (e : Element) → slice_get S.elements k ≡ Some (outline e) → (b : Bool) → gives_value e.role ≡ b
-          → (o : Option Bits) → value S q k L ≡ o → is_some o ≡ gives_value e.role → reading.word r k ≡ o
+          → (o : Option Bits) → value S q k L ≡ o → is_some o ≡ gives_value e.role → signals.word r k ≡ o
       of e at_k true gives (Some w) is some =
           let there = simulated.results k (outline e) at_k gives in
           word_told vs n.results (length n.nodes) k there.0 w there.1 there.2 (told.elements.results k w (clock.in_look k i) is)
@@ -153,14 +153,14 @@ module _ (d : Design) (made : Schedule) (n : Net) (simulated : IsSimulated d mad
   pub results_told : events.all_given r (events.all_fired r made.execution) ≡ results_in_turn S q (emptied S.kinds s) F
   unfolding events.all_given
   results_told =
-      ap (λ (ns : List ℕ). flat_map (λ k. gives_pair k (reading.word r k)) ns) list_told
-      ∙ given_same (reading.word r) (λ k. value S q k L) F word_of_fired
+      ap (λ (ns : List ℕ). flat_map (λ k. gives_pair k (signals.word r k)) ns) list_told
+      ∙ given_same (signals.word r) (λ k. value S q k L) F word_of_fired
       ∙ ap (λ (a : Look). results_under S q a F) same_look
       ∙ sym (clock_results false S made q s together steady)
 
   -- ---- what is blocked
 
-  blocked_known : (k : ℕ) → k < length S.elements → reading.is_blocked r q.asked k ≡ (is_asked q k && not (ready false S q k L))
+  blocked_known : (k : ℕ) → k < length S.elements → signals.is_blocked r q.asked k ≡ (is_asked q k && not (ready false S q k L))
   blocked_known k l = ap (λ (b : Bool). is_asked q k && not b) (ready_told k l)
 
   never_asked : (k : ℕ) → length q.asked ≤ k → (is_asked q k && not (ready false S q k L)) ≡ false
@@ -172,7 +172,7 @@ module _ (d : Design) (made : Schedule) (n : Net) (simulated : IsSimulated d mad
   pub blocked_told : events.all_blocked r q.asked ≡ blocked_in false S q s F
   unfolding events.all_blocked
   blocked_told =
-      filter_same (reading.is_blocked r q.asked) blocked (numbers_below (length q.asked))
+      filter_same (signals.is_blocked r q.asked) blocked (numbers_below (length q.asked))
       (λ k i. blocked_known k (below k (in_below (length q.asked) k i)))
       ∙ sym (below_same blocked (length q.asked) (length S.elements - length q.asked) never_asked)
       ∙ ap (λ (m : ℕ). filter blocked (numbers_below m)) whole
@@ -192,10 +192,10 @@ module _ (d : Design) (made : Schedule) (n : Net) (simulated : IsSimulated d mad
   may_told k l = may_same d q shown.requests k (subst (λ (c : ℕ). k < c) count l)
 
   stopped_known : (k : ℕ) → k < length S.elements
-      → reading.is_stopped r q.asked k ≡ (is_candidate false S q s F k && not (is_in F k))
+      → signals.is_stopped r q.asked k ≡ (is_candidate false S q s F k && not (is_in F k))
   unfolding is_candidate
   stopped_known k l =
-      ap₂ (λ (a b : Bool). (a && b) && not (reading.fires r k)) (sym (may_told k l)) (ready_told k l)
+      ap₂ (λ (a b : Bool). (a && b) && not (signals.fires r k)) (sym (may_told k l)) (ready_told k l)
       ∙ ap (λ (b : Bool). (may_fire S q k && ready false S q k L) && not b) (fires_told k l)
 
   module _ (ss : List ℕ) (table : length ss ≡ length n.fires) where
@@ -210,8 +210,8 @@ module _ (d : Design) (made : Schedule) (n : Net) (simulated : IsSimulated d mad
     stopper_known : (k : ℕ) → k < length S.elements → is_some (events.stopper r q.asked noted_now k) ≡ (is_candidate false S q s F k && not (is_in F k))
     stopper_known k l =
         let entry = item_there noted_now k (subst (λ (m : ℕ). k < m) (sym (all_long r made.stops ss made.urgency)) (in_table k l)) in
-        ap (λ (o : Option ℕ). is_some (if reading.is_stopped r q.asked k then o else None)) entry.1
-        ∙ of (reading.is_stopped r q.asked k) entry.0 ∙ stopped_known k l
+        ap (λ (o : Option ℕ). is_some (if signals.is_stopped r q.asked k then o else None)) entry.1
+        ∙ of (signals.is_stopped r q.asked k) entry.0 ∙ stopped_known k l
       where
         of : (b : Bool) (by : ℕ) → is_some (if b then Some by else None) ≡ b
         of true by = refl
@@ -228,16 +228,16 @@ module _ (d : Design) (made : Schedule) (n : Net) (simulated : IsSimulated d mad
     unfolding stops_in
     now_stops f k i stops =
         let l = (stops_within S made simulated.schedule f k stops).0 in
-        and_from (reading.fires r f) _ (fires_told f l ∙ is_found F f i) (true_stops S made simulated.schedule f k stops)
+        and_from (signals.fires r f) _ (fires_told f l ∙ is_found F f i) (true_stops S made simulated.schedule f k stops)
 
     stops_then : (f k : ℕ) → f < length S.elements → stops_now r made.stops k f ≡ true → In F f × StopsIn S made f k
     unfolding stops_in
     stops_then f k l now =
-        let both = and_parts (reading.fires r f) _ now in
+        let both = and_parts (signals.fires r f) _ now in
         (found F f (sym (fires_told f l) ∙ both.0), stops_true S made simulated.schedule f k both.1)
 
     first_stopper : (k by : ℕ) → In made.urgency k → events.stopper r q.asked noted_now k ≡ Some by → IsFirstStopper S made F (k, by)
-    first_stopper k by i is = of (reading.is_stopped r q.asked k) refl is
+    first_stopper k by i is = of (signals.is_stopped r q.asked k) refl is
       where
         l : k < length S.elements
         l = in_urgency k i
@@ -252,7 +252,7 @@ module _ (d : Design) (made : Schedule) (n : Net) (simulated : IsSimulated d mad
                   first.first f ((urgency_order S made simulated.schedule).each f (stops_within S made simulated.schedule f k stops).0) (now_stops f k j stops);
             }
 
-        of : (b : Bool) → reading.is_stopped r q.asked k ≡ b → (if b then slice_get noted_now k else None) ≡ Some by → IsFirstStopper S made F (k, by)
+        of : (b : Bool) → signals.is_stopped r q.asked k ≡ b → (if b then slice_get noted_now k else None) ≡ Some by → IsFirstStopper S made F (k, by)
         of false e at_k = absurd (let z : ⊥ = cc in z)
         of true e at_k =
             let both = and_parts (is_candidate false S q s F k) (not (is_in F k)) (sym (stopped_known k l) ∙ e) in

@@ -8,7 +8,7 @@ use Rattle.bsv_graph.specs.Edges.{numbers_below}
 use Rattle.bsv_graph.specs.Orders.{In}
 use Rattle.bsv_clock.specs.Events.{gives}
 use Rattle.bsv_sim.specs.Events.{all_fired, pair}
-use Rattle.bsv_sim.specs.Reading.{Reading, fires}
+use Rattle.bsv_sim.specs.Signals.{Signals, fires}
 
 -- the same is given
 pub given_same : (o p : ℕ → Option Bits) (ns : List ℕ) → ((n : ℕ) → In ns n → o n ≡ p n) → flat_map (λ n. gives n (o n)) ns ≡ flat_map (λ n. gives n (p n)) ns
@@ -53,7 +53,7 @@ below_same t m (suc k) h =
     next m k = omega arith
 
 -- no more fire than there are
-pub fired_most : (r : Reading) (ns : List ℕ) → length (all_fired r ns) ≤ length ns
+pub fired_most : (r : Signals) (ns : List ℕ) → length (all_fired r ns) ≤ length ns
 unfolding all_fired
 fired_most r [] = omega arith
 fired_most r (n ∷ ns) = of (fires r n) (fired_most r ns)

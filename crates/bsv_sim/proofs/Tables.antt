@@ -7,11 +7,11 @@ use Rattle.bsv_lemmas.proofs.Places.{set_there, set_elsewhere}
 use Rattle.bsv_graph.specs.Orders.{In, IsBefore}
 use Rattle.bsv_clock.specs.Clocks.{is_in}
 use Rattle.bsv_clock.specs.Settling.{or_no_numbers}
-use Rattle.bsv_sim.specs.Reading.{Reading, fires}
+use Rattle.bsv_sim.specs.Signals.{Signals, fires}
 use Rattle.bsv_sim.specs.Stoppers.{all_noted, noted, noted_by}
 
 -- all but the last one are noted after it
-pub from_last : (r : Reading) (stops : List (List ℕ)) (ss ns : List ℕ) (n : ℕ)
+pub from_last : (r : Signals) (stops : List (List ℕ)) (ss ns : List ℕ) (n : ℕ)
     → all_noted r stops ss (ns ++ n ∷ []) ≡ all_noted r stops (noted_by r stops ss n) ns
 unfolding all_noted
 from_last r stops ss [] n = refl
@@ -36,7 +36,7 @@ noted_at ss (n ∷ ns) by m l =
     of false e true = refl
     of false e false = set_elsewhere ss n m by (eqb-false n m e)
 
-module _ (r : Reading) (stops : List (List ℕ)) where
+module _ (r : Signals) (stops : List (List ℕ)) where
   -- the first one fires and stops the second one
   abbrev pub stops_now : ℕ → ℕ → Bool
   stops_now m f = fires r f && is_in (or_no_numbers (slice_get stops f)) m

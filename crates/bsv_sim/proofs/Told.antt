@@ -17,7 +17,7 @@ use Rattle.bsv_design.specs.design.Words.{is_one}
 use Rattle.bsv_design.specs.scheme.Schemes.{Asking, Look, answers, design_scheme, given, kinds_of, seen, trace_of, value}
 use Rattle.bsv_design.specs.scheme.Seen.{design_data}
 use Rattle.bsv_design.specs.scheme.Traces.{body_trace}
-use Rattle.bsv_sim.specs.Reading.{one_at, word_of}
+use Rattle.bsv_sim.specs.Signals.{one_at, word_of}
 
 -- ---- words
 

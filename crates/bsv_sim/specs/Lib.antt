@@ -2,7 +2,7 @@ pub mod Simulation
 pub mod Codes
 pub mod Engines
 pub mod Inputs
-pub mod Reading
+pub mod Signals
 pub mod AtHand
 pub mod Stoppers
 pub mod Events

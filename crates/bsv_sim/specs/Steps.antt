@@ -11,11 +11,11 @@ use Rattle.bsv_net.specs.Nets.{words}
 use Rattle.bsv_sim.specs.declared.sim.Sim.{Sim}
 use Rattle.bsv_sim.specs.Events as events
 use Rattle.bsv_sim.specs.Inputs.{inputs}
-use Rattle.bsv_sim.specs.Reading.{Reading}
+use Rattle.bsv_sim.specs.Signals.{Signals}
 
 -- what the nodes of the net tell, where they have these words
-abbrev pub reading_of : Net → List Bits → Reading
-reading_of n vs = record { words = vs; fires = n.fires; readies = n.readies; results = n.results; nodes = length n.nodes }
+abbrev pub signals_of : Net → List Bits → Signals
+signals_of n vs = record { words = vs; fires = n.fires; readies = n.readies; results = n.results; nodes = length n.nodes }
 
 abbrev pub KeepsRoom : Fired → Fired → Type 0
 KeepsRoom before after = events.KeepsRoom before after
@@ -28,7 +28,7 @@ pub record CanStep (sim : Sim) (made : Schedule) (q : Asking) (f : Fired) : Type
 
 -- what the words of the nodes tell is told, and the registers have their next words
 pub record IsStepAt (n : Net) (vs : List Bits) (made : Schedule) (q : Asking) (ss : List ℕ) (f : Fired) (after : List Bits) : Type 0 where
-  pub told : events.IsTold (reading_of n vs) made q.asked ss f
+  pub told : events.IsTold (signals_of n vs) made q.asked ss f
   pub nexts : after ≡ map (at vs) n.nexts
 
 abbrev pub IsStep : Net → List Bits → Schedule → Asking → List ℕ → Fired → List Bits → Type 0

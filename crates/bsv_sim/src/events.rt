@@ -2,19 +2,19 @@ ghost use Rattle.std.specs.Prelude.{◌≡◌, ◌≤◌, ◌<◌, ◌^◌, leng
 ghost use Rattle.bsv_design.specs.scheme.Rooms.{HasRoom};
 ghost use Rattle.bsv_sim.specs.Events as spec;
 
-use crate::reading::Reading;
+use crate::signals::ElementSignals;
 use bsv_bits::Word;
 use bsv_design::{Fired, Schedule};
 
-impl Reading<'_> {
+impl ElementSignals<'_> {
     ghost use Rattle.bsv_sim.specs.AtHand as hand;
 
     /// The elements that fire, in the execution order.
     #[tactic(auto, unfolding(crate::specs::Events::all_fired))]
     fn tell_fired(self, execution: &[u32], list: &mut Vec<u32>)
-        requires readable { hand.IsReadable self }
+        requires nodes { hand.HasNodes self }
         requires room { length execution.now ≤ vec_capacity list.old }
-        ensures list { list.new.items ≡ spec.all_fired (hand.reading self.entry) execution.now }
+        ensures list { list.new.items ≡ spec.all_fired (hand.signals self.entry) execution.now }
         ensures capacity { vec_capacity list.old ≤ vec_capacity list.new }
     {
         list.clear();
@@ -30,9 +30,9 @@ impl Reading<'_> {
     /// What these elements give, in their order.
     #[tactic(auto, unfolding(crate::specs::Events::all_given))]
     fn tell_results(self, list: &[u32], results: &mut Vec<(u32, Word)>)
-        requires readable { hand.IsReadable self }
+        requires nodes { hand.HasNodes self }
         requires room { length list.now ≤ vec_capacity results.old }
-        ensures results { results.new.items ≡ spec.all_given (hand.reading self.entry) list.now }
+        ensures results { results.new.items ≡ spec.all_given (hand.signals self.entry) list.now }
         ensures capacity { vec_capacity results.old ≤ vec_capacity results.new }
     {
         results.clear();
@@ -47,8 +47,8 @@ impl Reading<'_> {
 
     /// The one that stops the element, where it is stopped.
     fn stopper(self, asked: &[bool], stoppers: &[u32], number: u32) -> Option<u32>
-        requires { hand.IsReadable self }
-        ensures { result ≡ spec.stopper (hand.reading self.entry) asked.now stoppers.now number }
+        requires { hand.HasNodes self }
+        ensures { result ≡ spec.stopper (hand.signals self.entry) asked.now stoppers.now number }
     {
         if self.is_stopped(asked, number) {
             stoppers.get(number as usize).copied()
@@ -66,10 +66,10 @@ impl Reading<'_> {
         urgency: &[u32],
         stopped: &mut Vec<(u32, u32)>,
     )
-        requires readable { hand.IsReadable self }
+        requires nodes { hand.HasNodes self }
         requires room { length urgency.now ≤ vec_capacity stopped.old }
         ensures stopped { stopped.new.items
-            ≡ spec.all_stopped (hand.reading self.entry) asked.now stoppers.now urgency.now }
+            ≡ spec.all_stopped (hand.signals self.entry) asked.now stoppers.now urgency.now }
         ensures capacity { vec_capacity stopped.old ≤ vec_capacity stopped.new }
     {
         stopped.clear();
@@ -85,11 +85,11 @@ impl Reading<'_> {
     /// The methods that are blocked, by position.
     #[tactic(auto, unfolding(crate::specs::Events::all_blocked))]
     fn tell_blocked(self, asked: &[bool], blocked: &mut Vec<u32>)
-        requires readable { hand.IsReadable self }
+        requires nodes { hand.HasNodes self }
         requires few { length asked.now < 2 ^ 32 }
         requires room { length asked.now ≤ vec_capacity blocked.old }
         ensures blocked { blocked.new.items
-            ≡ spec.all_blocked (hand.reading self.entry) asked.now }
+            ≡ spec.all_blocked (hand.signals self.entry) asked.now }
         ensures capacity { vec_capacity blocked.old ≤ vec_capacity blocked.new }
     {
         blocked.clear();
@@ -102,10 +102,10 @@ impl Reading<'_> {
 
     /// What happens in the clock, where this is asked. The table has room for whom each element is stopped by.
     pub fn tell(self, schedule: &Schedule, asked: &[bool], stoppers: &mut [u32], fired: &mut Fired)
-        requires readable { hand.IsReadable self }
+        requires nodes { hand.HasNodes self }
         requires few { length asked.now < 2 ^ 32 }
         requires room { spec.HasRoomFor schedule.now asked.now fired.old }
-        ensures told { spec.IsTold (hand.reading self.entry) schedule.now asked.now
+        ensures told { spec.IsTold (hand.signals self.entry) schedule.now asked.now
             stoppers.old fired.new }
         ensures room { spec.KeepsRoom fired.old fired.new }
     {

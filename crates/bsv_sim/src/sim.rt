@@ -5,8 +5,8 @@ ghost use Rattle.bsv_sim.specs.Engines.{code_of};
 
 use crate::engine::Engine;
 use crate::inputs::ask;
-use crate::reading::Reading;
 use crate::registers::{starts, take_over};
+use crate::signals::ElementSignals;
 use bsv_bits::{OutOfMemory, Word};
 use bsv_design::{Fired, Requests, Schedule};
 use bsv_net::Net;
@@ -96,7 +96,7 @@ impl Sim {
         ask(requests, &mut self.inputs);
         self.engine
             .run(self.registers.as_slice(), self.inputs.as_slice());
-        let reading = Reading {
+        let signals = ElementSignals {
             engine: &self.engine,
             fires: self.net.fires.as_slice(),
             readies: self.net.readies.as_slice(),
@@ -104,7 +104,7 @@ impl Sim {
             nodes: self.net.nodes.len(),
         };
         let asked = requests.asked.as_slice();
-        reading.tell(schedule, asked, &mut self.stoppers, fired);
+        signals.tell(schedule, asked, &mut self.stoppers, fired);
         take_over(&self.engine, self.net.nexts.as_slice(), &mut self.registers);
     }
 

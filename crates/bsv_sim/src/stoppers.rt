@@ -2,7 +2,7 @@ ghost use Rattle.std.specs.Prelude.{◌≡◌, length, slice_get, slice_set};
 ghost use Rattle.bsv_clock.specs.Settling.{or_no_numbers};
 ghost use Rattle.bsv_sim.specs.Stoppers as spec;
 
-use crate::reading::Reading;
+use crate::signals::ElementSignals;
 use sqlite_items::Items;
 
 /// Notes that this element stops that one.
@@ -37,13 +37,13 @@ fn stopped_by(stops: &[Items<u32>], number: u32) -> &[u32]
     }
 }
 
-impl Reading<'_> {
+impl ElementSignals<'_> {
     ghost use Rattle.bsv_sim.specs.AtHand as hand;
 
     /// Notes whom the element stops, where it fires.
     fn note_stops(self, stops: &[Items<u32>], number: u32, stoppers: &mut [u32])
-        requires { hand.IsReadable self }
-        ensures { stoppers.new ≡ spec.noted_by (hand.reading self.entry) stops.now
+        requires { hand.HasNodes self }
+        ensures { stoppers.new ≡ spec.noted_by (hand.signals self.entry) stops.now
             stoppers.old number }
     {
         if self.fires(number) {
@@ -55,8 +55,8 @@ impl Reading<'_> {
     /// urgent ones come last.
     #[tactic(auto, unfolding(crate::specs::Stoppers::all_noted), using(crate::proofs::Tables::from_last))]
     pub fn find_stoppers(self, stops: &[Items<u32>], urgency: &[u32], stoppers: &mut [u32])
-        requires { hand.IsReadable self }
-        ensures { stoppers.new ≡ spec.all_noted (hand.reading self.entry) stops.now
+        requires { hand.HasNodes self }
+        ensures { stoppers.new ≡ spec.all_noted (hand.signals self.entry) stops.now
             stoppers.old urgency.now }
     {
         let mut rest = urgency;

@@ -37,8 +37,8 @@ run-requires-clause-registers c =
     subst (λ (rs : List RegisterInfo). HaveWidths (register_widths rs) c.as_slice.result.now) (sym (ap (λ (k : Code). k.registers) sim.code))
     (subst (λ (ws : List Bits). HaveWidths (register_widths sim.net.registers) ws) (sym c.as_slice.ensures.value) (widths_known sim))
 
-pub tell-requires-clause-readable : goal.tell-requires-clause-readable
-tell-requires-clause-readable c =
+pub tell-requires-clause-nodes : goal.tell-requires-clause-nodes
+tell-requires-clause-nodes c =
     let sim = c.args.self.now in
     let net = runnable sim.net in
     record {

@@ -5,7 +5,7 @@ use Rattle.bsv_design.specs.design.Bodies.{at}
 use Rattle.bsv_design.specs.design.Words.{is_one}
 
 -- the words of the nodes, and the nodes that tell of each element
-pub record Reading : Type 0 where
+pub record Signals : Type 0 where
   pub words : List Bits
   pub fires : List ℕ
   pub readies : List ℕ
@@ -21,7 +21,7 @@ abbrev pub word_of : List Bits → ℕ → Option ℕ → Option Bits
 word_of vs nodes None = None
 word_of vs nodes (Some k) = (if nat_lt k nodes then Some (at vs k) else None)
 
-module _ (r : Reading) where
+module _ (r : Signals) where
   abbrev pub fires : ℕ → Bool
   fires n = one_at r.words (slice_get r.fires n)
 

@@ -1,12 +1,12 @@
 ghost use Rattle.std.specs.Prelude.{◌≡◌, ◌+◌, ◌^◌, ◌<◌};
-ghost use Rattle.bsv_sim.specs.Reading as spec;
+ghost use Rattle.bsv_sim.specs.Signals as spec;
 
 use crate::engine::Engine;
 use bsv_bits::Word;
 
 /// What the words of the nodes tell of the elements, after a run.
 #[derive(Clone, Copy)]
-pub struct Reading<'a> {
+pub struct ElementSignals<'a> {
     pub engine: &'a Engine,
     /// Of each element the node that is 1 where it fires.
     pub fires: &'a [u32],
@@ -18,13 +18,13 @@ pub struct Reading<'a> {
     pub nodes: usize,
 }
 
-impl Reading<'_> {
+impl ElementSignals<'_> {
     ghost use Rattle.bsv_sim.specs.AtHand as hand;
 
     /// Whether the element of this position fires.
     pub fn fires(self, number: u32) -> bool
-        requires { hand.IsReadable self }
-        ensures { result ≡ spec.fires (hand.reading self.entry) number }
+        requires { hand.HasNodes self }
+        ensures { result ≡ spec.fires (hand.signals self.entry) number }
     {
         match self.fires.get(number as usize) {
             Some(node) => self.engine.is_one(*node),
@@ -34,8 +34,8 @@ impl Reading<'_> {
 
     /// Whether it is ready.
     pub fn is_ready(self, number: u32) -> bool
-        requires { hand.IsReadable self }
-        ensures { result ≡ spec.is_ready (hand.reading self.entry) number }
+        requires { hand.HasNodes self }
+        ensures { result ≡ spec.is_ready (hand.signals self.entry) number }
     {
         match self.readies.get(number as usize) {
             Some(node) => self.engine.is_one(*node),
@@ -45,8 +45,8 @@ impl Reading<'_> {
 
     /// What it gives, where its entry names a node.
     pub fn word(self, number: u32) -> Option<Word>
-        requires { hand.IsReadable self }
-        ensures { result ≡ spec.word (hand.reading self.entry) number }
+        requires { hand.HasNodes self }
+        ensures { result ≡ spec.word (hand.signals self.entry) number }
     {
         match self.results.get(number as usize) {
             Some(node) if (*node as usize) < self.nodes => Some(self.engine.word(*node)),
@@ -56,8 +56,8 @@ impl Reading<'_> {
 
     /// Whether it is a method that is asked and not ready.
     pub fn is_blocked(self, asked: &[bool], number: u32) -> bool
-        requires { hand.IsReadable self }
-        ensures { result ≡ spec.is_blocked (hand.reading self.entry) asked.now number }
+        requires { hand.HasNodes self }
+        ensures { result ≡ spec.is_blocked (hand.signals self.entry) asked.now number }
     {
         match asked.get(number as usize) {
             Some(is_asked) => *is_asked && !self.is_ready(number),
@@ -67,8 +67,8 @@ impl Reading<'_> {
 
     /// Whether it is ready and does not fire, as a rule or a method that is asked.
     pub fn is_stopped(self, asked: &[bool], number: u32) -> bool
-        requires { hand.IsReadable self }
-        ensures { result ≡ spec.is_stopped (hand.reading self.entry) asked.now number }
+        requires { hand.HasNodes self }
+        ensures { result ≡ spec.is_stopped (hand.signals self.entry) asked.now number }
     {
         match asked.get(number as usize) {
             Some(is_asked) => *is_asked && self.is_ready(number) && !self.fires(number),
