@@ -1,7 +1,7 @@
 -- What the definitions see of what the code has at hand.
 use Rattle.std.specs.Prelude.{◌≡◌, ℕ, nat_lt, Bool, IsTrue, List, length}
 use Rattle.std.specs.List.{list_all}
-use Rattle.bsv_sim.specs.Engines.{code_of, words_of}
+use Rattle.bsv_engine.specs.Engines.{code_of, words_of}
 use Rattle.bsv_sim.specs.declared.signals.ElementSignals.{ElementSignals}
 use Rattle.bsv_sim.specs.Signals as spec
 

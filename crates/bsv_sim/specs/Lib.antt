@@ -1,6 +1,4 @@
 pub mod Simulation
-pub mod Codes
-pub mod Engines
 pub mod Inputs
 pub mod Signals
 pub mod AtHand

@@ -5,7 +5,6 @@
 //! `registers` (their next words) and `sim` (the public calls). What is promised is in `specs/Simulation.antt`.
 #![tactic(auto)]
 
-mod engine;
 mod events;
 mod inputs;
 mod registers;

@@ -1,10 +1,10 @@
 ghost use Rattle.std.specs.Prelude.{◌≡◌, ◌≤◌, IfOk, IsTrue, length, map, vec_capacity};
 ghost use Rattle.bsv_design.specs.design.Bodies.{at};
 ghost use Rattle.bsv_sim.specs.AtHand.{all_below};
-ghost use Rattle.bsv_sim.specs.Engines.{code_of, words_of};
+ghost use Rattle.bsv_engine.specs.Engines.{code_of, words_of};
 
-use crate::engine::Engine;
 use bsv_bits::{OutOfMemory, Word};
+use bsv_engine::Engine;
 use bsv_prim::RegisterInfo;
 use std::alloc::Global;
 

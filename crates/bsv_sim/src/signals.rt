@@ -1,8 +1,8 @@
 ghost use Rattle.std.specs.Prelude.{◌≡◌, ◌+◌, ◌^◌, ◌<◌};
 ghost use Rattle.bsv_sim.specs.Signals as spec;
 
-use crate::engine::Engine;
 use bsv_bits::Word;
+use bsv_engine::Engine;
 
 /// What the words of the nodes tell of the elements, after a run.
 #[derive(Clone, Copy)]

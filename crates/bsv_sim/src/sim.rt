@@ -1,14 +1,14 @@
 ghost use Rattle.std.specs.Prelude.{◌≡◌, ◌≤◌, IfOk, length, map, vec_capacity};
 ghost use Rattle.bsv_guard.specs.Fitting.{HaveWidths};
 ghost use Rattle.bsv_net.specs.Nets.{register_widths};
-ghost use Rattle.bsv_sim.specs.Engines.{code_of};
+ghost use Rattle.bsv_engine.specs.Engines.{code_of};
 
-use crate::engine::Engine;
 use crate::inputs::ask;
 use crate::registers::{starts, take_over};
 use crate::signals::ElementSignals;
 use bsv_bits::{OutOfMemory, Word};
 use bsv_design::{Fired, Requests, Schedule};
+use bsv_engine::Engine;
 use bsv_net::Net;
 use std::alloc::Global;
 

@@ -2,7 +2,7 @@ use Rattle.std.proofs.Common.{◌≡◌, ◌++◌, ◌+◌, ◌≤◌, length, m
 use Rattle.std.specs.Prelude.{IsTrue, vec_len, vec_capacity}
 use Rattle.bsv_design.specs.design.Bodies.{at}
 use Rattle.bsv_sim.specs.AtHand.{all_below}
-use Rattle.bsv_sim.specs.Engines.{code_of, words_of}
+use Rattle.bsv_engine.specs.Engines.{code_of, words_of}
 use Rattle.bsv_sim.proofs.registers.take_over.Given as goal
 
 abbrev pub invariant-loop-node : goal.invariant-loop-node

@@ -10,7 +10,7 @@ use Rattle.bsv_guard.specs.Fitting.{HaveWidths}
 use Rattle.bsv_net.specs.Nets.{register_widths, words}
 use Rattle.bsv_net.proofs.Solution.{same_length}
 use Rattle.bsv_sim.specs.AtHand.{all_below}
-use Rattle.bsv_sim.specs.Codes.{Code}
+use Rattle.bsv_engine.specs.Codes.{Code}
 use Rattle.bsv_sim.specs.Inputs.{inputs}
 use Rattle.bsv_sim.specs.declared.sim.Sim.{Sim}
 use Rattle.bsv_sim.proofs.NetLists.{runnable, same_net, widths_known}
