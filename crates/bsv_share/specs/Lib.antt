@@ -1,0 +1,5 @@
+pub mod Sharing
+pub mod Keys
+pub mod Operands
+pub mod Simplifying
+pub mod Outputs
