@@ -3,3 +3,4 @@ pub mod Keys
 pub mod Operands
 pub mod Simplifying
 pub mod Outputs
+pub mod Folding

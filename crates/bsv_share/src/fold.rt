@@ -1,8 +1,10 @@
-ghost use Rattle.std.specs.Prelude.{◌≡◌, IfOk, OnOk, map, length};
+ghost use Rattle.std.specs.Prelude.{◌≡◌, IfOk, OnOk, Some, map, length, slice_get};
 ghost use Rattle.bsv_guard.specs.Fitting.{HaveWidths};
 ghost use Rattle.bsv_net.specs.AtHand.{net_data};
 ghost use Rattle.bsv_net.specs.Nets.{register_widths};
 ghost use Rattle.bsv_share.specs.Keys.{key_of};
+ghost use Rattle.bsv_share.specs.Folding as spec;
+ghost use Rattle.bsv_net.specs.Nets.{words};
 
 use crate::key::{Key, key_of};
 use crate::operands::{first_operand, renamed};
@@ -25,10 +27,15 @@ struct Folding {
 
 impl Folding {
     /// The place of the node, which comes last where it is not there yet.
-    fn add(&mut self, node: NetNode) -> Result<u32, OutOfMemory> {
-        let (place, is_new) = self.keys.insert_full(key_of(node))?;
+    fn add(&mut self, node: &NetNode) -> Result<u32, OutOfMemory>
+        requires { self.old.keys.keys ≡ map key_of self.old.nodes }
+        ensures keyed { OnOk result (self.new.keys.keys ≡ map key_of self.new.nodes) }
+        ensures added { IfOk result (λ n. spec.Added self.old.nodes node.now self.new.nodes n) }
+    {
+        let key = key_of(*node);
+        let (place, is_new) = self.keys.insert_full(key)?;
         if is_new {
-            self.nodes.push(node)?;
+            self.nodes.push(*node)?;
         }
         match u32::try_from(place) {
             Ok(place) => Ok(place),
@@ -37,11 +44,17 @@ impl Folding {
     }
 
     /// The place of a node that has the word of this one, whose first operand has this width.
-    fn place(&mut self, node: NetNode, width: u32) -> Result<u32, OutOfMemory> {
-        if let Some(word) = constant_word(self.nodes.as_slice(), node) {
-            return self.add(NetNode::Constant(word));
+    fn place(&mut self, node: &NetNode, width: u32) -> Result<u32, OutOfMemory>
+        requires { self.old.keys.keys ≡ map key_of self.old.nodes }
+        ensures keyed { OnOk result (self.new.keys.keys ≡ map key_of self.new.nodes) }
+        ensures placed { IfOk result (λ n.
+            spec.Placed self.old.nodes width node.now self.new.nodes n) }
+    {
+        if let Some(word) = constant_word(self.nodes.as_slice(), *node) {
+            let constant = NetNode::Constant(word);
+            return self.add(&constant);
         }
-        match same_word(self.nodes.as_slice(), node, width) {
+        match same_word(self.nodes.as_slice(), *node, width) {
             Some(place) => Ok(place),
             None => self.add(node),
         }
@@ -49,7 +62,9 @@ impl Folding {
 }
 
 /// Words of the inputs.
-fn input_words(alloc: Global, inputs: &[u32]) -> Result<Vec<Word>, OutOfMemory> {
+fn input_words(alloc: Global, inputs: &[u32]) -> Result<Vec<Word>, OutOfMemory>
+    ensures { IfOk result (λ words. HaveWidths inputs.now words.items) }
+{
     let mut words = Vec::new(alloc);
     for width in inputs {
         if *width < 1 || 128 < *width {
@@ -61,7 +76,9 @@ fn input_words(alloc: Global, inputs: &[u32]) -> Result<Vec<Word>, OutOfMemory> 
 }
 
 /// Words of the registers.
-fn register_words(alloc: Global, registers: &[RegisterInfo]) -> Result<Vec<Word>, OutOfMemory> {
+fn register_words(alloc: Global, registers: &[RegisterInfo]) -> Result<Vec<Word>, OutOfMemory>
+    ensures { IfOk result (λ words. HaveWidths (register_widths registers.now) words.items) }
+{
     let mut words = Vec::new(alloc);
     for register in registers {
         words.push(register.start)?;
@@ -70,7 +87,9 @@ fn register_words(alloc: Global, registers: &[RegisterInfo]) -> Result<Vec<Word>
 }
 
 /// The words of all nodes in some clock, which tell their widths.
-fn some_words(alloc: Global, net: &Net) -> Result<Vec<Word>, OutOfMemory> {
+fn some_words(alloc: Global, net: &Net) -> Result<Vec<Word>, OutOfMemory>
+    ensures { IfOk result (λ vs. spec.AreSomeWords (net_data net.now) vs.items) }
+{
     let inputs = input_words(alloc, net.inputs.as_slice())?;
     let registers = register_words(alloc, net.registers.as_slice())?;
     let mut words = vec![in alloc; Word::bit(false); net.nodes.len()]?;
@@ -86,7 +105,9 @@ struct Folded {
 }
 
 /// Nodes in turn, where these are their words in some clock.
-fn fold_nodes(alloc: Global, nodes: &[NetNode], words: &[Word]) -> Result<Folded, OutOfMemory> {
+fn fold_nodes(alloc: Global, nodes: &[NetNode], words: &[Word]) -> Result<Folded, OutOfMemory>
+    ensures { IfOk result (λ made. spec.Folds words.now nodes.now made.nodes made.places) }
+{
     let mut folding = Folding {
         nodes: Items::new(alloc),
         keys: IndexSet::new(alloc),
@@ -94,7 +115,8 @@ fn fold_nodes(alloc: Global, nodes: &[NetNode], words: &[Word]) -> Result<Folded
     let mut places = Items::new(alloc);
     for node in nodes {
         let width = word_at(words, first_operand(*node)).width();
-        let place = folding.place(renamed(*node, places.as_slice()), width)?;
+        let node = renamed(*node, places.as_slice());
+        let place = folding.place(&node, width)?;
         places.push(place)?;
     }
     Ok(Folded {
@@ -104,7 +126,9 @@ fn fold_nodes(alloc: Global, nodes: &[NetNode], words: &[Word]) -> Result<Folded
 }
 
 /// The net without operators of constants and without equal nodes.
-pub fn fold(alloc: Global, net: &Net) -> Result<Net, OutOfMemory> {
+pub fn fold(alloc: Global, net: &Net) -> Result<Net, OutOfMemory>
+    ensures { IfOk result (λ made. spec.IsFoldOf (net_data net.now) (net_data made)) }
+{
     let words = some_words(alloc, net)?;
     let folded = fold_nodes(alloc, net.nodes.as_slice(), &words)?;
     with_nodes(alloc, net, folded.nodes, folded.places.as_slice())

@@ -3,7 +3,7 @@
 //!
 //! Modules in reading order: `key` (nodes as numbers), `operands` (the nodes that a node reads), `simplify` (nodes that are
 //! constants, or have the word of an earlier one), `outputs` (a net with other nodes), `fold` (a net without equal nodes),
-//! `order` (the nodes that are needed, and their order), `moves` (a net whose nodes are in another order) and `share` (the
+//! `order` (the nodes that are needed, and their order), `moves` (a net whose nodes are in another order) and `sharing` (the
 //! public call). What it promises is in `specs/Sharing.antt`.
 #![tactic(auto)]
 
@@ -13,9 +13,9 @@ mod moves;
 mod operands;
 mod order;
 mod outputs;
-mod share;
+mod sharing;
 mod simplify;
 #[cfg(test)]
 mod tests;
 
-pub use share::share;
+pub use sharing::share;
