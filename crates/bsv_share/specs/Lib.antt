@@ -4,3 +4,4 @@ pub mod Operands
 pub mod Simplifying
 pub mod Outputs
 pub mod Folding
+pub mod Moving

@@ -30,11 +30,11 @@ loop-node-preserved c =
     let place = c.in_ok-place.place in
     let there = slice_get_read xs _ i x refl c.loop-node-test.true c.node-item.is in
     let width : c.width-width.result ≡ (at vs (first_operand x)).width =
-        c.width-width.ensures.width ∙ ap (λ (w : Bits). w.width) (c.word_at.ensures ∙ ap (at vs) c.first_operand.ensures) in
+    c.width-width.ensures.width ∙ ap (λ (w : Bits). w.width) (c.word_at.ensures ∙ ap (at vs) c.first_operand.ensures) in
     let node : c.renamed-node.result ≡ renamed (node_at places) x = c.renamed-node.ensures ∙ ap (λ (ps : List ℕ). renamed (node_at ps) x) c.as_slice.ensures in
     let placed : Placed ys (at vs (first_operand x)).width (renamed (node_at places) x) zs place =
-        subst (λ (u : ℕ). Placed ys u (renamed (node_at places) x) zs place) width
-        (subst (λ (y : NetNode). Placed ys c.width-width.result y zs place) node c.in_ok-place.ensures.placed) in
+    subst (λ (u : ℕ). Placed ys u (renamed (node_at places) x) zs place) width
+    (subst (λ (y : NetNode). Placed ys c.width-width.result y zs place) node c.in_ok-place.ensures.placed) in
     record {
       keyed = c.in_ok-place.ensures.keyed;
       folds = more x place c.loop-node.invariant.folds (take_one xs i x there) c.in_ok-push.ensures.ok placed;

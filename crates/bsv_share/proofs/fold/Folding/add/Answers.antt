@@ -34,9 +34,10 @@ returns-in-Ok-clause-added c =
     let same : c.in-Ok.place ≡ i = c.in-Ok.ensures.1 in
     subst (λ p. spec.Added xs x c.if-is_new.self.nodes p) (sym same)
     (elim c.if-is_new.branch [
-      then-is_new+in_ok-push w ↦
-        subst (λ (f : Folding). spec.Added xs x f.nodes i) (sym w.self-is)
-        (added_new xs x keys more w.push.new.self i c.requires (absent there c.in_ok-place.is_new is w.if-is_new.true) inserted stored w.in_ok-push.ensures.ok)
-    | else-is_new w ↦
-        subst (λ (f : Folding). spec.Added xs x f.nodes i) (sym w.self-is)
-        (added_known xs x keys more i c.requires (known there c.in_ok-place.is_new is w.if-is_new.false) inserted stored) ])
+      | then-is_new+in_ok-push w ↦
+          subst (λ (f : Folding). spec.Added xs x f.nodes i) (sym w.self-is)
+          (added_new xs x keys more w.push.new.self i c.requires (absent there c.in_ok-place.is_new is w.if-is_new.true) inserted stored w.in_ok-push.ensures.ok)
+      | else-is_new w ↦
+          subst (λ (f : Folding). spec.Added xs x f.nodes i) (sym w.self-is)
+          (added_known xs x keys more i c.requires (known there c.in_ok-place.is_new is w.if-is_new.false) inserted stored)
+    ])
