@@ -1,6 +1,6 @@
 -- What a node is folded to has its word: where the nodes have these words, a node that reads constants alone has the constant's,
 -- and a node that is left out has the word of the one that is named in place of it.
-use Rattle.std.proofs.Common.{◌≡◌, ◌∙◌, ◌⊎◌, inl, inr, ℕ, ◌+◌, ◌-◌, ◌<◌, Bool, true, false, ◌&&◌, ◌||◌, List, [], ◌∷◌, Option, Some, None, option_map, refl, sym, ap, ap₂, subst, arith}
+use Rattle.std.proofs.Common.{◌≡◌, ◌∙◌, ◌⊎◌, inl, inr, ℕ, ◌+◌, ◌-◌, ◌<◌, Bool, true, false, ◌&&◌, ◌||◌, List, [], ◌∷◌, Option, Some, None, option_map, refl, sym, ap, ap₂, subst, arith, length}
 use Rattle.std.specs.Prelude.{◌==◌, nat_lt, slice_get, if◌then◌else◌}
 use Rattle.std.proofs.lemmas.Bool.{and_parts, eqb-true, ltb-true}
 use Rattle.std.proofs.lemmas.Option.{same_Some}
@@ -15,6 +15,7 @@ use Rattle.bsv_net.specs.declared.node.NetNode.{NetNode}
 use Rattle.bsv_net.specs.declared.node.NetNode.TheVariants as net
 use Rattle.bsv_net.specs.Equations.{Values, computed, operated}
 use Rattle.bsv_share.specs.Operands.{first_operand}
+use Rattle.bsv_share.specs.Sharing.{operands}
 use Rattle.bsv_share.specs.Simplifying.{and_place, constant_at, constant_in, constant_word, is_ones, is_true, is_zeros, or_place, passes, picked_place, same_word, three_constants, turned_place, two_constants, whole_place}
 use Rattle.bsv_share.proofs.NodesAt.{Sizes}
 use Rattle.bsv_share.proofs.WordRules.{AreOnes, and_ones_left, and_ones_right, and_zeros_left, and_zeros_right, are_ones, or_ones_left, or_ones_right, or_zeros_left, or_zeros_right, picked_bit, same_extended, same_sign_extended, turned_twice, whole_slice}
@@ -216,7 +217,7 @@ module _ (inputs registers : List Bits) (V : Values) (xs : List NetNode) (solved
       ap V (sym h.1) ∙ whole_slice (V a) high low (solved.words a) zero_low wide
 
   -- the node that is named has the word
-  pub same_word_is : (width : ℕ) (y : NetNode) (p : ℕ) → Sizes V y → (V (first_operand y)).width ≡ width → same_word xs width y ≡ Some p → V p ≡ operated inputs registers V y
+  pub same_word_is : (width : ℕ) (y : NetNode) (p : ℕ) → Sizes V y → (0 < length (operands y) → (V (first_operand y)).width ≡ width) → same_word xs width y ≡ Some p → V p ≡ operated inputs registers V y
   same_word_is width (net.Input k) p s f e = absurd (let n : ⊥ = cc in n)
   same_word_is width (net.Register k) p s f e = absurd (let n : ⊥ = cc in n)
   same_word_is width (net.Constant w) p s f e = absurd (let n : ⊥ = cc in n)
@@ -234,11 +235,11 @@ module _ (inputs registers : List Bits) (V : Values) (xs : List NetNode) (solved
   same_word_is width (net.Two Shr a b) p s f e = absurd (let n : ⊥ = cc in n)
   same_word_is width (net.Two Sar a b) p s f e = absurd (let n : ⊥ = cc in n)
   same_word_is width (net.Pick t a b) p s f e = pick_is t a b p s e
-  same_word_is width (net.Slice a high low) p s f e = whole_is a high low width p f e
+  same_word_is width (net.Slice a high low) p s f e = whole_is a high low width p (f (omega arith)) e
   same_word_is width (net.Join a b) p s f e = absurd (let n : ⊥ = cc in n)
   same_word_is width (net.Extend a wide) p s f e =
       let h = if_named (wide == width) a p e in
-      ap V (sym h.1) ∙ same_extended (V a) wide (eqb-true wide width h.0 ∙ sym f)
+      ap V (sym h.1) ∙ same_extended (V a) wide (eqb-true wide width h.0 ∙ sym (f (omega arith)))
   same_word_is width (net.SignExtend a wide) p s f e =
       let h = if_named (wide == width) a p e in
-      ap V (sym h.1) ∙ same_sign_extended (V a) wide (solved.words a) (eqb-true wide width h.0 ∙ sym f)
+      ap V (sym h.1) ∙ same_sign_extended (V a) wide (solved.words a) (eqb-true wide width h.0 ∙ sym (f (omega arith)))

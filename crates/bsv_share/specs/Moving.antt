@@ -16,7 +16,7 @@ module _ (from to : List ℕ) where
   abbrev pub comes_to : ℕ → ℕ → Bool
   comes_to n place = is_number (slice_get from place) n
 
-  abbrev before_as : ℕ → ℕ → Option ℕ → Bool
+  abbrev pub before_as : ℕ → ℕ → Option ℕ → Bool
   before_as n count None = false
   before_as n count (Some place) = nat_lt place count && comes_to n place
 

@@ -1,6 +1,48 @@
-use Rattle.bsv_share.proofs.Rules.{same_word_is}
-use Rattle.bsv_share.proofs.NodesAt.{node_of}
+use Rattle.std.proofs.Common.{◌≡◌, ℕ, List}
+use Rattle.bsv_net.specs.declared.net.Net.{Net}
+use Rattle.bsv_net.specs.AtHand.{net_data}
+use Rattle.bsv_share.specs.Moving.{IsMoveOf}
+use Rattle.bsv_share.specs.Sharing as spec
+use Rattle.bsv_share.proofs.Alike.{carries_same}
+use Rattle.bsv_share.proofs.Shared.{Shared, shared, where_ok}
 use Rattle.bsv_share.proofs.sharing.share.Goals as goal
 
 pub returns-clause-gives : goal.returns-clause-gives
-returns-clause-gives c = let x = same_word_is in let y = node_of in ?
+returns-clause-gives c =
+    let from : List ℕ = c.as_slice.result.now in
+    let m : Net = c.args.net.now in
+    let f : Net = c.in_ok-folded.folded in
+    where_ok c.moved.result (λ (n : Net). IsMoveOf from (net_data f) (net_data n)) (λ (n : Net). spec.GivesSame (net_data m) (net_data n))
+    (λ (n : Net) h. (shared m f n from c.in_ok-folded.ensures h).alike.gives_same) c.moved.ensures
+
+pub returns-clause-results : goal.returns-clause-results
+returns-clause-results c =
+    let from : List ℕ = c.as_slice.result.now in
+    let m : Net = c.args.net.now in
+    let f : Net = c.in_ok-folded.folded in
+    where_ok c.moved.result (λ (n : Net). IsMoveOf from (net_data f) (net_data n)) (λ (n : Net). spec.NamesSame (net_data m) (net_data n))
+    (λ (n : Net) h. (shared m f n from c.in_ok-folded.ensures h).alike.names_same) c.moved.ensures
+
+pub returns-clause-carries : goal.returns-clause-carries
+returns-clause-carries c =
+    let from : List ℕ = c.as_slice.result.now in
+    let m : Net = c.args.net.now in
+    let f : Net = c.in_ok-folded.folded in
+    where_ok c.moved.result (λ (n : Net). IsMoveOf from (net_data f) (net_data n)) (λ (n : Net). spec.CarriesSame m n)
+    (λ (n : Net) h. carries_same m n (shared m f n from c.in_ok-folded.ensures h).alike) c.moved.ensures
+
+pub returns-clause-folded : goal.returns-clause-folded
+returns-clause-folded c =
+    let from : List ℕ = c.as_slice.result.now in
+    let m : Net = c.args.net.now in
+    let f : Net = c.in_ok-folded.folded in
+    where_ok c.moved.result (λ (n : Net). IsMoveOf from (net_data f) (net_data n)) (λ (n : Net). spec.IsFolded n.nodes)
+    (λ (n : Net) h. (shared m f n from c.in_ok-folded.ensures h).folded) c.moved.ensures
+
+pub returns-clause-distinct : goal.returns-clause-distinct
+returns-clause-distinct c =
+    let from : List ℕ = c.as_slice.result.now in
+    let m : Net = c.args.net.now in
+    let f : Net = c.in_ok-folded.folded in
+    where_ok c.moved.result (λ (n : Net). IsMoveOf from (net_data f) (net_data n)) (λ (n : Net). spec.IsDistinct n.nodes)
+    (λ (n : Net) h. (shared m f n from c.in_ok-folded.ensures h).distinct) c.moved.ensures
