@@ -13,3 +13,5 @@ pub mod Placing
 pub mod FoldedNet
 pub mod MovedNet
 pub mod Shared
+pub mod Marks
+pub mod Needed

@@ -5,3 +5,4 @@ pub mod Simplifying
 pub mod Outputs
 pub mod Folding
 pub mod Moving
+pub mod Ordering

@@ -1,3 +1,9 @@
+ghost use Rattle.std.specs.Prelude.{◌≡◌, true, All, IfOk, map};
+ghost use Rattle.bsv_graph.specs.Orders.{In};
+ghost use Rattle.bsv_net.specs.AtHand.{net_data};
+ghost use Rattle.bsv_share.specs.Sharing.{operands};
+ghost use Rattle.bsv_share.specs.Ordering as spec;
+
 use crate::key::key_of;
 use bsv_bits::OutOfMemory;
 use bsv_net::{Net, NetNode, node_at};
@@ -5,7 +11,9 @@ use sqlite_items::{Items, at};
 use std::alloc::Global;
 
 /// Marks the node of this place.
-fn mark(marks: &mut Items<bool>, place: u32) {
+fn mark(marks: &mut Items<bool>, place: u32)
+    ensures { spec.MarksOnly (λ k. k ≡ place) marks.old marks.new }
+{
     let place = place as usize;
     if place < marks.len() {
         marks.set(place, true);
@@ -13,34 +21,33 @@ fn mark(marks: &mut Items<bool>, place: u32) {
 }
 
 /// Marks the nodes of these places.
-fn mark_all(marks: &mut Items<bool>, places: &[u32]) {
+fn mark_all(marks: &mut Items<bool>, places: &[u32])
+    ensures { spec.MarksOnly (In places.now) marks.old marks.new }
+{
     for place in places {
         mark(marks, *place);
     }
 }
 
 /// Marks the nodes that a node reads.
-fn mark_operands(marks: &mut Items<bool>, node: NetNode) {
+fn mark_operands(marks: &mut Items<bool>, node: NetNode)
+    ensures { spec.MarksOnly (In (operands node)) marks.old marks.new }
+{
     match node {
         NetNode::Input(_) | NetNode::Register(_) | NetNode::Constant(_) => {}
-        NetNode::Not(a)
-        | NetNode::Slice(a, _, _)
-        | NetNode::Extend(a, _)
-        | NetNode::SignExtend(a, _) => mark(marks, a),
-        NetNode::Two(_, a, b) | NetNode::Join(a, b) => {
-            mark(marks, a);
-            mark(marks, b);
-        }
-        NetNode::Pick(test, a, b) => {
-            mark(marks, test);
-            mark(marks, a);
-            mark(marks, b);
-        }
+        NetNode::Not(a) => mark_all(marks, &[a]),
+        NetNode::Two(_, a, b) => mark_all(marks, &[a, b]),
+        NetNode::Pick(test, a, b) => mark_all(marks, &[test, a, b]),
+        NetNode::Slice(a, _, _) => mark_all(marks, &[a]),
+        NetNode::Join(a, b) => mark_all(marks, &[a, b]),
+        NetNode::Extend(a, _) | NetNode::SignExtend(a, _) => mark_all(marks, &[a]),
     }
 }
 
 /// Whether the node of this place is marked.
-fn is_marked(marks: &[bool], place: usize) -> bool {
+fn is_marked(marks: &[bool], place: usize) -> bool
+    ensures { result ≡ spec.is_marked marks.now place }
+{
     match at(marks, place) {
         Some(mark) => *mark,
         None => false,
@@ -48,7 +55,9 @@ fn is_marked(marks: &[bool], place: usize) -> bool {
 }
 
 /// So many nodes of which none is marked.
-fn unmarked(alloc: Global, count: usize) -> Result<Items<bool>, OutOfMemory> {
+fn unmarked(alloc: Global, count: usize) -> Result<Items<bool>, OutOfMemory>
+    ensures { IfOk result (λ marks. spec.NoneMarked marks) }
+{
     let mut marks = Items::new(alloc);
     for _ in 0..count {
         marks.push(false)?;
@@ -56,14 +65,24 @@ fn unmarked(alloc: Global, count: usize) -> Result<Items<bool>, OutOfMemory> {
     Ok(marks)
 }
 
-/// Which nodes are needed: what the net gives, and what these read.
-fn needed(alloc: Global, net: &Net) -> Result<Items<bool>, OutOfMemory> {
-    let nodes = net.nodes.as_slice();
-    let mut marks = unmarked(alloc, nodes.len())?;
+/// Which nodes are what the net gives.
+fn outputs(alloc: Global, net: &Net) -> Result<Items<bool>, OutOfMemory>
+    ensures { IfOk result (λ marks. spec.AllReached (net_data net.now) marks) }
+{
+    let mut marks = unmarked(alloc, net.nodes.len())?;
     mark_all(&mut marks, net.nexts.as_slice());
     mark_all(&mut marks, net.fires.as_slice());
     mark_all(&mut marks, net.readies.as_slice());
     mark_all(&mut marks, net.results.as_slice());
+    Ok(marks)
+}
+
+/// Which nodes are needed: what the net gives, and what these read.
+fn needed(alloc: Global, net: &Net) -> Result<Items<bool>, OutOfMemory>
+    ensures { IfOk result (λ marks. spec.AllReached (net_data net.now) marks) }
+{
+    let nodes = net.nodes.as_slice();
+    let mut marks = outputs(alloc, net)?;
     for place in (0..nodes.len()).rev() {
         if is_marked(marks.as_slice(), place) {
             mark_operands(&mut marks, nodes[place]);
@@ -99,7 +118,10 @@ struct Rank {
 }
 
 /// The nodes that are needed, each with where it stands.
-fn ranks(alloc: Global, nodes: &[NetNode], marks: &[bool]) -> Result<Vec<Rank>, OutOfMemory> {
+fn ranks(alloc: Global, nodes: &[NetNode], marks: &[bool]) -> Result<Vec<Rank>, OutOfMemory>
+    ensures { IfOk result (λ found.
+        All (λ rank. spec.is_marked marks.now rank.place ≡ true) found.items) }
+{
     let mut found = Vec::new(alloc);
     let mut levels = Items::new(alloc);
     let mut place = 0u32;
@@ -119,7 +141,9 @@ fn ranks(alloc: Global, nodes: &[NetNode], marks: &[bool]) -> Result<Vec<Rank>, 
 }
 
 /// The places of nodes that stand so.
-fn places(alloc: Global, ranks: &[Rank]) -> Result<Items<u32>, OutOfMemory> {
+fn places(alloc: Global, ranks: &[Rank]) -> Result<Items<u32>, OutOfMemory>
+    ensures { IfOk result (λ found. found ≡ map (λ rank. rank.place) ranks.now) }
+{
     let mut found = Items::new(alloc);
     for rank in ranks {
         found.push(rank.place)?;
@@ -128,7 +152,9 @@ fn places(alloc: Global, ranks: &[Rank]) -> Result<Items<u32>, OutOfMemory> {
 }
 
 /// The places of the nodes that are needed, by level and in a level by form.
-pub fn order(alloc: Global, net: &Net) -> Result<Items<u32>, OutOfMemory> {
+pub fn order(alloc: Global, net: &Net) -> Result<Items<u32>, OutOfMemory>
+    ensures { IfOk result (λ found. spec.PlacesReached (net_data net.now) found) }
+{
     let marks = needed(alloc, net)?;
     let mut found = ranks(alloc, net.nodes.as_slice(), marks.as_slice())?;
     found.sort()?;

@@ -1,9 +1,11 @@
-use Rattle.std.proofs.Common.{◌≡◌, ℕ, List}
+use Rattle.std.proofs.Common.{◌≡◌, ℕ, List, subst, sym}
 use Rattle.bsv_net.specs.declared.net.Net.{Net}
 use Rattle.bsv_net.specs.AtHand.{net_data}
 use Rattle.bsv_share.specs.Moving.{IsMoveOf}
+use Rattle.bsv_share.specs.Ordering.{PlacesReached}
 use Rattle.bsv_share.specs.Sharing as spec
 use Rattle.bsv_share.proofs.Alike.{carries_same}
+use Rattle.bsv_share.proofs.Needed.{needed_net}
 use Rattle.bsv_share.proofs.Shared.{Shared, shared, where_ok}
 use Rattle.bsv_share.proofs.sharing.share.Goals as goal
 
@@ -46,3 +48,11 @@ returns-clause-distinct c =
     let f : Net = c.in_ok-folded.folded in
     where_ok c.moved.result (λ (n : Net). IsMoveOf from (net_data f) (net_data n)) (λ (n : Net). spec.IsDistinct n.nodes)
     (λ (n : Net) h. (shared m f n from c.in_ok-folded.ensures h).distinct) c.moved.ensures
+
+pub returns-clause-needed : goal.returns-clause-needed
+returns-clause-needed c =
+    let from : List ℕ = c.as_slice.result.now in
+    let f : Net = c.in_ok-folded.folded in
+    let reached : PlacesReached (net_data f) from = subst (PlacesReached (net_data f)) (sym c.as_slice.ensures) c.in_ok-places.ensures in
+    where_ok c.moved.result (λ (n : Net). IsMoveOf from (net_data f) (net_data n)) (λ (n : Net). spec.IsNeeded (net_data n))
+    (λ (n : Net) h. needed_net from (net_data f) (net_data n) h reached) c.moved.ensures
