@@ -1,16 +1,12 @@
 -- A net that gives the same as another one carries the schemes that the other one does.
-use Rattle.std.proofs.Common.{◌≡◌, ◌∙◌, ◌<◌, ◌≤◌, ℕ, Bool, false, List, [], Option, Some, None, map, length, refl, sym, ap, subst, arith}
+use Rattle.std.proofs.Common.{◌≡◌, ◌∙◌, ◌<◌, ◌≤◌, ℕ, Bool, List, Option, Some, None, map, length, refl, sym, ap, subst, arith}
 use Rattle.std.specs.Prelude.{slice_get}
 use Rattle.bsv_bits.specs.Words.{Bits}
-use Rattle.bsv_prim.specs.declared.part.Part.{Part}
 use Rattle.bsv_prim.specs.declared.primitive.RegisterInfo.{RegisterInfo}
 use Rattle.bsv_design.specs.declared.schedule.Schedule.{Schedule}
-use Rattle.bsv_design.specs.design.Roles.{gives_value}
-use Rattle.bsv_design.specs.scheme.Schemes.{Scheme, Asking, Outline, given}
+use Rattle.bsv_design.specs.scheme.Schemes.{Scheme, Asking, given}
 use Rattle.bsv_guard.specs.Fitting.{HaveWidths}
-use Rattle.bsv_clock.specs.Shows.{Carries, Cell, Given, Shows, TellsClock, cell, cell_widths, input_widths, inputs_of}
-use Rattle.bsv_clock.specs.Clocks.{IsClock}
-use Rattle.bsv_clock.specs.Grounds.{Fit}
+use Rattle.bsv_clock.specs.Shows.{Carries, Cell, TellsClock, cell, cell_widths, inputs_of}
 use Rattle.bsv_net.specs.declared.net.Net.{Net}
 use Rattle.bsv_net.specs.declared.net_data.NetData.{NetData}
 use Rattle.bsv_net.specs.AtHand.{net_data}

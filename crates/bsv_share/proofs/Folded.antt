@@ -1,13 +1,12 @@
 -- Nodes that are folded: each reads nodes that are there, no operator has constants alone, and no two are equal.
-use Rattle.std.proofs.Common.{◌≡◌, ◌∙◌, ◌⊎◌, inl, inr, ℕ, ◌+◌, ◌-◌, ◌<◌, ◌≤◌, Bool, true, false, ◌&&◌, ◌||◌, List, [], ◌∷◌, ◌++◌, length, length-append, map, Option, Some, None, option_map, refl, sym, ap, ap₂, subst, arith}
-use Rattle.std.specs.Prelude.{◌==◌, nat_lt, slice_get, if◌then◌else◌, MatchOption}
+use Rattle.std.proofs.Common.{◌≡◌, ◌∙◌, ◌⊎◌, inl, inr, ℕ, ◌<◌, ◌≤◌, Bool, true, false, ◌&&◌, List, [], ◌∷◌, ◌++◌, length, length-append, map, Option, Some, None, option_map, refl, sym, ap, ap₂, subst, arith}
+use Rattle.std.specs.Prelude.{◌==◌, slice_get, if◌then◌else◌, MatchOption}
 use Rattle.std.specs.List.{AllByRecursion, list_all}
 use Rattle.std.proofs.lemmas.Bool.{and_parts, cases_lt}
-use Rattle.std.proofs.lemmas.Option.{same_Some, slice_get_past, slice_get_within}
+use Rattle.std.proofs.lemmas.Option.{same_Some, slice_get_within}
 use Rattle.bsv_lemmas.proofs.Choices.{was_there}
 use Rattle.bsv_lemmas.proofs.Places.{at_end, at_left, item_there}
 use Rattle.bsv_bits.specs.Words.{Bits, word_not}
-use Rattle.bsv_bits.specs.declared.operator.Operator.{Operator}
 use Rattle.bsv_bits.specs.declared.operator.Operator.TheVariants.{Add, Sub, Mul, And, Or, Xor, Same, Less, LessSigned, Shl, Shr, Sar}
 use Rattle.bsv_design.specs.design.Bodies.{at}
 use Rattle.bsv_design.specs.design.Computing as computing
@@ -17,7 +16,7 @@ use Rattle.bsv_net.specs.Placing.{node_at, or_first}
 use Rattle.bsv_share.specs.Folding.{Added, Folds, IsNew, Placed, none, more}
 use Rattle.bsv_share.specs.Operands.{first_operand, renamed}
 use Rattle.bsv_share.specs.Sharing.{IsDistinct, IsFolded, is_constant, operands}
-use Rattle.bsv_share.specs.Simplifying.{constant_in, constant_word, picked_place, same_word, three_constants, turned_place, two_constants, whole_place}
+use Rattle.bsv_share.specs.Simplifying.{constant_in, constant_word, picked_place, same_word, three_constants, turned_place, two_constants}
 use Rattle.bsv_share.proofs.Renaming.{operands_renamed}
 
 -- ---- constants

@@ -1,5 +1,5 @@
 -- The net of folded nodes gives the same, has no operator of constants alone, and no two equal nodes.
-use Rattle.std.proofs.Common.{◌≡◌, ◌∙◌, ◌⊎◌, inl, inr, ◌<◌, ◌≤◌, ℕ, List, [], ◌∷◌, Some, None, Option, length, refl, sym, ap, subst, arith}
+use Rattle.std.proofs.Common.{◌≡◌, ◌∙◌, ◌⊎◌, inl, inr, ◌<◌, ◌≤◌, ℕ, List, [], ◌∷◌, Some, length, sym, ap, subst, arith}
 use Rattle.std.specs.Prelude.{slice_get}
 use Rattle.std.specs.List.{AllByRecursion}
 use Rattle.std.proofs.lemmas.Bool.{cases_lt}
@@ -20,7 +20,6 @@ use Rattle.bsv_share.proofs.Folded.{Kept, ReadsEarlier, kept}
 use Rattle.bsv_share.proofs.Following.{Old, follows}
 use Rattle.bsv_share.proofs.NodesAt.{node_of, reads_below, sizes_of}
 use Rattle.bsv_share.proofs.Placing.{Stays, alike_with, past_nodes, same_widths, solved}
-use Rattle.bsv_share.proofs.Rules.{Solved}
 
 pub reads_earlier : (c : NetData) → IsNet c → ReadsEarlier c.nodes
 reads_earlier c right k x there = reads_below (length c.inputs) k x (node_of c right k x there).below

@@ -1,8 +1,8 @@
 -- Nodes that are folded have the words of the nodes that they stand for.
-use Rattle.std.proofs.Common.{◌≡◌, ◌∙◌, ◌⊎◌, inl, inr, ℕ, ◌+◌, ◌<◌, ◌≤◌, List, [], ◌∷◌, ◌++◌, length, Option, Some, None, refl, sym, ap, subst, arith}
+use Rattle.std.proofs.Common.{◌≡◌, ◌∙◌, ◌⊎◌, inl, inr, ℕ, ◌<◌, List, [], ◌∷◌, ◌++◌, length, Option, Some, None, refl, sym, ap, subst, arith}
 use Rattle.std.specs.Prelude.{slice_get, MatchOption}
 use Rattle.std.specs.List.{AllByRecursion}
-use Rattle.std.proofs.lemmas.Option.{same_Some, slice_get_within}
+use Rattle.std.proofs.lemmas.Option.{slice_get_within}
 use Rattle.bsv_lemmas.proofs.Places.{at_end, at_left}
 use Rattle.bsv_bits.specs.Words.{Bits}
 use Rattle.bsv_design.specs.design.Bodies.{at}
@@ -10,7 +10,7 @@ use Rattle.bsv_net.specs.declared.node.NetNode.{NetNode}
 use Rattle.bsv_net.specs.declared.node.NetNode.TheVariants as net
 use Rattle.bsv_net.specs.Equations.{Values, computed, operated}
 use Rattle.bsv_net.specs.Placing.{node_at}
-use Rattle.bsv_share.specs.Folding.{Added, Folds, IsNew, Placed, none, more}
+use Rattle.bsv_share.specs.Folding.{Added, Folds, Placed, none, more}
 use Rattle.bsv_share.specs.Operands.{first_operand, renamed}
 use Rattle.bsv_share.specs.Sharing.{operands}
 use Rattle.bsv_share.specs.Simplifying.{constant_word, same_word}

@@ -6,7 +6,7 @@ use Rattle.bsv_bits.specs.declared.operator.Operator.TheVariants.{Add, Sub, Mul,
 use Rattle.bsv_net.specs.declared.node.NetNode.{NetNode}
 use Rattle.bsv_net.specs.declared.node.NetNode.TheVariants as net
 use Rattle.bsv_share.specs.declared.key.Key.{Key}
-use Rattle.bsv_share.specs.Keys.{key_of, operator_form}
+use Rattle.bsv_share.specs.Keys.{key_of}
 
 abbrev operator_of : ℕ → Operator
 operator_of n =

@@ -1,5 +1,5 @@
 -- Nodes that are marked are reached.
-use Rattle.std.proofs.Common.{◌≡◌, ◌∙◌, ◌⊎◌, inl, inr, ◌<◌, ◌+◌, ℕ, Bool, true, false, List, [], ◌∷◌, ◌++◌, take, map, length, Some, All, refl, sym, ap, subst}
+use Rattle.std.proofs.Common.{◌≡◌, ◌∙◌, ◌⊎◌, inl, inr, ◌+◌, ℕ, Bool, true, List, [], ◌∷◌, ◌++◌, take, map, Some, All, sym, ap, subst}
 use Rattle.std.specs.Prelude.{slice_get}
 use Rattle.std.specs.List.Sorted.{IsPermutation}
 use Rattle.std.proofs.lemmas.List.Sorted.{All-permutation}
@@ -11,7 +11,7 @@ use Rattle.bsv_graph.specs.Orders.{In}
 use Rattle.bsv_net.specs.declared.net_data.NetData.{NetData}
 use Rattle.bsv_net.specs.declared.node.NetNode.{NetNode}
 use Rattle.bsv_share.specs.Ordering.{AllReached, MarksOnly, NoneMarked, PlacesReached, is_marked}
-use Rattle.bsv_share.specs.Sharing.{IsOutput, IsReached, next, fire, ready, result, output, operand, operands}
+use Rattle.bsv_share.specs.Sharing.{IsReached, next, fire, ready, result, output, operand, operands}
 
 in_left : (xs ys : List ℕ) (k : ℕ) → In xs k → In (xs ++ ys) k
 in_left [] ys k h = absurd h

@@ -1,18 +1,17 @@
 -- The net of nodes in another order gives the same; operators that do not read constants alone stay so, and no nodes become equal.
-use Rattle.std.proofs.Common.{◌≡◌, ◌∙◌, ◌⊎◌, inl, inr, ◌<◌, ◌≤◌, ◌+◌, ℕ, zero, suc, Bool, true, false, not, ◌&&◌, ◌||◌, List, [], ◌∷◌, Some, None, Option, map, length, refl, sym, ap, ap₂, subst, arith}
-use Rattle.std.specs.Prelude.{slice_get, nat_lt, ◌==◌}
+use Rattle.std.proofs.Common.{◌≡◌, ◌∙◌, ◌<◌, ◌≤◌, ◌+◌, ℕ, zero, suc, Bool, true, false, not, ◌&&◌, ◌||◌, List, [], ◌∷◌, Some, None, Option, map, length, refl, sym, ap, ap₂, subst, arith}
+use Rattle.std.specs.Prelude.{slice_get, nat_lt}
 use Rattle.std.specs.List.{AllByRecursion, list_all}
 use Rattle.std.proofs.lemmas.Bool.{and_parts, eqb-true, ltb-true, ltb-false}
 use Rattle.std.proofs.lemmas.Option.{same_Some, slice_get_past, slice_get_within}
 use Rattle.bsv_lemmas.proofs.Places.{item_there}
 use Rattle.bsv_bits.specs.Words.{Bits}
 use Rattle.bsv_design.specs.design.Bodies.{at}
-use Rattle.bsv_guard.specs.Fitting.{HaveWidths}
 use Rattle.bsv_net.specs.declared.net_data.NetData.{NetData}
 use Rattle.bsv_net.specs.declared.node.NetNode.{NetNode}
 use Rattle.bsv_net.specs.declared.node.NetNode.TheVariants as net
 use Rattle.bsv_net.specs.Equations.{Values}
-use Rattle.bsv_net.specs.Nets.{IsNet, register_widths, words}
+use Rattle.bsv_net.specs.Nets.{IsNet, words}
 use Rattle.bsv_net.specs.Placing.{node_at, or_first}
 use Rattle.bsv_share.specs.Moving.{AreMoved, Comes, IsMoveOf, before_as, goes_before, is_number, keeps, reads_before}
 use Rattle.bsv_share.specs.Operands.{renamed}

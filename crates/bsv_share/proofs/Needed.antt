@@ -1,20 +1,20 @@
 -- Where all nodes that are moved are reached, each node of the net in the new order is.
-use Rattle.std.proofs.Common.{◌≡◌, ◌∙◌, ◌⊎◌, inl, inr, ◌<◌, ◌≤◌, ℕ, Bool, true, false, not, ◌||◌, List, [], ◌∷◌, Some, None, Option, map, length, refl, sym, ap, subst, arith}
+use Rattle.std.proofs.Common.{◌≡◌, ◌∙◌, inl, inr, ◌<◌, ℕ, Bool, true, not, ◌||◌, List, [], ◌∷◌, Some, map, length, sym, ap, subst, arith}
 use Rattle.std.specs.Prelude.{slice_get, nat_lt}
 use Rattle.std.specs.List.{AllByRecursion, list_all}
-use Rattle.std.proofs.lemmas.Bool.{and_parts, cases_lt, lt-ltb}
+use Rattle.std.proofs.lemmas.Bool.{and_parts, lt-ltb}
 use Rattle.std.proofs.lemmas.Option.{same_Some, slice_get_within}
 use Rattle.bsv_lemmas.proofs.Places.{item_there}
 use Rattle.bsv_graph.specs.Orders.{In}
 use Rattle.bsv_net.specs.declared.net_data.NetData.{NetData}
 use Rattle.bsv_net.specs.declared.node.NetNode.{NetNode}
 use Rattle.bsv_net.specs.Placing.{node_at}
-use Rattle.bsv_share.specs.Moving.{AreMoved, Comes, IsMoveOf, goes_before, keeps}
+use Rattle.bsv_share.specs.Moving.{AreMoved, IsMoveOf, goes_before, keeps}
 use Rattle.bsv_share.specs.Operands.{renamed}
 use Rattle.bsv_share.specs.Ordering.{PlacesReached}
 use Rattle.bsv_share.specs.Outputs.{or_none, place_or, with_nodes}
 use Rattle.bsv_share.specs.Sharing.{IsNeeded, IsOutput, IsReached, next, fire, ready, result, output, operand, operands}
-use Rattle.bsv_share.proofs.MovedNet.{At, Goes, at_place, each_goes, goes_there}
+use Rattle.bsv_share.proofs.MovedNet.{Goes, at_place, each_goes, goes_there}
 use Rattle.bsv_share.proofs.Renaming.{operands_renamed}
 
 in_mapped : (f : ℕ → ℕ) (ns : List ℕ) (k : ℕ) → In ns k → In (map f ns) (f k)

@@ -1,11 +1,10 @@
 -- A net with other nodes gives the same where each output is at a place of the same word.
-use Rattle.std.proofs.Common.{◌≡◌, ◌∙◌, ◌<◌, ◌≤◌, ◌+◌, ℕ, zero, suc, List, [], ◌∷◌, ◌++◌, Some, None, Option, map, length, refl, sym, ap, ap₂, subst, arith}
-use Rattle.std.specs.Prelude.{slice_get}
+use Rattle.std.proofs.Common.{◌≡◌, ◌∙◌, ◌<◌, ◌≤◌, ◌+◌, ℕ, zero, suc, List, [], ◌∷◌, ◌++◌, None, map, length, refl, sym, ap, ap₂, subst, arith}
 use Rattle.std.specs.List.{AllByRecursion}
 use Rattle.std.proofs.lemmas.List.{length-map}
 use Rattle.std.proofs.lemmas.Option.{slice_get_past}
 use Rattle.bsv_lemmas.proofs.Places.{all_at, mapped_at}
-use Rattle.bsv_bits.specs.Words.{Bits, IsWord, bit}
+use Rattle.bsv_bits.specs.Words.{Bits, IsWord}
 use Rattle.bsv_design.specs.design.Bodies.{at, of_parts}
 use Rattle.bsv_design.specs.design.Words.{or_zero}
 use Rattle.bsv_design.specs.scheme.Relations.{no_answers}
@@ -14,7 +13,6 @@ use Rattle.bsv_guard.specs.Fitting.{HaveWidths}
 use Rattle.bsv_net.specs.declared.net_data.NetData.{NetData}
 use Rattle.bsv_net.specs.declared.node.NetNode.{NetNode}
 use Rattle.bsv_net.specs.Nets.{IsNet, as_node, as_nodes, register_widths, words}
-use Rattle.bsv_net.specs.ShowsByNet.{gives}
 use Rattle.bsv_net.proofs.Solution.{satisfies, words_have}
 use Rattle.bsv_share.specs.Outputs.{place_or, with_nodes}
 use Rattle.bsv_share.specs.Sharing.{GivesSame, StaysNamed}

@@ -1,8 +1,8 @@
 -- A node that reads other nodes of the same words has the same word, and reads the nodes that stand for those that it read.
-use Rattle.std.proofs.Common.{◌≡◌, ◌∙◌, ℕ, Bool, false, List, [], ◌∷◌, map, refl, sym, ap, ap₂}
+use Rattle.std.proofs.Common.{◌≡◌, ◌∙◌, ℕ, List, map, refl, sym, ap, ap₂}
 use Rattle.std.specs.Prelude.{if◌then◌else◌}
 use Rattle.std.specs.List.{AllByRecursion}
-use Rattle.bsv_bits.specs.Operators.{is_shift, operate}
+use Rattle.bsv_bits.specs.Operators.{operate}
 use Rattle.bsv_bits.specs.Signed.{word_sign_extend}
 use Rattle.bsv_bits.specs.Words.{Bits, word_not, word_slice, word_concat, word_extend}
 use Rattle.bsv_prim.specs.Signals.{is_one}

@@ -1,13 +1,11 @@
 -- What a node is folded to has its word: where the nodes have these words, a node that reads constants alone has the constant's,
 -- and a node that is left out has the word of the one that is named in place of it.
-use Rattle.std.proofs.Common.{◌≡◌, ◌∙◌, ◌⊎◌, inl, inr, ℕ, ◌+◌, ◌-◌, ◌<◌, Bool, true, false, ◌&&◌, ◌||◌, List, [], ◌∷◌, Option, Some, None, option_map, refl, sym, ap, ap₂, subst, arith, length}
+use Rattle.std.proofs.Common.{◌≡◌, ◌∙◌, ◌⊎◌, inl, inr, ℕ, ◌+◌, ◌-◌, ◌<◌, Bool, true, false, ◌&&◌, ◌||◌, List, Option, Some, None, option_map, refl, sym, ap, ap₂, subst, arith, length}
 use Rattle.std.specs.Prelude.{◌==◌, nat_lt, slice_get, if◌then◌else◌}
 use Rattle.std.proofs.lemmas.Bool.{and_parts, eqb-true, ltb-true}
 use Rattle.std.proofs.lemmas.Option.{same_Some}
 use Rattle.bsv_lemmas.proofs.Choices.{was_there}
-use Rattle.bsv_bits.specs.Operators.{is_shift, operate}
 use Rattle.bsv_bits.specs.Words.{Bits, IsWord, word_and, word_or, word_not}
-use Rattle.bsv_bits.specs.declared.operator.Operator.{Operator}
 use Rattle.bsv_bits.specs.declared.operator.Operator.TheVariants.{Add, Sub, Mul, And, Or, Xor, Same, Less, LessSigned, Shl, Shr, Sar}
 use Rattle.bsv_prim.specs.Signals.{is_one}
 use Rattle.bsv_design.specs.design.Computing as computing

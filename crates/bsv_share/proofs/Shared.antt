@@ -1,12 +1,11 @@
 -- What is promised of a net that is folded and then put in order.
-use Rattle.std.proofs.Common.{◌≡◌, ◌∙◌, ◌<◌, ℕ, Bool, List, Option, Some, None, Result, Ok, Err, refl, sym, ap}
-use Rattle.std.specs.Prelude.{slice_get, IfOk}
+use Rattle.std.proofs.Common.{ℕ, List, Option, Some, None, Result, Ok, Err, ap}
+use Rattle.std.specs.Prelude.{IfOk}
 use Rattle.std.proofs.Math.Bool.{Bool-set}
 use Rattle.std.proofs.Math.Nat.{ℕ_set}
 use Rattle.std.proofs.Math.Bridge.{le_prop}
 use Rattle.std.proofs.Math.Logic.{∥∥₁_elim}
 use mathlib.Core.List.{is_set as list_set}
-use Rattle.bsv_bits.specs.Words.{Bits}
 use Rattle.bsv_clock.specs.Shows.{Given}
 use Rattle.bsv_clock.proofs.Propositions.{bits_set}
 use Rattle.bsv_net.specs.declared.net.Net.{Net}

@@ -1,5 +1,5 @@
 -- Nodes that are folded one after the other: each is a constant, or has the word of an earlier one, or is there once.
-use Rattle.std.specs.Prelude.{◌≡◌, ◌⊎◌, ℕ, List, [], ◌∷◌, ◌++◌, slice_get, Option, Some, None, MatchOption}
+use Rattle.std.specs.Prelude.{◌≡◌, ◌⊎◌, ℕ, List, [], ◌∷◌, ◌++◌, slice_get, Some, MatchOption}
 use Rattle.bsv_bits.specs.Words.{Bits}
 use Rattle.bsv_design.specs.design.Bodies.{at}
 use Rattle.bsv_guard.specs.Fitting.{HaveWidths}

@@ -1,8 +1,7 @@
 -- Nodes that are constants, or have the word of an earlier one.
-use Rattle.std.specs.Prelude.{ℕ, ◌-◌, ◌==◌, nat_lt, Bool, false, ◌&&◌, ◌||◌, List, slice_get, Option, Some, None, option_map, option_and_then, if◌then◌else◌}
+use Rattle.std.specs.Prelude.{ℕ, ◌-◌, ◌==◌, nat_lt, Bool, false, ◌&&◌, ◌||◌, List, slice_get, Option, Some, None, option_map, if◌then◌else◌}
 use Rattle.bsv_bits.specs.Words.{Bits, word_not}
-use Rattle.bsv_bits.specs.declared.operator.Operator.{Operator}
-use Rattle.bsv_bits.specs.declared.operator.Operator.TheVariants.{Add, Sub, Mul, And, Or, Xor, Same, Less, LessSigned, Shl, Shr, Sar}
+use Rattle.bsv_bits.specs.declared.operator.Operator.TheVariants.{And, Or}
 use Rattle.bsv_design.specs.design.Computing as computing
 use Rattle.bsv_net.specs.declared.node.NetNode.{NetNode}
 pub use Rattle.bsv_net.specs.declared.node.NetNode.TheVariants as net

@@ -1,5 +1,4 @@
-use Rattle.std.proofs.Common.{◌≡◌, ◌∙◌, ℕ, Bool, List, Result, Ok, Err, All, map, true, sym, ap, subst}
-use Rattle.std.specs.Prelude.{IfOk}
+use Rattle.std.proofs.Common.{◌≡◌, ◌∙◌, ℕ, Bool, List, All, map, true, ap, subst}
 use Rattle.bsv_net.specs.AtHand.{net_data}
 use Rattle.bsv_share.specs.declared.order.Rank.{Rank}
 use Rattle.bsv_share.specs.Ordering.{PlacesReached, is_marked}

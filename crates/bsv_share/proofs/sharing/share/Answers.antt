@@ -1,4 +1,4 @@
-use Rattle.std.proofs.Common.{◌≡◌, ℕ, List, subst, sym}
+use Rattle.std.proofs.Common.{ℕ, List, subst, sym}
 use Rattle.bsv_net.specs.declared.net.Net.{Net}
 use Rattle.bsv_net.specs.AtHand.{net_data}
 use Rattle.bsv_share.specs.Moving.{IsMoveOf}
@@ -6,7 +6,7 @@ use Rattle.bsv_share.specs.Ordering.{PlacesReached}
 use Rattle.bsv_share.specs.Sharing as spec
 use Rattle.bsv_share.proofs.Alike.{carries_same}
 use Rattle.bsv_share.proofs.Needed.{needed_net}
-use Rattle.bsv_share.proofs.Shared.{Shared, shared, where_ok}
+use Rattle.bsv_share.proofs.Shared.{shared, where_ok}
 use Rattle.bsv_share.proofs.sharing.share.Goals as goal
 
 pub returns-clause-gives : goal.returns-clause-gives
