@@ -1,5 +1,6 @@
 ghost use Rattle.std.specs.Prelude.{◌≡◌, ◌<◌, ◌%◌, ◌^◌, length, slice_set};
 ghost use Rattle.bsv_design.specs.design.Bodies as bodies;
+ghost use Rattle.bsv_design.specs.design.Words.{is_one};
 ghost use Rattle.bsv_net.specs.Equations.{computed};
 ghost use Rattle.bsv_engine.specs.Codes.{kept, all_kept};
 
@@ -23,7 +24,32 @@ fn kept(width: u32, narrow: u64, wide: u128) -> Word
     word(width, if width <= 64 { narrow as u128 } else { wide })
 }
 
+/// Whether the word is 1 that is kept as one of these numbers.
+fn is_kept_one(width: u32, narrow: u64, wide: u128) -> bool
+    ensures { result ≡ is_one (kept width narrow wide) }
+{
+    if width < 1 || width > 128 {
+        return false;
+    }
+    if width <= 64 { narrow == 1 } else { wide == 1 }
+}
+
 impl Cells<'_> {
+    /// Whether the word of a node is 1.
+    pub fn is_one(self, node: u32) -> bool
+        requires narrow { length self.narrow.now ≡ length self.widths.now }
+        requires wide { length self.wide.now ≡ length self.widths.now }
+        ensures { result ≡ is_one (bodies.at
+            (all_kept self.entry.widths.now self.entry.narrow.now self.entry.wide.now) node) }
+    {
+        let place = node as usize;
+        if place < self.widths.len() {
+            is_kept_one(self.widths[place], self.narrow[place], self.wide[place])
+        } else {
+            false
+        }
+    }
+
     /// The word of a node, or a bit that is 0 where there is none.
     pub fn at(self, node: u32) -> Word
         requires narrow { length self.narrow.now ≡ length self.widths.now }

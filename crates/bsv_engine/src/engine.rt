@@ -116,6 +116,11 @@ impl Engine {
         requires { node < length (code_of self.now).nodes }
         ensures { result ≡ truth.is_one (at (words_of self.now) node) }
     {
-        self.word(node).value() == 1
+        let cells = Cells {
+            widths: self.widths.as_slice(),
+            narrow: self.narrow.as_slice(),
+            wide: self.wide.as_slice(),
+        };
+        cells.is_one(node)
     }
 }
