@@ -55,7 +55,8 @@ impl Cells<'_> {
         requires narrow { length self.narrow.now ≡ length self.widths.now }
         requires wide { length self.wide.now ≡ length self.widths.now }
         ensures { result
-            ≡ bodies.at (all_kept self.entry.widths.now self.entry.narrow.now self.entry.wide.now) node }
+            ≡ bodies.at (all_kept self.entry.widths.now self.entry.narrow.now
+            self.entry.wide.now) node }
     {
         let place = node as usize;
         if place < self.widths.len() {
@@ -71,7 +72,8 @@ impl Cells<'_> {
         requires wide { length self.wide.now ≡ length self.widths.now }
         ensures { result
             ≡ computed inputs.now registers.now
-            (bodies.at (all_kept self.entry.widths.now self.entry.narrow.now self.entry.wide.now)) node }
+            (bodies.at (all_kept self.entry.widths.now self.entry.narrow.now
+            self.entry.wide.now)) node }
     {
         match node {
             NetNode::Input(number) => word_at(inputs, number),

@@ -67,7 +67,11 @@ impl Engine {
     /// The engine of a net.
     pub fn of_net(alloc: Global, net: &Net) -> Result<Engine, OutOfMemory>
         ensures { IfOk result (λ engine. code_of engine
-            ≡ record { inputs = net.now.inputs; registers = net.now.registers; nodes = net.now.nodes }) }
+            ≡ record {
+              inputs = net.now.inputs;
+              registers = net.now.registers;
+              nodes = net.now.nodes;
+            }) }
     {
         Engine::make(
             alloc,

@@ -66,7 +66,8 @@ pub fn run_all(given: Given<'_>, runs: &[Run], narrow: &mut [u64], wide: &mut [u
     requires room { HasRoom given narrow.old wide.old }
     ensures { AllStand given.entry.widths.now given.entry.nodes.now 0
         (length given.entry.nodes.now) runs.now
-        → Keeps given.entry 0 (length given.entry.nodes.now) narrow.old wide.old narrow.new wide.new }
+        → Keeps given.entry 0 (length given.entry.nodes.now) narrow.old wide.old
+        narrow.new wide.new }
 {
     let mut place = 0;
     for run in runs {
