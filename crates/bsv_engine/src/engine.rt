@@ -83,9 +83,11 @@ impl Engine {
 
     /// Computes the words of all nodes, for these words of the registers and of the inputs. Takes no memory.
     pub fn run(&mut self, registers: &[Word], inputs: &[Word])
-        requires registers { HaveWidths (register_widths (code_of self.old).registers) registers.now }
+        requires registers { HaveWidths (register_widths (code_of self.old).registers)
+            registers.now }
         requires inputs { HaveWidths (code_of self.old).inputs inputs.now }
-        ensures words { words_of self.new ≡ words (code_of self.old).nodes inputs.now registers.now }
+        ensures words { words_of self.new
+            ≡ words (code_of self.old).nodes inputs.now registers.now }
         ensures code { code_of self.new ≡ code_of self.old }
     {
         let given = Given {
