@@ -119,7 +119,7 @@ within_both : {X : Type 0} (xs ys : List X) (i j : ℕ) → slice_get xs i ≡ s
 within_both xs [] i j same l = absurd (omega arith)
 within_both xs (y ∷ ys) i j same l = slice_get_within xs i (get_or (y ∷ ys) j y) (same ∙ slice_get-get_or (y ∷ ys) j y l)
 
-has_no_arguments : (b : DesignData) → IsDesign b → (n : ℕ) (e : Element) → slice_get b.elements n ≡ Some e → is_rule e.role ≡ true → length e.arguments ≡ 0
+pub has_no_arguments : (b : DesignData) → IsDesign b → (n : ℕ) (e : Element) → slice_get b.elements n ≡ Some e → is_rule e.role ≡ true → length e.arguments ≡ 0
 has_no_arguments b right n e there rule = of e.role refl rule
   where
     of : (r : Role) → e.role ≡ r → is_rule r ≡ true → length e.arguments ≡ 0

@@ -22,6 +22,9 @@ pub mod Stopping
 pub mod Element
 pub mod Grown
 pub mod AllTold
+pub mod WithinPorts
+pub mod WithinBodies
+pub mod WithinNet
 pub mod Kept
 pub mod Onward
 pub mod Pieces

@@ -1,7 +1,8 @@
 -- The promise of a net in which all elements stand, out of what the net tells in each scene.
 use Rattle.std.proofs.Common.{◌≡◌, ◌∙◌, ◌<◌, ◌≤◌, ◌+◌, ◌⊎◌, inl, inr, ℕ, zero, suc, Bool, true, false, List, [], ◌∷◌, Option, Some, None, refl, sym, ap, subst, arith, length, map, option_map}
 use Rattle.std.specs.Prelude.{slice_get, unwrap_or, nat_lt}
-use Rattle.std.proofs.lemmas.Bool.{and_parts, cases_lt}
+use Rattle.std.proofs.lemmas.Bool.{and_parts, cases_lt, lt-ltb, ltb-true}
+use Rattle.std.proofs.Math.Bool.{Bool-set}
 use Rattle.std.proofs.Math.Nat.{ℕ_set}
 use Rattle.std.proofs.Math.Logic.{∥∥₁_elim}
 use Rattle.std.proofs.lemmas.List.{length-map}
@@ -59,6 +60,8 @@ use Rattle.bsv_fire.proofs.Frame.{Tells}
 use Rattle.bsv_fire.proofs.GroundTold.{register_there}
 use Rattle.bsv_net.proofs.Numbers.{number_at}
 use Rattle.bsv_fire.proofs.Structure.{Holds}
+use Rattle.bsv_fire.proofs.WithinNet.{result_within}
+use Rattle.bsv_fire.specs.FireBuilder.{flattened}
 use Rattle.bsv_graph.proofs.Below.{count_below}
 use Rattle.bsv_clock.proofs.Propositions.{bits_set}
 use Rattle.bsv_fire.proofs.Bodies.{args_many}
@@ -79,6 +82,11 @@ nothing_given : (us : List ℕ) (b : Bool) (o : Option ℕ) → result_fits us b
 nothing_given us true o h e = absurd (let n : ⊥ = cc in n)
 nothing_given us false None h e = refl
 nothing_given us false (Some k) h e = absurd (let n : ⊥ = cc in n)
+
+nothing_there : (us : List ℕ) (b : Bool) (o : Option ℕ) → result_fits us b o ≡ true → b ≡ true → o ≡ None → ⊥
+nothing_there us true None h e f = let n : ⊥ = cc in n
+nothing_there us true (Some k) h e f = let n : ⊥ = cc in n
+nothing_there us false o h e f = let n : ⊥ = cc in n
 
 module _ (d : Design) (needs : List (List Need)) (made : Schedule) (rules : KeepsRules (design_scheme (design_data d))) (scheduled : IsScheduleOf (design_scheme (design_data d)) made)
     (are : needs ≡ needs_of (kinds_of (design_data d)) d.elements) (c : NetData) (is : IsFiringNet (design_data d) needs made c) (ordered : ∥ IsNet c ∥₁)
@@ -121,6 +129,37 @@ module _ (d : Design) (needs : List (List Need)) (made : Schedule) (rules : Keep
       ∙ (mapped_at (λ x. unwrap_or x (length (net b needs made).nodes)) (net b needs made).results n None
       (placed.1 ∙ ap (λ (x : Option ℕ). Some (option_map (node_at placed.0) x)) nothing)
       ∙ ap (λ (ns : List NetNode). Some (length ns)) (sym is.nodes))
+
+  results_told : (n : ℕ) (o : Outline) → slice_get T.elements n ≡ Some o → gives_value o.role ≡ true → (k : ℕ) × (slice_get c.results n ≡ Some k) × (k < length c.nodes)
+  results_told n o at_o gives_one = of found.element.result refl
+    where
+      found : At n o
+      found = element_of n o at_o
+
+      placed : (places : List ℕ) × (slice_get (net b needs made).results n ≡ Some (option_map (node_at places) found.element.result))
+          × (slice_get (net b needs made).sites n ≡ Some (sites places found.element.calls))
+      placed = holds.each n found.element (among n (slice_get_within T.elements n o at_o)) found.there
+
+      below : (k : ℕ) → slice_get (net b needs made).results n ≡ Some (Some k) → k < length (net b needs made).nodes
+      below k there =
+          ltb-true k (length (net b needs made).nodes)
+          (∥∥₁_elim d.right (Bool-set _ _) (λ (right : IsDesign b).
+          lt-ltb k (length (net b needs made).nodes)
+          (subst (λ (x : Option (Option ℕ)). or_first (flattened x) < length (net b needs made).nodes) there (result_within b right needs made n))))
+
+      of : (x : Option ℕ) → found.element.result ≡ x → (k : ℕ) × (slice_get c.results n ≡ Some k) × (k < length c.nodes)
+      of None e =
+          absurd (∥∥₁_elim d.right (λ (x y : ⊥). absurd x) (λ (right : IsDesign b).
+          let fits = (right.elements n found.element found.there).fits in
+          nothing_there fits.widths (gives_value found.element.role) found.element.result fits.result (ap (λ (x : Outline). gives_value x.role) found.gives ∙ gives_one) e))
+      of (Some r) e =
+          let k : ℕ = node_at placed.0 r in
+          let there : slice_get (net b needs made).results n ≡ Some (Some k) = placed.1 ∙ ap (λ (x : Option ℕ). Some (option_map (node_at placed.0) x)) e in (
+            k,
+            ap (λ (ns : List ℕ). slice_get ns n) is.results
+                ∙ mapped_at (λ x. unwrap_or x (length (net b needs made).nodes)) (net b needs made).results n (Some k) there,
+            subst (λ (ns : List NetNode). k < length ns) (sym is.nodes) (below k there),
+          )
 
   -- the sites of an element are those of its calls
   record Sites (n : ℕ) : Type 0 where
@@ -248,6 +287,7 @@ module _ (d : Design) (needs : List (List Need)) (made : Schedule) (rules : Keep
       count_results = ap length is.results ∙ (length-map (net b needs made).results _ ∙ (holds.long_results ∙ sym elements_are));
       count_sites = ap length is.sites ∙ (holds.long_sites ∙ sym elements_are);
       no_result = no_result_told;
+      results = results_told;
       calls = calls_told;
       arguments = λ n k t y used at_y. arguments_told n k t y used at_y (cases_lt n (length T.elements));
       clock = clock_told;

@@ -17,7 +17,7 @@ use Rattle.bsv_net.specs.declared.net_data.NetData.{NetData}
 use Rattle.bsv_net.specs.declared.node.Site.{Site as NetSite}
 use Rattle.bsv_net.specs.Nets.{words}
 use Rattle.bsv_net.specs.Unasked.{Arguments, MayBeArguments, inputs_with, with_arguments}
-use Rattle.bsv_net.specs.ShowsByNet.{NamesNoResult, gives, given_at}
+use Rattle.bsv_net.specs.ShowsByNet.{NamesNoResult, NamesResults, gives, given_at}
 use Rattle.bsv_ports.specs.CallSites.{or_none}
 use Rattle.bsv_ports.specs.Ports.{arity_of}
 
@@ -49,8 +49,9 @@ pub record Fires (aggressive : Bool) (S : Scheme) (made : Schedule) (c : NetData
   pub count_readies : length c.readies ≡ length S.elements
   pub count_results : length c.results ≡ length S.elements
   pub count_sites : length c.sites ≡ length S.elements
-  -- what gives nothing names no node
+  -- what gives nothing names no node, and what gives a word names one
   pub no_result : NamesNoResult S c
+  pub results : NamesResults S c
   -- there are nodes for each call of each element, one for each of its arguments
   pub calls : (n : ℕ) → n < length S.elements → length (sites_of c n) ≡ length (S.uses n)
   pub arguments : (n k : ℕ) (t : Target) (y : NetSite) → slice_get (S.uses n) k ≡ Some t

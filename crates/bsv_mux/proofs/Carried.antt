@@ -3,7 +3,7 @@
 use Rattle.std.proofs.Common.{◌≡◌, ◌∙◌, ◌<◌, ◌≤◌, ◌+◌, ◌⊎◌, inl, inr, ℕ, Bool, true, false, List, [], ◌∷◌, ◌++◌, Some, None, is_some, refl, sym, ap, ap₂, subst, arith, length, map, drop, append-nil}
 use Rattle.std.specs.Prelude.{slice_get, nat_lt, if◌then◌else◌}
 use Rattle.std.proofs.Math.Logic.{∥∥₁_elim}
-use Rattle.std.proofs.lemmas.Bool.{cases_lt, ltb-true}
+use Rattle.std.proofs.lemmas.Bool.{cases_lt, lt-ltb, ltb-true}
 use Rattle.std.proofs.lemmas.List.{length-map}
 use Rattle.std.proofs.lemmas.Option.{slice_get_within, slice_get_past, same_Some}
 use Rattle.bsv_lemmas.proofs.Places.{mapped_at, at_left, at_right, item_there}
@@ -45,14 +45,14 @@ use Rattle.bsv_net.specs.declared.node.Site.{Site as NetSite}
 use Rattle.bsv_net.specs.AtHand.{net_data}
 use Rattle.bsv_net.specs.Nets.{IsNet, register_widths, words}
 use Rattle.bsv_net.specs.Placing.{node_at}
-use Rattle.bsv_net.proofs.Grows.{Grows, grows_trans, kept}
+use Rattle.bsv_net.proofs.Grows.{Grows, grows_trans, kept, length_grows}
 use Rattle.bsv_net.proofs.Solution.{satisfies, same_length, words_have}
 use Rattle.bsv_ports.specs.CallSites.{or_none, all_call_sites}
 use Rattle.bsv_ports.specs.Ports.{arity_of}
 use Rattle.bsv_fire.specs.Firing as firing
 use Rattle.bsv_fire.specs.Firing.{Fires}
 use Rattle.bsv_net.specs.Unasked.{Arguments, IgnoresUnasked, MayBeArguments, inputs_with, with_arguments}
-use Rattle.bsv_net.specs.ShowsByNet.{NamesNoResult, NetCarries, gives, given_at}
+use Rattle.bsv_net.specs.ShowsByNet.{NamesNoResult, NamesResults, NetCarries, gives, given_at}
 use Rattle.bsv_ports.specs.Starts.{register_starts}
 use Rattle.bsv_ports.proofs.FirstNodes.{part_shown, register_start, registers_before, word_after}
 use Rattle.bsv_net.proofs.WidthsFit.{cells_have, inputs_given, inputs_of_scheme}
@@ -89,6 +89,19 @@ module _ (ns : List NetNode) (count : ℕ) where
   zero_stands =
       at_right ns behind count
       ∙ (ap (slice_get behind) (omega (arith, many)) ∙ at_right (map net.Register (numbers_below count)) (net.Constant (bit false) ∷ []) 0)
+
+-- ---- the nodes that were there
+
+module _ (b : DesignData) (made : Schedule) (c e : NetData) (is : IsNextNet b made c e) where
+  registers_grown : Grows (with_registers c.nodes (length c.registers)) e.nodes
+  unfolding next_words
+  registers_grown =
+      subst (λ (ns : List NetNode). Grows (with_registers c.nodes (length c.registers)) ns) (sym is.nodes)
+      (nexts_grow (told b made c) (register_starts (length c.nodes) (kinds_of b)) (all_call_sites (kinds_of b) b.elements made.execution) 0
+      (with_registers c.nodes (length c.registers)) [] (kinds_of b))
+
+  nodes_grown : Grows c.nodes e.nodes
+  nodes_grown = grows_trans (record { more = behind c.nodes (length c.registers); is = refl }) registers_grown
 
 -- ---- a clock
 
@@ -152,13 +165,10 @@ module _ (b : DesignData) (right : IsDesign b) (made : Schedule) (xs : Arguments
   x = told b made c
 
   grown_registers : Grows (with_registers c.nodes count) e.nodes
-  unfolding next_words
-  grown_registers =
-      subst (λ (ns : List NetNode). Grows (with_registers c.nodes count) ns) (sym is.nodes)
-      (nexts_grow x (register_starts (length c.nodes) (kinds_of b)) (all_call_sites (kinds_of b) b.elements made.execution) 0 (with_registers c.nodes count) [] (kinds_of b))
+  grown_registers = registers_grown b made c e is
 
   grown_nodes : Grows c.nodes e.nodes
-  grown_nodes = grows_trans (record { more = behind c.nodes count; is = refl }) grown_registers
+  grown_nodes = nodes_grown b made c e is
 
   -- the nodes of the net before keep their words
   old_long : length before.widths ≡ length old
@@ -394,6 +404,23 @@ module _ (d : Design) (made : Schedule) (rules : KeepsRules (design_scheme (desi
           of : (t : Bool) → nat_lt k k ≡ t → t ≡ false
           of true h = absurd (let l = ltb-true k k h in omega arith)
           of false h = refl
+
+  -- a node that was there keeps its place
+  names_results : NamesResults U e
+  names_results n o at_o gives_one =
+      let old = promise.results n o at_o gives_one in
+      let more = length_grows (nodes_grown (design_data d) made c e is) in (
+        old.0,
+        ap (λ (ns : List ℕ). slice_get ns n) is.results
+            ∙ (mapped_at (renamed (length c.nodes) (length (next_words (design_data d) made c).nodes)) c.results n old.0 old.1
+            ∙ ap (λ (t : Bool). Some (if t then old.0 else length (next_words (design_data d) made c).nodes)) (lt-ltb old.0 (length c.nodes) old.2)),
+        omega (arith, old.2, more),
+      )
+
+pub net_names : (d : Design) (made : Schedule) → KeepsRules (design_scheme (design_data d)) → IsScheduleOf (design_scheme (design_data d)) made
+    → (c : NetData) → ∥ IsNet c ∥₁ → Fires false (design_scheme (design_data d)) made c
+    → (n : Net) → IsNextNet (design_data d) made c (net_data n) → NamesResults (design_scheme (design_data d)) (net_data n)
+net_names d made rules scheduled c before promise n is = names_results d made rules scheduled c before promise (net_data n) is n.right
 
 pub net_carries : (d : Design) (made : Schedule) → KeepsRules (design_scheme (design_data d)) → IsScheduleOf (design_scheme (design_data d)) made
     → (c : NetData) → ∥ IsNet c ∥₁ → Fires false (design_scheme (design_data d)) made c

@@ -6,7 +6,7 @@ ghost use Rattle.bsv_ports.specs.CallSites.{or_none};
 ghost use Rattle.bsv_fire.specs.Firing.{Fires};
 ghost use Rattle.bsv_net.specs.AtHand.{net_data};
 ghost use Rattle.bsv_mux.specs.AtHand as hand;
-ghost use Rattle.bsv_net.specs.ShowsByNet.{NetCarries};
+ghost use Rattle.bsv_net.specs.ShowsByNet.{NamesResults, NetCarries};
 ghost use Rattle.bsv_mux.specs.Nexts as spec;
 
 use crate::parts::Muxing;
@@ -179,6 +179,8 @@ pub fn add_next(
         (net_data net) }
     ensures carries { IfOk result (λ made.
         NetCarries false (design_scheme (design_data design.now)) schedule.now made) }
+    ensures results { IfOk result (λ made.
+        NamesResults (design_scheme (design_data design.now)) (net_data made)) }
     ensures sites { IfOk result (λ made. made.sites ≡ []) }
 {
     let net_data = next_net(alloc, design, schedule, net)?;

@@ -1,0 +1,17 @@
+pub mod Keys
+pub mod Keyed
+pub mod SomeWords
+pub mod MovedInTurn
+pub mod WordRules
+pub mod NodesAt
+pub mod Rules
+pub mod Renaming
+pub mod Folded
+pub mod Following
+pub mod Alike
+pub mod Placing
+pub mod FoldedNet
+pub mod MovedNet
+pub mod Shared
+pub mod Marks
+pub mod Needed

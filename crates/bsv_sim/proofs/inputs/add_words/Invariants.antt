@@ -1,0 +1,13 @@
+use Rattle.std.proofs.Common.{◌≡◌, ◌++◌, ◌+◌, ◌≤◌, length}
+use Rattle.std.specs.Prelude.{vec_len, vec_capacity}
+use Rattle.bsv_sim.proofs.inputs.add_words.Given as goal
+
+abbrev pub invariant-loop-word : goal.invariant-loop-word
+invariant-loop-word l = record {
+  room : vec_len l.inputs + length l.rest ≤ vec_capacity l.inputs;
+  capacity : vec_capacity l.initial.inputs ≤ vec_capacity l.inputs;
+  adds : l.inputs.items ++ l.rest ≡ l.initial.inputs.items ++ l.words;
+}
+
+abbrev pub decreases-loop-word : goal.decreases-loop-word
+decreases-loop-word l = length l.rest
