@@ -4,7 +4,6 @@ pub mod InOrder
 pub mod Keeping
 pub mod Masks
 pub mod OfNet
-pub mod Ones
 pub mod Solving
 pub mod Standing
 pub mod StepsKeep

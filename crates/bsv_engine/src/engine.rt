@@ -38,7 +38,7 @@ pub struct Engine {
 
 impl Engine {
     ghost use Rattle.bsv_engine.specs.Cells.{HasPlaces, words_in};
-    ghost use Rattle.bsv_engine.specs.Engines.{code_of, code_of_net, words_of};
+    ghost use Rattle.bsv_engine.specs.Engines.{code_of, words_of};
 
     /// The engine of the nodes of a net.
     pub fn make(
@@ -67,7 +67,12 @@ impl Engine {
 
     /// The engine of a net.
     pub fn of_net(alloc: Global, net: &Net) -> Result<Engine, OutOfMemory>
-        ensures { IfOk result (λ engine. code_of engine ≡ code_of_net net.now) }
+        ensures { IfOk result (λ engine. code_of engine
+            ≡ record {
+              inputs = net.now.inputs;
+              registers = net.now.registers;
+              nodes = net.now.nodes;
+            }) }
     {
         Engine::make(
             alloc,
