@@ -1,10 +1,9 @@
-ghost use Rattle.std.specs.Prelude.{◌≡◌, IfOk, OnOk, Some, map, length, slice_get};
+ghost use Rattle.std.specs.Prelude.{◌≡◌, IfOk, OnOk, map};
 ghost use Rattle.bsv_guard.specs.Fitting.{HaveWidths};
 ghost use Rattle.bsv_net.specs.AtHand.{net_data};
 ghost use Rattle.bsv_net.specs.Nets.{register_widths};
 ghost use Rattle.bsv_share.specs.Keys.{key_of};
 ghost use Rattle.bsv_share.specs.Folding as spec;
-ghost use Rattle.bsv_net.specs.Nets.{words};
 
 use crate::key::{Key, key_of};
 use crate::operands::{first_operand, renamed};
