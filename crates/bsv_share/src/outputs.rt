@@ -58,6 +58,7 @@ pub fn with_nodes(
     };
     match Net::new(alloc, net_data)? {
         Some(made) => Ok(made),
+        // the nodes keep their widths, so that the data are in order
         None => Err(OutOfMemory),
     }
 }
