@@ -15,3 +15,4 @@ pub mod MovedNet
 pub mod Shared
 pub mod Marks
 pub mod Needed
+pub mod InputsFit

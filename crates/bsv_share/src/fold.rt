@@ -1,10 +1,10 @@
-ghost use Rattle.std.specs.Prelude.{◌≡◌, IfOk, OnOk, Some, map, length, slice_get};
+ghost use Rattle.std.specs.Prelude.{◌≡◌, IfOk, IsTrue, OnOk, map};
+ghost use Rattle.std.specs.List.{list_all};
 ghost use Rattle.bsv_guard.specs.Fitting.{HaveWidths};
 ghost use Rattle.bsv_net.specs.AtHand.{net_data};
-ghost use Rattle.bsv_net.specs.Nets.{register_widths};
+ghost use Rattle.bsv_net.specs.Nets.{register_widths, width_fits};
 ghost use Rattle.bsv_share.specs.Keys.{key_of};
 ghost use Rattle.bsv_share.specs.Folding as spec;
-ghost use Rattle.bsv_net.specs.Nets.{words};
 
 use crate::key::{Key, key_of};
 use crate::operands::{first_operand, renamed};
@@ -63,13 +63,11 @@ impl Folding {
 
 /// Words of the inputs.
 fn input_words(alloc: Global, inputs: &[u32]) -> Result<Vec<Word>, OutOfMemory>
+    requires { IsTrue (list_all width_fits inputs.now) }
     ensures { IfOk result (λ words. HaveWidths inputs.now words.items) }
 {
     let mut words = Vec::new(alloc);
     for width in inputs {
-        if *width < 1 || 128 < *width {
-            return Err(OutOfMemory);
-        }
         words.push(Word::zero(*width))?;
     }
     Ok(words)

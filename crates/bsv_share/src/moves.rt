@@ -85,6 +85,7 @@ impl Moves<'_> {
         let Some(to) = at(self.to, old as usize) else {
             return Err(OutOfMemory);
         };
+        // `order` puts each node once, and after those that it reads
         if (*to as usize) != count || !self.reads_before(*node, count) {
             return Err(OutOfMemory);
         }
@@ -137,6 +138,7 @@ pub fn moved(alloc: Global, net: &Net, from: &[u32]) -> Result<Net, OutOfMemory>
         to: to.as_slice(),
     };
     let count = from.len();
+    // `order` keeps what the net gives
     if !moves.keeps_all(net.nexts.as_slice(), count)
         || !moves.keeps_all(net.fires.as_slice(), count)
         || !moves.keeps_all(net.readies.as_slice(), count)

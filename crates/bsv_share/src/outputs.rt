@@ -1,4 +1,4 @@
-ghost use Rattle.std.specs.Prelude.{◌≡◌, ◌<◌, ◌^◌, IfOk, length, map};
+ghost use Rattle.std.specs.Prelude.{◌≡◌, IfOk, map};
 ghost use Rattle.bsv_net.specs.AtHand.{net_data};
 ghost use Rattle.bsv_share.specs.Outputs as spec;
 
@@ -58,6 +58,7 @@ pub fn with_nodes(
     };
     match Net::new(alloc, net_data)? {
         Some(made) => Ok(made),
+        // the nodes keep their widths, so that the data are in order
         None => Err(OutOfMemory),
     }
 }

@@ -1,8 +1,5 @@
-ghost use Rattle.std.specs.Prelude.{◌≡◌, Bool, [], IfOk};
-ghost use Rattle.bsv_design.specs.declared.schedule.Schedule.{Schedule};
-ghost use Rattle.bsv_design.specs.scheme.Schemes.{Scheme};
+ghost use Rattle.std.specs.Prelude.{◌≡◌, [], IfOk};
 ghost use Rattle.bsv_net.specs.AtHand.{net_data};
-ghost use Rattle.bsv_net.specs.ShowsByNet.{NetCarries};
 ghost use Rattle.bsv_share.specs.Sharing as spec;
 
 use crate::fold::fold;
