@@ -1,65 +1,49 @@
 ghost use Rattle.std.specs.Prelude.{◌≡◌, ◌≤◌, ◌<◌, ℕ, ◌+◌, ◌++◌, List, length, Err};
-ghost use Rattle.std.specs.Prelude.{IfOk, OnOk, OnErr};
+ghost use Rattle.std.specs.Prelude.{OnOk, OnErr};
 ghost use Rattle.bsv_design.specs.scheme.Schemes.{Asking};
-ghost use Rattle.bsv_flow.specs.Running.{BelongTogether};
 ghost use Rattle.bsv_io.specs.Faults.{MayFault};
 ghost use Rattle.bsv_io.specs.Writing.{Writing};
 ghost use Rattle.bsv_trace.specs.Lines.{AsksFor};
 ghost use Rattle.bsv_top.specs.Reading.{IsEnded};
-ghost use Rattle.bsv_top.specs.Running.{BeginsClock, EndsLine, FitsRun, HasRun, IsStart};
+ghost use Rattle.bsv_top.specs.Running.{BeginsClock, EndsLine, FitsRun, HasRun, IsRunnable};
 ghost use Rattle.bsv_top.specs.Running.{IsStartedOf, IsDoneOf, IsFaultyOf, its_subject};
 ghost use Rattle.bsv_top.specs.Traces.{line_text};
 
 use crate::halt::Halt;
 use crate::lines::{Lines, first_line};
-use bsv_bits::OutOfMemory;
-use bsv_design::{Design, Fired, Requests, State};
-use bsv_flow::Compiled;
+use crate::scheduled::ScheduledDesign;
+use bsv_design::{Fired, Requests};
 use bsv_io::Sink;
-use bsv_serial::clock;
-use bsv_trace::{line, write_clock};
-use std::alloc::Global;
+use bsv_sim::Sim;
+use bsv_trace::{line, write_clock_registers};
 
-/// How far a trace was run: how far it was read, and the state; with room for what a line asks for and for
-/// what happens in its clock.
+/// How far a trace was run: how far it was read, and the simulator, whose registers show the state; with room for
+/// what a line asks for and for what happens in its clock. A clock takes no memory.
 #[derive(Drop)]
 pub(crate) struct Run {
     pub(crate) lines: Lines,
-    pub(crate) state: State,
+    pub(crate) sim: Sim,
     pub(crate) requests: Requests,
     pub(crate) fired: Fired,
 }
 
 impl Run {
-    /// The start of a run.
-    pub(crate) fn new(alloc: Global, design: &Design) -> Result<Run, OutOfMemory>
-        ensures { IfOk result (λ run. IsStart design.now run) }
-    {
-        Ok(Run {
-            lines: Lines::new(alloc)?,
-            state: State::opening(alloc, design)?,
-            requests: Requests::new(alloc, design)?,
-            fired: Fired::new(alloc, design)?,
-        })
-    }
-
     /// Runs the clock of the line that was gathered, and puts its lines.
     fn run_line<O: Sink>(
         &mut self,
-        alloc: Global,
-        compiled: &Compiled,
+        scheduled: &ScheduledDesign,
         out: &mut O,
     ) -> Result<(), Halt>
-        requires compiled { BelongTogether compiled.now }
-        requires fits { FitsRun compiled.now.design self.old }
+        requires scheduled { IsRunnable scheduled.now }
+        requires fits { FitsRun scheduled.now self.old }
         requires some { 0 < length self.old.lines.held.items }
-        ensures fits { FitsRun compiled.now.design self.new }
-        ensures ran { OnOk result (EndsLine compiled.now self.old self.new
+        ensures fits { FitsRun scheduled.now self.new }
+        ensures ran { OnOk result (EndsLine scheduled.now self.old self.new
             (O.writing out.old) (O.writing out.new)) }
         ensures bad { result ≡ Err Halt.BadLine → (q : Asking)
-            → AsksFor (its_subject compiled.now).scheme.elements
+            → AsksFor (its_subject scheduled.now).scheme.elements
             (line_text self.old.lines.held.items) q → ⊥ }
-        ensures started { result ≡ Err Halt.Unwritable → BeginsClock compiled.now self.old self.new
+        ensures started { result ≡ Err Halt.Unwritable → BeginsClock scheduled.now self.old self.new
             (O.writing out.old) (O.writing out.new) }
         ensures unwritable { result ≡ Err Halt.Unwritable
             → MayFault (O.writing out.old).faults (O.writing out.new).faults }
@@ -71,18 +55,11 @@ impl Run {
             → (O.writing out.new).faults ≡ (O.writing out.old).faults }
         ensures count { (O.writing out.old).faults ≤ (O.writing out.new).faults }
     {
-        let design = &compiled.design;
+        let design = &scheduled.design;
         line(design, self.lines.text(), &mut self.requests)?;
-        clock(
-            alloc,
-            design,
-            &compiled.guards,
-            &compiled.schedule,
-            &mut self.state,
-            &self.requests,
-            &mut self.fired,
-        )?;
-        write_clock(design, self.lines.done + 1, &self.fired, &self.state, out)?;
+        self.sim.clock(&scheduled.schedule, &self.requests, &mut self.fired);
+        let number = self.lines.done + 1;
+        write_clock_registers(design, number, &self.fired, self.sim.registers(), out)?;
         self.lines.end_line();
         Ok(())
     }
@@ -90,25 +67,24 @@ impl Run {
     /// Takes bytes that end a line, and runs its clock.
     fn run_ended<O: Sink>(
         &mut self,
-        alloc: Global,
-        compiled: &Compiled,
+        scheduled: &ScheduledDesign,
         bytes: &[u8],
         out: &mut O,
     ) -> Result<(), Halt>
-        requires compiled { BelongTogether compiled.now }
-        requires fits { FitsRun compiled.now.design self.old }
+        requires scheduled { IsRunnable scheduled.now }
+        requires fits { FitsRun scheduled.now self.old }
         requires ended { IsEnded bytes.now }
-        ensures fits { FitsRun compiled.now.design self.new }
+        ensures fits { FitsRun scheduled.now self.new }
         ensures ran { OnOk result ((start : Writing) (read : List ℕ)
-            → HasRun compiled.now start read self.old (O.writing out.old)
-            → HasRun compiled.now start (read ++ bytes.now) self.new (O.writing out.new)) }
+            → HasRun scheduled.now start read self.old (O.writing out.old)
+            → HasRun scheduled.now start (read ++ bytes.now) self.new (O.writing out.new)) }
         ensures bad { result ≡ Err Halt.BadLine → (start : Writing) (read left : List ℕ)
-            → HasRun compiled.now start read self.old (O.writing out.old)
-            → IsFaultyOf compiled.now start ((read ++ bytes.now) ++ left) (O.writing out.new)
+            → HasRun scheduled.now start read self.old (O.writing out.old)
+            → IsFaultyOf scheduled.now start ((read ++ bytes.now) ++ left) (O.writing out.new)
             (self.new.lines.done + 1) }
         ensures started { OnErr result ((start : Writing) (read left : List ℕ)
-            → HasRun compiled.now start read self.old (O.writing out.old)
-            → IsStartedOf compiled.now start ((read ++ bytes.now) ++ left) (O.writing out.new)) }
+            → HasRun scheduled.now start read self.old (O.writing out.old)
+            → IsStartedOf scheduled.now start ((read ++ bytes.now) ++ left) (O.writing out.new)) }
         ensures long { OnOk result (self.new.lines.at + length self.new.lines.held.items
             ≡ self.old.lines.at + length self.old.lines.held.items + length bytes.now) }
         ensures unwritable { result ≡ Err Halt.Unwritable
@@ -119,30 +95,29 @@ impl Run {
         ensures count { (O.writing out.old).faults ≤ (O.writing out.new).faults }
     {
         self.lines.gather(bytes)?;
-        self.run_line(alloc, compiled, out)
+        self.run_line(scheduled, out)
     }
 
     /// Takes a piece of the trace, and runs the clock of each line that ends in it.
     pub(crate) fn run_piece<O: Sink>(
         &mut self,
-        alloc: Global,
-        compiled: &Compiled,
+        scheduled: &ScheduledDesign,
         piece: &[u8],
         out: &mut O,
     ) -> Result<(), Halt>
-        requires compiled { BelongTogether compiled.now }
-        requires fits { FitsRun compiled.now.design self.old }
-        ensures fits { FitsRun compiled.now.design self.new }
+        requires scheduled { IsRunnable scheduled.now }
+        requires fits { FitsRun scheduled.now self.old }
+        ensures fits { FitsRun scheduled.now self.new }
         ensures ran { OnOk result ((start : Writing) (read : List ℕ)
-            → HasRun compiled.now start read self.old (O.writing out.old)
-            → HasRun compiled.now start (read ++ piece.now) self.new (O.writing out.new)) }
+            → HasRun scheduled.now start read self.old (O.writing out.old)
+            → HasRun scheduled.now start (read ++ piece.now) self.new (O.writing out.new)) }
         ensures bad { result ≡ Err Halt.BadLine → (start : Writing) (read left : List ℕ)
-            → HasRun compiled.now start read self.old (O.writing out.old)
-            → IsFaultyOf compiled.now start ((read ++ piece.now) ++ left) (O.writing out.new)
+            → HasRun scheduled.now start read self.old (O.writing out.old)
+            → IsFaultyOf scheduled.now start ((read ++ piece.now) ++ left) (O.writing out.new)
             (self.new.lines.done + 1) }
         ensures started { OnErr result ((start : Writing) (read left : List ℕ)
-            → HasRun compiled.now start read self.old (O.writing out.old)
-            → IsStartedOf compiled.now start ((read ++ piece.now) ++ left) (O.writing out.new)) }
+            → HasRun scheduled.now start read self.old (O.writing out.old)
+            → IsStartedOf scheduled.now start ((read ++ piece.now) ++ left) (O.writing out.new)) }
         ensures long { OnOk result (self.new.lines.at + length self.new.lines.held.items
             ≡ self.old.lines.at + length self.old.lines.held.items + length piece.now) }
         ensures unwritable { result ≡ Err Halt.Unwritable
@@ -154,7 +129,7 @@ impl Run {
     {
         let mut left = piece;
         while let Some((ended, behind)) = first_line(left) {
-            self.run_ended(alloc, compiled, ended, out)?;
+            self.run_ended(scheduled, ended, out)?;
             left = behind;
         }
         self.lines.gather(left)?;
@@ -164,21 +139,20 @@ impl Run {
     /// Takes the end of the trace: what was begun of a line is a line.
     pub(crate) fn run_last<O: Sink>(
         &mut self,
-        alloc: Global,
-        compiled: &Compiled,
+        scheduled: &ScheduledDesign,
         out: &mut O,
     ) -> Result<(), Halt>
-        requires compiled { BelongTogether compiled.now }
-        requires fits { FitsRun compiled.now.design self.old }
+        requires scheduled { IsRunnable scheduled.now }
+        requires fits { FitsRun scheduled.now self.old }
         ensures done { OnOk result ((start : Writing) (trace : List ℕ)
-            → HasRun compiled.now start trace self.old (O.writing out.old)
-            → IsDoneOf compiled.now start trace (O.writing out.new)) }
+            → HasRun scheduled.now start trace self.old (O.writing out.old)
+            → IsDoneOf scheduled.now start trace (O.writing out.new)) }
         ensures bad { result ≡ Err Halt.BadLine → (start : Writing) (trace : List ℕ)
-            → HasRun compiled.now start trace self.old (O.writing out.old)
-            → IsFaultyOf compiled.now start trace (O.writing out.new) (self.new.lines.done + 1) }
+            → HasRun scheduled.now start trace self.old (O.writing out.old)
+            → IsFaultyOf scheduled.now start trace (O.writing out.new) (self.new.lines.done + 1) }
         ensures started { (start : Writing) (trace : List ℕ)
-            → HasRun compiled.now start trace self.old (O.writing out.old)
-            → IsStartedOf compiled.now start trace (O.writing out.new) }
+            → HasRun scheduled.now start trace self.old (O.writing out.old)
+            → IsStartedOf scheduled.now start trace (O.writing out.new) }
         ensures unwritable { result ≡ Err Halt.Unwritable
             → MayFault (O.writing out.old).faults (O.writing out.new).faults }
         ensures reads { result ≡ Err Halt.Unreadable → ⊥ }
@@ -189,6 +163,6 @@ impl Run {
         if self.lines.held.is_empty() {
             return Ok(());
         }
-        self.run_line(alloc, compiled, out)
+        self.run_line(scheduled, out)
     }
 }

@@ -4,46 +4,42 @@ ghost use Rattle.bsv_design.specs.scheme.Schemes.{Asking};
 ghost use Rattle.bsv_io.specs.Faults.{MayFault};
 ghost use Rattle.bsv_io.specs.Reading.{bytes_given, current_name, rest};
 ghost use Rattle.bsv_io.specs.Writing.{Writing};
-ghost use Rattle.bsv_flow.specs.Running.{BelongTogether};
-ghost use Rattle.bsv_top.specs.Running.{HasRun, IsStart, its_outlines};
+ghost use Rattle.bsv_top.specs.Running.{HasRun, IsRunnable, IsStart, its_outlines};
 ghost use Rattle.bsv_top.specs.Running.{IsStartedOf, IsDoneOf, IsFaultyOf};
 ghost use Rattle.bsv_top.specs.Traces.{HasBadLine, bytes_in, lines_of};
 
 use crate::clocks::Run;
 use crate::halt::Halt;
 use crate::lines::TRACE_LIMIT;
-use bsv_flow::Compiled;
 use bsv_io::{Failed, Files, Sink};
-use std::alloc::Global;
 
 /// Reads the trace, which is the current file, to its end, and runs its clocks; `buffer` is room to
 /// read into.
 pub(crate) fn run_trace<F: Files, O: Sink>(
-    alloc: Global,
     files: &mut F,
-    compiled: &Compiled,
+    scheduled: &ScheduledDesign,
     run: &mut Run,
     buffer: &mut [u8],
     out: &mut O,
 ) -> Result<(), Halt>
-    requires compiled { BelongTogether compiled.now }
-    requires start { IsStart compiled.now.design run.old }
+    requires scheduled { IsRunnable scheduled.now }
+    requires start { IsStart scheduled.now run.old }
     requires room { 0 < length buffer.old }
     requires current { IsSome (F.reading files.old).current }
 
     // All lines are run; or the first bad one is met; and in any case a prefix of a report is put.
     ensures done { OnOk result ((start : Writing) (trace : List ℕ)
-        → HasRun compiled.now start [] run.old (O.writing out.old)
+        → HasRun scheduled.now start [] run.old (O.writing out.old)
         → rest (F.reading files.old) ≡ Some trace
-        → IsDoneOf compiled.now start trace (O.writing out.new)) }
+        → IsDoneOf scheduled.now start trace (O.writing out.new)) }
     ensures bad { result ≡ Err Halt.BadLine → (start : Writing) (trace : List ℕ)
-        → HasRun compiled.now start [] run.old (O.writing out.old)
+        → HasRun scheduled.now start [] run.old (O.writing out.old)
         → rest (F.reading files.old) ≡ Some trace
-        → IsFaultyOf compiled.now start trace (O.writing out.new) (run.new.lines.done + 1) }
+        → IsFaultyOf scheduled.now start trace (O.writing out.new) (run.new.lines.done + 1) }
     ensures started { (start : Writing) (trace : List ℕ)
-        → HasRun compiled.now start [] run.old (O.writing out.old)
+        → HasRun scheduled.now start [] run.old (O.writing out.old)
         → rest (F.reading files.old) ≡ Some trace
-        → IsStartedOf compiled.now start trace (O.writing out.new) }
+        → IsStartedOf scheduled.now start trace (O.writing out.new) }
 
     // The causes of the other faults.
     ensures unreadable { result ≡ Err Halt.Unreadable
@@ -57,9 +53,9 @@ pub(crate) fn run_trace<F: Files, O: Sink>(
     ensures end { (trace : List ℕ) → rest (F.reading files.old) ≡ Some trace
         → bytes_given (F.reading files.new) ≤ bytes_given (F.reading files.old) + length trace }
     ensures within { (start : Writing) (trace : List ℕ) (qs : List Asking)
-        → HasRun compiled.now start [] run.old (O.writing out.old)
+        → HasRun scheduled.now start [] run.old (O.writing out.old)
         → rest (F.reading files.old) ≡ Some trace
-        → HasBadLine (its_outlines compiled.now) trace qs
+        → HasBadLine (its_outlines scheduled.now) trace qs
         → bytes_given (F.reading files.new) ≤ bytes_given (F.reading files.old)
         + bytes_in (length qs + 1) (lines_of trace) + length buffer.old }
 
@@ -77,9 +73,9 @@ pub(crate) fn run_trace<F: Files, O: Sink>(
             Err(Failed) => return Err(Halt::Unreadable),
         };
         if len == 0 {
-            return run.run_last(alloc, compiled, out);
+            return run.run_last(scheduled, out);
         }
-        run.run_piece(alloc, compiled, &buffer[..len], out)?;
+        run.run_piece(scheduled, &buffer[..len], out)?;
     }
     unreachable!()
 }

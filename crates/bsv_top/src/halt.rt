@@ -1,17 +1,15 @@
 ghost use Rattle.std.specs.Prelude.{◌≡◌};
 ghost use Rattle.bsv_top.specs.declared.halt.Halt.TheVariants as halt;
 
-use bsv_bits::OutOfMemory;
 use bsv_io::Failed;
 use bsv_trace::BadLine;
 
-/// Why a trace is not run to its end: a line is bad, the source or the sink failed, or memory is wanting.
+/// Why a trace is not run to its end: a line is bad, or the source or the sink failed.
 #[derive(Clone, Copy)]
 pub(crate) enum Halt {
     BadLine,
     Unreadable,
     Unwritable,
-    OutOfMemory,
 }
 
 impl From<BadLine> for Halt {
@@ -27,13 +25,5 @@ impl From<Failed> for Halt {
 
     fn from(_failed: Failed) -> Halt {
         Halt::Unwritable
-    }
-}
-
-impl From<OutOfMemory> for Halt {
-    ghost from_gives = { λ _ h. h ≡ halt.OutOfMemory };
-
-    fn from(_error: OutOfMemory) -> Halt {
-        Halt::OutOfMemory
     }
 }

@@ -81,56 +81,44 @@ fn sum_of(count: u64, more: usize) -> Result<u64, OutOfMemory>
     count.checked_add(more as u64).ok_or(OutOfMemory)
 }
 
-/// Runs 100 clocks without requests from the opening state, and counts the elements that fire.
-fn run_clocks(alloc: Global, compiled: &Compiled, state: &mut State) -> Result<u64, OutOfMemory>
-    requires compiled { BelongTogether compiled.now }
-    requires start { state.old.parts.items
-        ≡ opening (kinds_of (design_data compiled.now.design)) }
-    ensures { IfOk result (λ count. HasFired compiled.now 100 count state.new.parts.items) }
+/// Runs 100 clocks without requests from the start, and counts the elements that fire.
+fn run_clocks(scheduled: &ScheduledDesign, run: &mut Run) -> Result<u64, OutOfMemory>
+    requires scheduled { IsRunnable scheduled.now }
+    requires start { IsStart scheduled.now run.old }
+    ensures { IfOk result (λ count. HasFired scheduled.now 100 count run.new) }
 {
-    let requests = Requests::new(alloc, &compiled.design)?;
-    let mut fired = Fired::new(alloc, &compiled.design)?;
     let mut count = 0u64;
     for _clock in 0..100u32 {
-        clock(
-            alloc,
-            &compiled.design,
-            &compiled.guards,
-            &compiled.schedule,
-            state,
-            &requests,
-            &mut fired,
-        )?;
-        count = sum_of(count, fired.list.as_slice().len())?;
+        run.sim.clock(&scheduled.schedule, &run.requests, &mut run.fired);
+        count = sum_of(count, run.fired.list.as_slice().len())?;
     }
     Ok(count)
 }
 
-/// The number that a part holds.
-fn number_of(part: &Part) -> Option<Word>
-    ensures { result ≡ spec.number_of part.now }
+/// The number that an instance holds whose registers these are.
+fn number_of(kind: Kind, registers: &[Word]) -> Option<Word>
+    ensures { (p : ThePart) → ShowPart kind registers.now p → result ≡ spec.number_of p }
 {
-    match part {
-        Part::Number(word) => Some(*word),
-        Part::Queue(_) | Part::Held(_) => None,
+    match kind {
+        Kind::Reg(_) | Kind::RegU(_) => Some(kind.item(registers, 0)),
+        Kind::Plain(_) | Kind::Pipeline(_) | Kind::Bypass(_) => None,
+        Kind::Wire(_) | Kind::DWire(_) | Kind::RWire(_) | Kind::Pulse(_) => None,
     }
 }
 
 /// What the first instance of a path holds, where that is a number.
-fn held_at(path: &[u8], instances: &[NamedPart], parts: &[Part]) -> Option<Word>
-    ensures { result ≡ spec.held_at path.now instances.now parts.now }
+fn held_at(path: &[u8], instances: &[NamedPart], registers: &[Word]) -> Option<Word>
+    ensures { (ps : List ThePart) → ShowParts instances.now registers.now ps
+        → result ≡ spec.held_at path.now instances.now ps }
 {
     let mut left = instances;
-    let mut held = parts;
+    let mut held = registers;
     while let Some((instance, others)) = left.split_first() {
-        let Some((part, more)) = held.split_first() else {
-            return None;
-        };
         if instance.path.bytes() == path {
-            return number_of(part);
+            return number_of(instance.kind, held);
         }
         left = others;
-        held = more;
+        held = registers_after(held, instance.kind.registers());
     }
     None
 }
@@ -151,16 +139,16 @@ fn sum_line(alloc: Global, sum: Option<Word>) -> Result<Vec<u8>, OutOfMemory>
 fn summary(
     alloc: Global,
     size: u32,
-    compiled: &Compiled,
+    design: &Design,
     fired: u64,
-    state: &State,
+    registers: &[Word],
 ) -> Result<Vec<u8>, OutOfMemory>
-    ensures { IfOk result (λ text. text.items ≡ summary_of size
-        (length compiled.now.design.elements) (length compiled.now.design.parts) fired
-        (spec.held_at (codes "s") compiled.now.design.parts state.now.parts.items)) }
+    ensures { IfOk result (λ text. (ps : List ThePart)
+        → ShowParts design.now.parts registers.now ps
+        → text.items ≡ summary_of size (length design.now.elements) (length design.now.parts)
+        fired (spec.held_at (codes "s") design.now.parts ps)) }
 {
-    let design = &compiled.design;
-    let sum = held_at(b"s", design.parts.as_slice(), state.parts.as_slice());
+    let sum = held_at(b"s", design.parts.as_slice(), registers);
     let line = sum_line(alloc, sum)?;
     let (mut size_text, mut elements_text) = (Buffer::new(), Buffer::new());
     let (mut instances_text, mut fired_text) = (Buffer::new(), Buffer::new());
@@ -181,14 +169,16 @@ fn summary(
     )
 }
 
-/// Runs what was compiled of the made design, and tells the summary.
-fn sum_up(alloc: Global, size: u32, compiled: &Compiled) -> Result<Vec<u8>, OutOfMemory>
-    requires { BelongTogether compiled.now }
-    ensures { IfOk result (λ text. IsSummary compiled.now size text.items) }
+/// Runs the made design that was compiled, and tells the summary.
+fn sum_up(alloc: Global, size: u32, compiled: Compiled) -> Result<Vec<u8>, OutOfMemory>
+    requires runs { BelongTogether compiled }
+    requires net { NetCarries false (design_scheme (design_data compiled.design))
+        compiled.schedule compiled.net }
+    ensures { IfOk result (λ text. IsSummary (scheduled_of compiled) size text.items) }
 {
-    let mut state = State::opening(alloc, &compiled.design)?;
-    let fired = run_clocks(alloc, compiled, &mut state)?;
-    summary(alloc, size, compiled, fired, &state)
+    let (scheduled, mut run) = start(alloc, compiled)?;
+    let fired = run_clocks(&scheduled, &mut run)?;
+    summary(alloc, size, &scheduled.design, fired, run.sim.registers())
 }
 
 /// Compiles the made design of a size, runs it, and tells the summary.
@@ -198,7 +188,7 @@ fn made_summary<R: Threads + Sync>(rt: &R, alloc: Global, size: u32) -> Result<V
 {
     let mut files = made_files(alloc, size)?;
     let compiled = compile(rt, alloc, &mut files, "made.bsv", "mkMade")?;
-    let text = sum_up(alloc, size, &compiled)?;
+    let text = sum_up(alloc, size, compiled)?;
     Ok(text)
 }
 

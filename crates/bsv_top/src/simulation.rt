@@ -1,5 +1,8 @@
 ghost use Rattle.std.specs.Prelude.{◌≡◌, ◌⊎◌, ℕ, ◌+◌, ◌<◌, ◌≤◌, List, length, Some, Err};
-ghost use Rattle.std.specs.Prelude.{OnOk};
+ghost use Rattle.std.specs.Prelude.{IfOk, OnOk, false};
+ghost use Rattle.bsv_design.specs.scheme.Schemes.{design_scheme};
+ghost use Rattle.bsv_design.specs.scheme.Seen.{design_data};
+ghost use Rattle.bsv_net.specs.ShowsByNet.{NetCarries};
 ghost use Rattle.bsv_io.specs.Faults.{MayFault};
 ghost use Rattle.bsv_io.specs.Reading.{bytes_given};
 ghost use Rattle.bsv_flow.specs.Running.{BelongTogether};
@@ -7,8 +10,8 @@ ghost use Rattle.bsv_flow.specs.declared.refusal.Refusal.{Refusal as TheRefusal}
 ghost use Rattle.bsv_top.specs.Answers.{sim_words};
 ghost use Rattle.bsv_top.specs.Outcomes.{IsDoneBy, IsUnread, OutputStarted};
 ghost use Rattle.bsv_top.specs.Places.{IsTraceWithin, ReadsWithin, piece_limit};
-ghost use Rattle.bsv_top.specs.Running.{IsStart, IsStartedOf, IsDoneOf, IsFaultyOf};
-ghost use Rattle.bsv_top.specs.Running.{Follows, IsFollowed, its_outlines};
+ghost use Rattle.bsv_top.specs.Running.{IsRunnable, IsStart, IsStartedOf, IsDoneOf, IsFaultyOf};
+ghost use Rattle.bsv_top.specs.Running.{Follows, IsFollowed, its_outlines, scheduled_of};
 ghost use Rattle.bsv_top.specs.Stops.{IsStopOf, stop_for};
 ghost use Rattle.bsv_top.specs.declared.halt.Halt.TheVariants as halt;
 ghost use Rattle.bsv_top.specs.declared.stop.Stop.{Stop as TheStop};
@@ -17,37 +20,40 @@ use crate::clocks::Run;
 use crate::follow::run_trace;
 use crate::form::Simulation;
 use crate::halt::Halt;
+use crate::lines::Lines;
+use crate::scheduled::ScheduledDesign;
 use crate::stop::Stop;
-use bsv_bits::Name;
+use bsv_bits::{Name, OutOfMemory};
+use bsv_design::{Fired, Requests};
 use bsv_flow::{Compiled, compile};
 use bsv_io::{Failed, Files, Sink};
-use bsv_trace::write_opening;
+use bsv_sim::Sim;
+use bsv_trace::write_opening_registers;
 use std::alloc::Global;
 use std::thread::Threads;
 
 /// Chooses the trace, and puts the report of its run; `buffer` is room to read into.
 fn put_report<F: Files, O: Sink>(
-    alloc: Global,
     files: &mut F,
     name: Name,
-    compiled: &Compiled,
+    scheduled: &ScheduledDesign,
     run: &mut Run,
     buffer: &mut [u8],
     out: &mut O,
 ) -> Result<(), Halt>
-    requires compiled { BelongTogether compiled.now }
-    requires start { IsStart compiled.now.design run.old }
+    requires scheduled { IsRunnable scheduled.now }
+    requires start { IsStart scheduled.now run.old }
     requires room { 0 < length buffer.old }
     ensures done { OnOk result ((contents : List ℕ → List ℕ)
         → (F.reading files.old).contents ≡ Some contents
-        → IsDoneOf compiled.now (O.writing out.old) (contents name) (O.writing out.new)) }
+        → IsDoneOf scheduled.now (O.writing out.old) (contents name) (O.writing out.new)) }
     ensures bad { result ≡ Err Halt.BadLine → (contents : List ℕ → List ℕ)
         → (F.reading files.old).contents ≡ Some contents
-        → IsFaultyOf compiled.now (O.writing out.old) (contents name) (O.writing out.new)
+        → IsFaultyOf scheduled.now (O.writing out.old) (contents name) (O.writing out.new)
         (run.new.lines.done + 1) }
     ensures started { (contents : List ℕ → List ℕ)
         → (F.reading files.old).contents ≡ Some contents
-        → IsStartedOf compiled.now (O.writing out.old) (contents name) (O.writing out.new) }
+        → IsStartedOf scheduled.now (O.writing out.old) (contents name) (O.writing out.new) }
     ensures unreadable { result ≡ Err Halt.Unreadable
         → MayFault (F.reading files.old).faults (F.reading files.new).faults
         × ((F.reading files.new).blamed ≡ Some name) }
@@ -55,11 +61,11 @@ fn put_report<F: Files, O: Sink>(
         → MayFault (O.writing out.old).faults (O.writing out.new).faults }
     ensures followed { (result ≡ Err Halt.Unreadable → ⊥) → (contents : List ℕ → List ℕ)
         → (F.reading files.old).contents ≡ Some contents
-        → IsFollowed (its_outlines compiled.now) (length buffer.old) name contents
+        → IsFollowed (its_outlines scheduled.now) (length buffer.old) name contents
         (F.reading files.new) }
     ensures within { (contents : List ℕ → List ℕ)
         → (F.reading files.old).contents ≡ Some contents
-        → (bytes_given (F.reading files.new) ≡ 0) ⊎ IsFollowed (its_outlines compiled.now)
+        → (bytes_given (F.reading files.new) ≡ 0) ⊎ IsFollowed (its_outlines scheduled.now)
         (length buffer.old) name contents (F.reading files.new) }
     ensures files_count { (F.reading files.old).faults ≤ (F.reading files.new).faults }
     ensures files_kept { (result ≡ Err Halt.Unreadable → ⊥)
@@ -71,8 +77,8 @@ fn put_report<F: Files, O: Sink>(
     if let Err(Failed) = files.choose(name) {
         return Err(Halt::Unreadable);
     }
-    write_opening(&compiled.design, &run.state, out)?;
-    run_trace(alloc, files, compiled, run, buffer, out)
+    write_opening_registers(&scheduled.design, run.sim.registers(), out)?;
+    run_trace(files, scheduled, run, buffer, out)
 }
 
 /// Why a trace of this name is not run to its end; its next line has this number.
@@ -83,29 +89,61 @@ fn stop_for(halt: Halt, trace: Name, number: u64) -> Stop
         Halt::BadLine => Stop::BadLine(number),
         Halt::Unreadable => Stop::Unread(trace),
         Halt::Unwritable => Stop::Unwritable,
-        Halt::OutOfMemory => Stop::OutOfMemory,
     }
 }
 
-/// Runs what was compiled over the trace of a name.
+/// What is run of what was compiled, and the start of its run. All memory is taken here that a clock needs.
+fn start(alloc: Global, compiled: Compiled) -> Result<(ScheduledDesign, Run), OutOfMemory>
+    requires runs { BelongTogether compiled }
+    requires net { NetCarries false (design_scheme (design_data compiled.design))
+        compiled.schedule compiled.net }
+    ensures scheduled { IfOk result (λ parts. parts.0 ≡ scheduled_of compiled) }
+    ensures start { IfOk result (λ parts. IsStart parts.0 parts.1) }
+{
+    let requests = Requests::new(alloc, &compiled.design)?;
+    let fired = Fired::new(alloc, &compiled.design)?;
+    let lines = Lines::new(alloc)?;
+    let Compiled {
+        design,
+        schedule,
+        net,
+        ..
+    } = compiled;
+    let sim = Sim::make(alloc, net)?;
+    Ok((
+        ScheduledDesign { design, schedule },
+        Run {
+            lines,
+            sim,
+            requests,
+            fired,
+        },
+    ))
+}
+
+/// Runs a scheduled design over the trace of a name, from the start of its run.
 fn run_over<F: Files, O: Sink>(
     alloc: Global,
     files: &mut F,
-    compiled: &Compiled,
+    scheduled: &ScheduledDesign,
+    run: &mut Run,
     trace: &str,
     out: &mut O,
 ) -> Result<(), Stop>
-    requires { BelongTogether compiled.now }
+    requires scheduled { IsRunnable scheduled.now }
+    requires start { IsStart scheduled.now run.old }
     ensures done { OnOk result ((contents : List ℕ → List ℕ)
         → (F.reading files.old).contents ≡ Some contents
-        → IsDoneOf compiled.now (O.writing out.old) (contents trace.now) (O.writing out.new)) }
+        → IsDoneOf scheduled.now (O.writing out.old) (contents trace.now) (O.writing out.new)) }
     ensures bad { (number : ℕ) → result ≡ Err (Stop.BadLine number) → (contents : List ℕ → List ℕ)
         → (F.reading files.old).contents ≡ Some contents
-        → IsFaultyOf compiled.now (O.writing out.old) (contents trace.now) (O.writing out.new)
+        → IsFaultyOf scheduled.now (O.writing out.old) (contents trace.now) (O.writing out.new)
         number }
     ensures started { (contents : List ℕ → List ℕ)
         → (F.reading files.old).contents ≡ Some contents
-        → IsStartedOf compiled.now (O.writing out.old) (contents trace.now) (O.writing out.new) }
+        → IsStartedOf scheduled.now (O.writing out.old) (contents trace.now) (O.writing out.new) }
+    ensures no_memory { result ≡ Err Stop.OutOfMemory
+        → O.writing out.new ≡ O.writing out.old }
     ensures own { (r : TheRefusal) → result ≡ Err (Stop.Refused r) → ⊥ }
     ensures unread { (name : List ℕ) → result ≡ Err (Stop.Unread name) → (name ≡ trace.now)
         × MayFault (F.reading files.old).faults (F.reading files.new).faults
@@ -113,15 +151,15 @@ fn run_over<F: Files, O: Sink>(
     ensures unwritable { result ≡ Err Stop.Unwritable
         → MayFault (O.writing out.old).faults (O.writing out.new).faults }
     ensures within { (contents : List ℕ → List ℕ) → (F.reading files.old).contents ≡ Some contents
-        → Follows (its_outlines compiled.now) trace.now contents
+        → Follows (its_outlines scheduled.now) trace.now contents
         (F.reading files.old) (F.reading files.new) }
     ensures done_within { OnOk result ((contents : List ℕ → List ℕ)
         → (F.reading files.old).contents ≡ Some contents
-        → IsFollowed (its_outlines compiled.now) piece_limit trace.now contents
+        → IsFollowed (its_outlines scheduled.now) piece_limit trace.now contents
         (F.reading files.new)) }
     ensures bad_within { (number : ℕ) → result ≡ Err (Stop.BadLine number)
         → (contents : List ℕ → List ℕ) → (F.reading files.old).contents ≡ Some contents
-        → IsFollowed (its_outlines compiled.now) piece_limit trace.now contents
+        → IsFollowed (its_outlines scheduled.now) piece_limit trace.now contents
         (F.reading files.new) }
     ensures files_count { (F.reading files.old).faults ≤ (F.reading files.new).faults }
     ensures files_kept { ((name : List ℕ) → result ≡ Err (Stop.Unread name) → ⊥)
@@ -130,11 +168,10 @@ fn run_over<F: Files, O: Sink>(
     ensures out_kept { (result ≡ Err Stop.Unwritable → ⊥)
         → (O.writing out.new).faults ≡ (O.writing out.old).faults }
 {
-    let mut run = Run::new(alloc, &compiled.design)?;
     let mut buffer = vec![in alloc; 0u8; 4096]?;
     let name = Name::new(alloc, trace.as_bytes())?;
     let blamed = Name::new(alloc, trace.as_bytes())?;
-    match put_report(alloc, files, name, compiled, &mut run, &mut buffer, out) {
+    match put_report(files, name, scheduled, run, &mut buffer, out) {
         Ok(()) => Ok(()),
         Err(halt) => Err(stop_for(halt, blamed, run.lines.done + 1)),
     }
@@ -160,6 +197,8 @@ pub(crate) fn simulate<R: Threads + Sync, F: Files, O: Sink>(
         → (F.reading files.old).contents ≡ Some contents
         → OutputStarted (sim_words form.entry.file.now form.entry.top.now form.entry.trace.now)
         contents (O.writing out.old) (O.writing out.new) }
+    ensures no_memory { result ≡ Err Stop.OutOfMemory
+        → O.writing out.new ≡ O.writing out.old }
     ensures refused { (r : TheRefusal) → result ≡ Err (Stop.Refused r)
         → O.writing out.new ≡ O.writing out.old }
     ensures unread { (name : List ℕ) → result ≡ Err (Stop.Unread name)
@@ -187,5 +226,6 @@ pub(crate) fn simulate<R: Threads + Sync, F: Files, O: Sink>(
         → (O.writing out.new).faults ≡ (O.writing out.old).faults }
 {
     let compiled = compile(rt, alloc, files, form.file, form.top)?;
-    run_over(alloc, files, &compiled, form.trace, out)
+    let (scheduled, mut run) = start(alloc, compiled)?;
+    run_over(alloc, files, &scheduled, &mut run, form.trace, out)
 }
