@@ -51,6 +51,8 @@ use Rattle.bsv_clock.proofs.Belonging as belonging
 use Rattle.bsv_net.specs.declared.net.Net.{Net}
 use Rattle.bsv_net.specs.ShowsByNet.{NetCarries}
 use Rattle.bsv_net.proofs.Hardware.{net_carried_to}
+use Rattle.bsv_net.specs.AtHand.{net_data}
+use Rattle.bsv_share.specs.Sharing.{IsDistinct, IsFolded, IsNeeded}
 use Rattle.bsv_vtext.specs.declared.modules.VModule.{VModule}
 use Rattle.bsv_vtext.specs.AtHand.{module_data}
 use Rattle.bsv_flow.specs.declared.refusal.CompileFault.{CompileFault}
@@ -355,9 +357,9 @@ schedule_there d made execution urgency e u executes urges stops =
 
 pub compiled_of : (h : TreeData) (d : Design) (g : Guards) (s : Schedule) (n : Net) (v : VModule) → AreAlike (tree_scheme h) (design_scheme (design_data d))
     → top_name h ≡ Some d.name → d.parts ≡ parts_among h.instances → g.needs ≡ needs_of (kinds_of (design_data d)) d.elements
-    → AreLifted (design_data d) g.needs → NetCarries false (design_scheme (design_data d)) s n
+    → AreLifted (design_data d) g.needs → NetCarries false (design_scheme (design_data d)) s n → IsFolded n.nodes → IsDistinct n.nodes → IsNeeded (net_data n)
     → IsVerilogOf h s (module_data v) → IsCompiledOf h (record { design = d; guards = g; schedule = s; net = n; verilog = v })
-compiled_of h d g s n v alike name parts needs lifted carries verilog =
+compiled_of h d g s n v alike name parts needs lifted carries folded distinct needed verilog =
     let S = tree_scheme h in
     let T = design_scheme (design_data d) in
     record {
@@ -367,6 +369,9 @@ compiled_of h d g s n v alike name parts needs lifted carries verilog =
       needs = needs;
       lifted = lifted;
       carries = net_carried_to false S T s n alike carries;
+      folded = folded;
+      distinct = distinct;
+      needed = needed;
       verilog = verilog;
     }
 

@@ -32,7 +32,9 @@ use Rattle.bsv_attr.specs.Asserting.{IsAccepted, NamesImplicit, NamesStopper}
 use Rattle.bsv_attr.specs.Implicit.{demands_of}
 use Rattle.bsv_guard.specs.Lifted.{AreLifted}
 use Rattle.bsv_inline.specs.Flattening.{top_name}
+use Rattle.bsv_net.specs.AtHand.{net_data}
 use Rattle.bsv_net.specs.ShowsByNet.{NetCarries}
+use Rattle.bsv_share.specs.Sharing.{IsDistinct, IsFolded, IsNeeded}
 use Rattle.bsv_vtext.specs.AtHand.{module_data}
 use Rattle.bsv_vtext.specs.Modules.{IsModule}
 use Rattle.bsv_vtext.specs.Signals.{VModuleData}
@@ -194,4 +196,8 @@ pub record IsCompiledOf (h : TreeData) (c : Compiled) : Type 0 where
   pub needs : c.guards.needs ≡ needs_of (kinds_of (design_data c.design)) c.design.elements
   pub lifted : AreLifted (design_data c.design) c.guards.needs
   pub carries : NetCarries false (tree_scheme h) c.schedule c.net
+  -- no operator of the net has constants alone for operands, no two of its nodes are equal, and each is needed
+  pub folded : IsFolded c.net.nodes
+  pub distinct : IsDistinct c.net.nodes
+  pub needed : IsNeeded (net_data c.net)
   pub verilog : IsVerilogOf h c.schedule (module_data c.verilog)

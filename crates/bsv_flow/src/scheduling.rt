@@ -13,7 +13,9 @@ ghost use Rattle.bsv_schedule.specs.execution_order.Orders.{Executes};
 ghost use Rattle.bsv_schedule.specs.relating.Relating.{feed_edges};
 ghost use Rattle.bsv_schedule.specs.urgency_order.Orders.{Urges};
 ghost use Rattle.bsv_graph.specs.Walks.{IsAcyclic};
-ghost use Rattle.bsv_net.specs.ShowsByNet.{NetCarries};
+ghost use Rattle.bsv_net.specs.AtHand.{net_data};
+ghost use Rattle.bsv_net.specs.ShowsByNet.{NamesResults, NetCarries};
+ghost use Rattle.bsv_share.specs.Sharing.{IsDistinct, IsFolded, IsNeeded};
 ghost use Rattle.bsv_flow.specs.Breaches as breaches;
 ghost use Rattle.bsv_flow.specs.Running.{BelongTogether};
 ghost use Rattle.bsv_flow.specs.Schedulings as spec;
@@ -40,6 +42,7 @@ use bsv_fire::add_fire;
 use bsv_mux::add_next;
 use bsv_net::Net;
 use bsv_schedule::{OrderFault, UrgencyFault, execution, schedule, urgency};
+use bsv_share::share;
 use bsv_tree::Tree;
 use bsv_vgen::generate;
 use bsv_vtext::VModule;
@@ -260,7 +263,7 @@ fn asserted(alloc: Global, design: &Design, schedule: &Schedule) -> Result<(), C
     }
 }
 
-/// The net of a design, which is its hardware.
+/// The net of a design, which is its hardware, without repeats.
 fn net_of(
     alloc: Global,
     design: &Design,
@@ -271,11 +274,17 @@ fn net_of(
     requires needs { guards.now.needs
         ≡ needs_of (kinds_of (design_data design.now)) design.now.elements }
     requires schedule { IsScheduleOf (design_scheme (design_data design.now)) schedule.now }
-    ensures { IfOk result
+    ensures carries { IfOk result
         (NetCarries false (design_scheme (design_data design.now)) schedule.now) }
+    ensures results { IfOk result (λ net.
+        NamesResults (design_scheme (design_data design.now)) (net_data net)) }
+    ensures folded { IfOk result (λ net. IsFolded net.nodes) }
+    ensures distinct { IfOk result (λ net. IsDistinct net.nodes) }
+    ensures needed { IfOk result (λ net. IsNeeded (net_data net)) }
 {
     let net = add_fire(alloc, design, guards, schedule)?;
-    add_next(alloc, design, schedule, net)
+    let net = add_next(alloc, design, schedule, net)?;
+    share(alloc, &net)
 }
 
 /// The design of a tree with its guards, its schedule, which obeys the attributes, and its net and its

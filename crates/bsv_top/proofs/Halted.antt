@@ -13,26 +13,27 @@ of_bad : (h : Halt) (trace : List ℕ) (n number : ℕ) → stop_for h trace n �
 of_bad halt.BadLine trace n number same = (refl, cc)
 of_bad halt.Unreadable trace n number same = absurd (let no_value : ⊥ = cc in no_value)
 of_bad halt.Unwritable trace n number same = absurd (let no_value : ⊥ = cc in no_value)
-of_bad halt.OutOfMemory trace n number same = absurd (let no_value : ⊥ = cc in no_value)
 
 -- a trace that cannot be read, with its name
 of_unread : (h : Halt) (trace : List ℕ) (n : ℕ) (name : List ℕ) → stop_for h trace n ≡ stop.Unread name → (h ≡ halt.Unreadable) × (trace ≡ name)
 of_unread halt.BadLine trace n name same = absurd (let no_value : ⊥ = cc in no_value)
 of_unread halt.Unreadable trace n name same = (refl, cc)
 of_unread halt.Unwritable trace n name same = absurd (let no_value : ⊥ = cc in no_value)
-of_unread halt.OutOfMemory trace n name same = absurd (let no_value : ⊥ = cc in no_value)
 
 of_unwritable : (h : Halt) (trace : List ℕ) (n : ℕ) → stop_for h trace n ≡ stop.Unwritable → h ≡ halt.Unwritable
 of_unwritable halt.BadLine trace n same = absurd (let no_value : ⊥ = cc in no_value)
 of_unwritable halt.Unreadable trace n same = absurd (let no_value : ⊥ = cc in no_value)
 of_unwritable halt.Unwritable trace n same = refl
-of_unwritable halt.OutOfMemory trace n same = absurd (let no_value : ⊥ = cc in no_value)
 
 never_refused : (h : Halt) (trace : List ℕ) (n : ℕ) (r : Refusal) → stop_for h trace n ≡ stop.Refused r → ⊥
 never_refused halt.BadLine trace n r same = let no_value : ⊥ = cc in no_value
 never_refused halt.Unreadable trace n r same = let no_value : ⊥ = cc in no_value
 never_refused halt.Unwritable trace n r same = let no_value : ⊥ = cc in no_value
-never_refused halt.OutOfMemory trace n r same = let no_value : ⊥ = cc in no_value
+
+never_memory : (h : Halt) (trace : List ℕ) (n : ℕ) → stop_for h trace n ≡ stop.OutOfMemory → ⊥
+never_memory halt.BadLine trace n same = let no_value : ⊥ = cc in no_value
+never_memory halt.Unreadable trace n same = let no_value : ⊥ = cc in no_value
+never_memory halt.Unwritable trace n same = let no_value : ⊥ = cc in no_value
 
 module _ {A : Type 0} (s : Stop) (h : Halt) (trace : List ℕ) (n : ℕ) (is : s ≡ stop_for h trace n) where
   stopped_as : (t : Stop) → ◌≡◌ {A = Result A Stop} (Err s) (Err t) → stop_for h trace n ≡ t
@@ -49,6 +50,10 @@ module _ {A : Type 0} (s : Stop) (h : Halt) (trace : List ℕ) (n : ℕ) (is : s
 
   pub halted_refused : (r : Refusal) → ◌≡◌ {A = Result A Stop} (Err s) (Err (stop.Refused r)) → ⊥
   halted_refused r same = never_refused h trace n r (stopped_as (stop.Refused r) same)
+
+  -- nothing wants memory
+  pub halted_memory : ◌≡◌ {A = Result A Stop} (Err s) (Err stop.OutOfMemory) → ⊥
+  halted_memory same = never_memory h trace n (stopped_as stop.OutOfMemory same)
 
   -- a trace that could not be read is told
   pub halted_read : ((name : List ℕ) → ◌≡◌ {A = Result A Stop} (Err s) (Err (stop.Unread name)) → ⊥) → h ≡ halt.Unreadable → ⊥

@@ -1,6 +1,7 @@
 -- What is run of a design is run of its tree.
 use Rattle.std.specs.Prelude.{slice_get}
-use Rattle.std.proofs.Common.{◌≡◌, ◌∙◌, ℕ, ◌+◌, Bool, false, List, [], ◌∷◌, ◌++◌, refl, sym, ap, ap₂, subst}
+use Rattle.bsv_io.specs.Reading.{Current}
+use Rattle.std.proofs.Common.{◌≡◌, ◌∙◌, ℕ, ◌+◌, Bool, false, Option, None, Some, List, [], ◌∷◌, ◌++◌, refl, sym, ap, ap₂, subst}
 use Rattle.bsv_prim.specs.declared.part.Part.{Part}
 use Rattle.bsv_design.specs.declared.design.Design.{Design}
 use Rattle.bsv_design.specs.declared.design.NamedPart.{NamedPart}
@@ -20,6 +21,7 @@ use Rattle.bsv_guard.proofs.Alike.{alike_back}
 use Rattle.bsv_flow.specs.Breaches.{outline_name}
 use Rattle.bsv_flow.specs.Schedulings.{Subject, design_subject, subject}
 use Rattle.bsv_top.specs.Reports.{report, clocks_text}
+use Rattle.bsv_top.specs.Interrupted.{IsInterrupted, IsReportTo}
 use Rattle.bsv_top.specs.Running.{IsStarted, IsDone, IsFaulty}
 use Rattle.bsv_top.specs.Traces.{AreAsked, IsClean, HasBadLine}
 
@@ -91,6 +93,24 @@ module _ (tree : TreeData) (d : Design) (made : Schedule) (al : AreAlike (tree_s
     number_is = h.number_is;
     put = h.put ∙ ap (λ (t : List ℕ). appended t start) (report_here h.rows);
   }
+
+  report_to : (place : ℕ) → IsReportTo (design_subject d) made start trace place w → IsReportTo (subject tree) made start trace place w
+  report_to place h = record {
+    front = h.front;
+    rest = h.rest;
+    qs = h.qs;
+    rows = h.rows;
+    lines = h.lines;
+    before = h.before;
+    unended = h.unended;
+    asked = subst (λ (os : List Outline). AreAsked os 0 h.front h.qs) (sym al.elements) h.asked;
+    runs = runs_here h.qs h.rows h.runs;
+    put = h.put ∙ ap (λ (t : List ℕ). appended t start) (report_here h.rows);
+  }
+
+  pub interrupted_here : (at : Option Current) → IsInterrupted (design_subject d) made start trace at w → IsInterrupted (subject tree) made start trace at w
+  interrupted_here None h = h
+  interrupted_here (Some at) h = report_to at.place h
 
   pub started_here : IsStarted (design_subject d) made start trace w → IsStarted (subject tree) made start trace w
   started_here h = record {

@@ -8,7 +8,6 @@ use Rattle.bsv_prim.specs.declared.part.Part.{Part}
 use Rattle.bsv_design.specs.declared.design.Design.{Design}
 use Rattle.bsv_design.specs.declared.design.NamedPart.{NamedPart}
 use Rattle.bsv_design.specs.declared.kind.Kind.{Kind}
-use Rattle.bsv_design.specs.declared.fired.Fired.{Fired}
 use Rattle.bsv_design.specs.declared.schedule.Schedule.{Schedule}
 use Rattle.bsv_design.specs.scheme.Schemes.{Scheme, Asking, Outline, design_scheme, kinds_of, outline}
 use Rattle.bsv_design.specs.scheme.Seen.{design_data}
@@ -41,6 +40,12 @@ use Rattle.bsv_top.specs.MadeRuns.{HasFired, IsMadeStop, IsSummary}
 use Rattle.bsv_top.specs.Outcomes.{IsDoneBy, OutputStarted, started}
 use Rattle.bsv_top.specs.Stops.{IsStopOf, stop_of}
 use Rattle.bsv_top.specs.Reports.{state_after}
+use Rattle.bsv_top.specs.Running.{IsStart, ShowsParts, scheduled_of}
+use Rattle.bsv_top.specs.declared.clocks.Run.{Run}
+use Rattle.bsv_top.specs.declared.scheduled.ScheduledDesign.{ScheduledDesign}
+use Rattle.bsv_sim.specs.Simulation.{IsClockOf, registers_of}
+use Rattle.bsv_clock.specs.Shows.{Shows}
+use Rattle.bsv_trace.specs.Shown.{ShowParts}
 use Rattle.bsv_top.proofs.Grounds as grounds
 use Rattle.bsv_top.proofs.Happening.{some_run}
 use Rattle.bsv_top.proofs.Named.{kinds_are, outlines_are}
@@ -88,25 +93,28 @@ count_more [] row = omega arith
 count_more (first ∷ rows) row = let further = count_more rows row in omega (arith, further)
 
 -- before the first clock
-pub none_fired : (c : Compiled) (s : List Part) → s ≡ opening (kinds_of (design_data c.design)) → HasFired c 0 0 s
+pub none_fired : (c : ScheduledDesign) (r : Run) → IsStart c r → HasFired c 0 0 r
 unfolding nothing_for
-none_fired c s start = record { rows = []; runs = tt; state = start ∙ ap opening (kinds_are c.design); count_is = refl }
+none_fired c r start = record { rows = []; runs = tt; state = subst (ShowsParts c r) (ap opening (kinds_are c.design)) start.state; count_is = refl }
 
 -- a clock more
-pub fired_more : (c : Compiled) (clocks count more : ℕ) (s after : List Part) (fired : Fired) (q : Asking) → HasFired c clocks count s → q ≡ nothing_asked c.design.elements
-    → Happens false (design_scheme (design_data c.design)) c.schedule q s fired after → more ≡ count + length fired.list.items → HasFired c (clocks + 1) more after
+pub fired_more : (c : ScheduledDesign) (clocks count more : ℕ) (old new : Run) (q : Asking) → (h : HasFired c clocks count old) → q ≡ nothing_asked c.design.elements
+    → IsClockOf c.design c.schedule q (state_after (opening (design_scheme (design_data c.design)).kinds) h.rows) new.fired (registers_of new.sim)
+    → more ≡ count + length new.fired.list.items → HasFired c (clocks + 1) more new
 unfolding nothing_for
-fired_more c clocks count more s after fired q h asked happens is =
+fired_more c clocks count more old new q h asked clock is =
+    let after = clock.after in
+    let fired = new.fired in
     let T = design_scheme (design_data c.design) in
     let none = nothing_of (methods_among T.elements) in
     let row : Row = record { fired = fired; after = after } in
     let this : Happens false T c.schedule none (state_after (opening T.kinds) h.rows) fired after =
-    subst (λ (ps : List Part). Happens false T c.schedule none ps fired after) h.state (subst (λ (x : Asking). Happens false T c.schedule x s fired after) (asked ∙ nothing_here c.design) happens) in
+    subst (λ (x : Asking). Happens false T c.schedule x (state_after (opening T.kinds) h.rows) fired after) (asked ∙ nothing_here c.design) clock.happens in
     record {
       rows = h.rows ++ row ∷ [];
       runs = subst (λ (qs : List Asking). Runs false T c.schedule qs (h.rows ++ row ∷ [])) (replicate_more clocks none)
           (continues_append false T c.schedule (opening T.kinds) (replicate clocks none) (none ∷ []) h.rows (row ∷ []) h.runs (this, tt));
-      state = sym (state_append (opening T.kinds) h.rows (row ∷ []));
+      state = subst (ShowsParts c new) (sym (state_append (opening T.kinds) h.rows (row ∷ []))) (record { fits = clock.fits; shows = clock.shows });
       count_is = is ∙ ap (λ (n : ℕ). n + length fired.list.items) h.count_is ∙ sym (count_more h.rows row);
     }
 
@@ -118,19 +126,21 @@ texts_same a b c d e a' b' c' d' e' first second third fourth fifth = cc
 counts_same : (n k m j i o : ℕ) (w v : Option Bits) → k ≡ j → m ≡ i → n ≡ o → w ≡ v → (size : ℕ) → summary_of size k m n w ≡ summary_of size j i o v
 counts_same n k m j i o w v first second third fourth size = cc
 
-pub summed : (c : Compiled) (size count : ℕ) (s : List Part) (text : List ℕ) → HasFired c 100 count s
-    → text ≡ summary_of size (length c.design.elements) (length c.design.parts) count (held_at (codes "s") c.design.parts s) → IsSummary c size text
-summed c size count s text h is =
+pub summed : (c : ScheduledDesign) (size count : ℕ) (r : Run) (ws : List Bits) (text : List ℕ) → HasFired c 100 count r → ws ≡ registers_of r.sim
+    → ((ps : List Part) → ShowParts c.design.parts ws ps → text ≡ summary_of size (length c.design.elements) (length c.design.parts) count (held_at (codes "s") c.design.parts ps)) → IsSummary c size text
+summed c size count r ws text h same is =
     let T = design_scheme (design_data c.design) in
+    let ps = state_after (opening T.kinds) h.rows in
+    let shown : ShowParts c.design.parts ws ps = record { fits = h.state.fits; shows = subst (Shows (kinds_of (design_data c.design)) ps) (sym same) h.state.shows } in
     record {
       rows = h.rows;
       runs = h.runs;
-      is = is
+      is = is ps shown
           ∙ counts_same count (length c.design.elements) (length c.design.parts) (length T.elements) (length T.kinds) (fired_count h.rows)
-          (held_at (codes "s") c.design.parts s) (held_at (codes "s") c.design.parts (state_after (opening T.kinds) h.rows))
+          (held_at (codes "s") c.design.parts ps) (held_at (codes "s") c.design.parts ps)
           (sym (length-map c.design.elements outline) ∙ ap (λ (os : List Outline). length os) (outlines_are c.design))
           (sym (length-map c.design.parts (λ (p : NamedPart). p.kind)) ∙ ap (λ (ks : List Kind). length ks) (kinds_are c.design))
-          h.count_is (ap (held_at (codes "s") c.design.parts) h.state) size;
+          h.count_is refl size;
     }
 
 summary_there : (n : ℕ) (s t : Subject) → s.parts ≡ t.parts → s.scheme.elements ≡ t.scheme.elements → s.scheme.kinds ≡ t.scheme.kinds → (rows : List Row) → summary n s rows ≡ summary n t rows
@@ -144,7 +154,7 @@ unfolding nothing_for
 nothing_same clocks S T elements = ap (λ (os : List Outline). replicate clocks (nothing_of (methods_among os))) elements
 
 -- what is compiled of the made text and run is an answer
-pub made_done : (size : ℕ) (c : Compiled) (x : IsCompiled made_file (made_contents size) made_top c) (text : List ℕ) → IsSummary c size text → MadeAnswer size status.Done text []
+pub made_done : (size : ℕ) (c : Compiled) (x : IsCompiled made_file (made_contents size) made_top c) (text : List ℕ) → IsSummary (scheduled_of c) size text → MadeAnswer size status.Done text []
 made_done size c x text h =
     let S = tree_scheme x.compiled.tree in
     let T = design_scheme (design_data c.design) in

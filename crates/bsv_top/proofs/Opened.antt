@@ -1,24 +1,33 @@
 -- A report whose opening state is put, and a trace that is chosen.
 use Rattle.std.proofs.Common.{◌≡◌, ◌⊎◌, inl, inr, ◌∙◌, ℕ, ◌+◌, ◌≤◌, List, [], length, refl, sym, ap, subst, arith}
 use Rattle.bsv_prim.specs.declared.part.Part.{Part}
-use Rattle.bsv_design.specs.scheme.Schemes.{Asking, Outline}
+use Rattle.bsv_bits.specs.Words.{Bits}
+use Rattle.bsv_clock.specs.Shows.{Shows}
+use Rattle.bsv_design.specs.scheme.Schemes.{Asking, Outline, kinds_of}
+use Rattle.bsv_design.specs.scheme.Seen.{design_data}
 use Rattle.bsv_design.specs.scheme.States.{opening}
 use Rattle.bsv_io.specs.Reading.{Reading, bytes_given, chosen, current_name}
 use Rattle.bsv_io.specs.Writing.{Writing, appended, AppendsPrefix}
 use Rattle.bsv_io.proofs.Appended.{nothing_put}
+use Rattle.bsv_trace.specs.Shown.{ShowParts}
 use Rattle.bsv_trace.specs.Texts.{opening_text}
-use Rattle.bsv_flow.specs.declared.scheduling.Compiled.{Compiled}
+use Rattle.bsv_sim.specs.Simulation.{registers_of}
 use Rattle.bsv_top.specs.declared.clocks.Run.{Run}
+use Rattle.bsv_top.specs.declared.scheduled.ScheduledDesign.{ScheduledDesign}
 use Rattle.bsv_top.specs.Reports.{report}
 use Rattle.bsv_top.specs.Places.{piece_limit}
 use Rattle.bsv_top.specs.Running as running
-use Rattle.bsv_top.specs.Running.{Follows, HasRun, IsStartedOf, IsFollowed, IsStart, its_subject}
+use Rattle.bsv_top.specs.Running.{Follows, HasRun, IsStartedOf, IsFollowed, IsStart, ShowsParts, its_subject}
 use Rattle.bsv_top.specs.Traces.{HasBadLine, bytes_in, lines_of}
 use Rattle.bsv_top.proofs.Named.{kinds_are}
 use Rattle.bsv_top.proofs.Runs.{report_none}
 use Rattle.bsv_top.proofs.Stepping.{nothing_run}
 
-module _ (c : Compiled) (start w : Writing) where
+module _ (c : ScheduledDesign) (start w : Writing) where
+  -- the state before the first clock
+  abbrev pub first_parts : List Part
+  first_parts = opening (its_subject c).scheme.kinds
+
   module _ (trace : List ℕ) where
     no_clock : AppendsPrefix (report (its_subject c) []) start w → IsStartedOf c start trace w
     no_clock prefix = record { front = []; rest = lines_of trace; qs = []; rows = []; lines = refl; asked = tt; runs = tt; prefix = prefix }
@@ -28,18 +37,21 @@ module _ (c : Compiled) (start w : Writing) where
     nothing_started same = no_clock (subst (λ (v : Writing). AppendsPrefix (report (its_subject c) []) start v) (sym same) (nothing_put (report (its_subject c) []) start))
 
     -- a prefix of the opening state is put
-    pub opening_started : (parts : List Part) → parts ≡ opening (its_subject c).scheme.kinds → AppendsPrefix (opening_text c.design.parts parts) start w → IsStartedOf c start trace w
-    opening_started parts first prefix =
-        no_clock (subst (λ (t : List ℕ). AppendsPrefix t start w) (ap (opening_text c.design.parts) first ∙ sym (report_none (its_subject c))) prefix)
+    pub opening_started : AppendsPrefix (opening_text c.design.parts first_parts) start w → IsStartedOf c start trace w
+    opening_started prefix = no_clock (subst (λ (t : List ℕ). AppendsPrefix t start w) (sym (report_none (its_subject c))) prefix)
 
-  module _ (r : Run) (first : IsStart c.design r) where
-    pub opened_at : r.state.parts.items ≡ opening (its_subject c).scheme.kinds
-    opened_at = first.state ∙ ap opening (kinds_are c.design)
+  module _ (r : Run) (first : IsStart c r) where
+    pub opened_at : ShowsParts c r first_parts
+    opened_at = subst (ShowsParts c r) (ap opening (kinds_are c.design)) first.state
+
+    -- as the writer of the opening asks
+    pub shown_here : (ws : List Bits) → ws ≡ registers_of r.sim → ShowParts c.design.parts ws first_parts
+    shown_here ws same =
+        record { fits = opened_at.fits; shows = subst (Shows (kinds_of (design_data c.design)) first_parts) (sym same) opened_at.shows }
 
     -- the opening state is put
-    pub opened : w ≡ appended (opening_text c.design.parts r.state.parts.items) start → HasRun c start [] r w
-    opened put =
-        nothing_run c start r w first.done first.at first.none opened_at (put ∙ ap (λ (ps : List Part). appended (opening_text c.design.parts ps) start) opened_at)
+    pub opened : w ≡ appended (opening_text c.design.parts first_parts) start → HasRun c start [] r w
+    opened put = nothing_run c start r w first.done first.at first.none opened_at put
 
 -- how far a trace was read that was just chosen
 module _ (os : List Outline) (room : ℕ) (name : List ℕ) (contents : List ℕ → List ℕ) (old at new : Reading) (choice : at ≡ chosen name old) where

@@ -19,12 +19,12 @@ use Rattle.bsv_top.specs.Answers as a
 use Rattle.bsv_top.specs.Answers.{Answer, Asks, sim_words, trace_fault_line}
 use Rattle.bsv_top.specs.LaidOut.{IsLaidOut}
 use Rattle.bsv_top.specs.Outcomes as o
-use Rattle.bsv_top.specs.Outcomes.{IsDoneBy, IsUnread, OutputStarted}
+use Rattle.bsv_top.specs.Outcomes.{IsDoneBy, IsUnread, OutputStarted, StopsReport}
 use Rattle.bsv_top.specs.Places as places
 use Rattle.bsv_top.specs.Places.{IsTraceWithin, ReadsWithin, piece_limit}
 use Rattle.bsv_top.specs.Reports.{report}
 use Rattle.bsv_top.specs.Running as running
-use Rattle.bsv_top.specs.Running.{Follows, IsStartedOf, IsDoneOf, IsFaultyOf, IsFollowed, its_outlines}
+use Rattle.bsv_top.specs.Running.{Follows, IsStartedOf, IsDoneOf, IsFaultyOf, IsFollowed, IsInterruptedOf, its_outlines, scheduled_of}
 use Rattle.bsv_top.specs.Stops.{IsStopOf}
 use Rattle.bsv_top.specs.Traces.{HasBadLine}
 use Rattle.bsv_top.proofs.Answering as answering
@@ -45,7 +45,7 @@ module _ (file : List ℕ) (contents : List ℕ → List ℕ) (top trace : List 
 
   -- ---- answers
 
-  pub simulated_done : (w next : Writing) → IsDoneOf c w (contents trace) next → IsDoneBy words contents w next
+  pub simulated_done : (w next : Writing) → IsDoneOf (scheduled_of c) w (contents trace) next → IsDoneBy words contents w next
   simulated_done w next h =
       let done = lifting.done_here tree c.design c.schedule x.compiled.design.alike x.compiled.design.parts w (contents trace) next h in
       record {
@@ -55,12 +55,20 @@ module _ (file : List ℕ) (contents : List ℕ → List ℕ) (top trace : List 
         put = done.put;
       }
 
-  pub simulated_started : (w next : Writing) → IsStartedOf c w (contents trace) next → OutputStarted words contents w next
+  pub simulated_started : (w next : Writing) → IsStartedOf (scheduled_of c) w (contents trace) next → OutputStarted words contents w next
   simulated_started w next h =
       answering.started_output words contents file top trace refl tree c.schedule planned laid w next
       (lifting.started_here tree c.design c.schedule x.compiled.design.alike x.compiled.design.parts w (contents trace) next h)
 
-  simulated_bad : (w next : Writing) (number : ℕ) → IsFaultyOf c w (contents trace) next number → IsStopOf words contents w next (stop.BadLine number)
+  pub simulated_interrupted : (w next : Writing) (at : Option Current) → IsInterruptedOf (scheduled_of c) w (contents trace) at next → StopsReport file top trace contents at w next
+  simulated_interrupted w next at h = record {
+    tree = tree;
+    made = c.schedule;
+    planned = planned;
+    put = lifting.interrupted_here tree c.design c.schedule x.compiled.design.alike x.compiled.design.parts w (contents trace) next at h;
+  }
+
+  simulated_bad : (w next : Writing) (number : ℕ) → IsFaultyOf (scheduled_of c) w (contents trace) next number → IsStopOf words contents w next (stop.BadLine number)
   simulated_bad w next number h =
       let bad = lifting.faulty_here tree c.design c.schedule x.compiled.design.alike x.compiled.design.parts w (contents trace) next number h in (
         report (subject tree) bad.rows,
@@ -69,7 +77,7 @@ module _ (file : List ℕ) (contents : List ℕ → List ℕ) (top trace : List 
         bad.put,
       )
 
-  pub simulated_stop : (w next : Writing) (s : Stop) → ((number : ℕ) → s ≡ stop.BadLine number → IsFaultyOf c w (contents trace) next number) → ((r : Refusal) → s ≡ stop.Refused r → ⊥)
+  pub simulated_stop : (w next : Writing) (s : Stop) → ((number : ℕ) → s ≡ stop.BadLine number → IsFaultyOf (scheduled_of c) w (contents trace) next number) → ((r : Refusal) → s ≡ stop.Refused r → ⊥)
       → ((name : List ℕ) → s ≡ stop.Unread name → name ≡ trace) → IsStopOf words contents w next s
   simulated_stop w next (stop.Refused r) bad own unread = absurd (own r refl)
   simulated_stop w next (stop.Unread name) bad own unread =
@@ -80,7 +88,7 @@ module _ (file : List ℕ) (contents : List ℕ → List ℕ) (top trace : List 
 
   -- ---- how far was read
 
-  pub trace_within : (r : Reading) → IsFollowed (its_outlines c) piece_limit trace contents r → IsTraceWithin file top trace contents r
+  pub trace_within : (r : Reading) → IsFollowed (its_outlines (scheduled_of c)) piece_limit trace contents r → IsTraceWithin file top trace contents r
   trace_within r h = record {
     current = h.current;
     end = h.end;
@@ -99,7 +107,7 @@ module _ (file : List ℕ) (contents : List ℕ → List ℕ) (top trace : List 
         ]
 
     -- sources were loaded, and then the trace was read
-    pub run_within : Follows (its_outlines c) trace contents second third → ReadsWithin file top trace contents first third
+    pub run_within : Follows (its_outlines (scheduled_of c)) trace contents second third → ReadsWithin file top trace contents first third
     run_within (running.Follows.unread same) = still same
     run_within (running.Follows.nothing none) = places.ReadsWithin.source (omega (arith, none))
     run_within (running.Follows.followed h) = places.ReadsWithin.run (trace_within third h)

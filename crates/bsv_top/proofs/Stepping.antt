@@ -1,9 +1,9 @@
 -- A trace that is run line by line.
 use Rattle.std.proofs.Common.{◌≡◌, inl, inr, ℕ, suc, ◌+◌, ◌<◌, ◌≤◌, false, Result, Ok, Err, OnOk, OnErr, List, [], ◌∷◌, ◌++◌, length, refl, sym, ap, ◌∙◌, subst, arith, append_assoc, append-nil, length-append, zero-add}
 use Rattle.bsv_prim.specs.declared.part.Part.{Part}
-use Rattle.bsv_design.specs.scheme.Schemes.{Asking, Outline}
-use Rattle.bsv_design.specs.scheme.Seen.{asking}
-use Rattle.bsv_design.specs.declared.state.State.{State}
+use Rattle.bsv_clock.specs.Shows.{Shows}
+use Rattle.bsv_design.specs.scheme.Schemes.{Asking, Outline, kinds_of}
+use Rattle.bsv_design.specs.scheme.Seen.{asking, design_data}
 use Rattle.bsv_design.specs.scheme.States.{opening}
 use Rattle.bsv_io.specs.Writing.{Writing, appended, AppendsPrefix}
 use Rattle.bsv_io.proofs.Appended.{whole_put}
@@ -11,14 +11,16 @@ use Rattle.bsv_trace.specs.Lines.{AsksFor}
 use Rattle.bsv_trace.specs.Texts.{opening_text}
 use Rattle.bsv_clock.specs.Events.{Happens}
 use Rattle.bsv_clock.specs.Runs.{Row, Runs}
-use Rattle.bsv_flow.specs.declared.scheduling.Compiled.{Compiled}
+use Rattle.bsv_sim.specs.declared.sim.Sim.{Sim}
+use Rattle.bsv_sim.specs.Simulation.{registers_of}
 use Rattle.bsv_top.specs.declared.halt.Halt.{Halt}
 use Rattle.bsv_top.specs.declared.halt.Halt.TheVariants as halt
 use Rattle.bsv_top.specs.declared.lines.Lines.{Lines}
 use Rattle.bsv_top.specs.declared.clocks.Run.{Run}
+use Rattle.bsv_top.specs.declared.scheduled.ScheduledDesign.{ScheduledDesign}
 use Rattle.bsv_top.specs.Reading.{HasNoFeed, IsEnded, IsOver}
 use Rattle.bsv_top.specs.Reports.{report, state_after}
-use Rattle.bsv_top.specs.Running.{BeginsClock, EndsLine, HasRun, IsStartedOf, IsDoneOf, IsFaultyOf, RunsLine, StandsAt, its_subject, lines_of_clock}
+use Rattle.bsv_top.specs.Running.{BeginsClock, EndsLine, HasRun, IsStartedOf, IsDoneOf, IsFaultyOf, PutsClock, RunsLine, ShowsParts, StandsAt, its_subject, lines_of_clock}
 use Rattle.bsv_top.specs.Traces.{IsBad, AreAsked, AreAskedToBad, HasBadLine, bytes_in, line_text, lines_of}
 use Rattle.bsv_top.proofs.Asked.{asked_append, asked_long, bad_append, bad_after, bytes_after, over_bad, total, total_append}
 use Rattle.bsv_top.proofs.Listed.{BeginsLine, begins_line, ends_line, ended_line, last_line, unended_append}
@@ -43,19 +45,22 @@ held_within (b ∷ held) left n h =
     omega (arith, at_first, first.long)
 
 -- what comes of a line: its clock was put or begun, or nothing was put
-pub data Stepped (c : Compiled) (old new : Run) (w next : Writing) : Type 0 where
-  one_clock : RunsLine c old new → AppendsPrefix (lines_of_clock c old new) w next → Stepped c old new w next
-  no_clock : next ≡ w → Stepped c old new w next
+pub data Stepped (c : ScheduledDesign) (old new : Run) (s : List Part) (w next : Writing) : Type 0 where
+  one_clock : BeginsClock c old new s w next → Stepped c old new s w next
+  no_clock : next ≡ w → Stepped c old new s w next
 
-pub stepped : (c : Compiled) (old new : Run) (w next : Writing) (r : Result (Unit {0}) Halt) → OnOk r (EndsLine c old new w next) → (r ≡ Err halt.Unwritable → BeginsClock c old new w next)
-    → OnErr r ((r ≡ Err halt.Unwritable → ⊥) → next ≡ w) → Stepped c old new w next
-stepped c old new w next (Ok x) ok started quiet = one_clock ok.ran (whole_put (lines_of_clock c old new) w next ok.put)
-stepped c old new w next (Err halt.BadLine) ok started quiet = no_clock (quiet (λ e. let no_value : ⊥ = cc in no_value))
-stepped c old new w next (Err halt.Unreadable) ok started quiet = no_clock (quiet (λ e. let no_value : ⊥ = cc in no_value))
-stepped c old new w next (Err halt.Unwritable) ok started quiet = let this = started refl in one_clock this.ran this.prefix
-stepped c old new w next (Err halt.OutOfMemory) ok started quiet = no_clock (quiet (λ e. let no_value : ⊥ = cc in no_value))
+-- a clock that was put was begun
+begins : (c : ScheduledDesign) (old new : Run) (s : List Part) (w next : Writing) → PutsClock c old new s w next → BeginsClock c old new s w next
+begins c old new s w next this = record { after = this.after; ran = this.ran; prefix = whole_put (lines_of_clock c old new this.after) w next this.put }
 
-module _ (c : Compiled) where
+pub stepped : (c : ScheduledDesign) (old new : Run) (s : List Part) (w next : Writing) (r : Result (Unit {0}) Halt) → ShowsParts c old s → OnOk r (EndsLine c old new w next)
+    → (r ≡ Err halt.Unwritable → (ps : List Part) → ShowsParts c old ps → BeginsClock c old new ps w next) → OnErr r ((r ≡ Err halt.Unwritable → ⊥) → next ≡ w) → Stepped c old new s w next
+stepped c old new s w next (Ok x) shown ok started quiet = one_clock (begins c old new s w next (ok.ran s shown))
+stepped c old new s w next (Err halt.BadLine) shown ok started quiet = no_clock (quiet (λ e. let no_value : ⊥ = cc in no_value))
+stepped c old new s w next (Err halt.Unreadable) shown ok started quiet = no_clock (quiet (λ e. let no_value : ⊥ = cc in no_value))
+stepped c old new s w next (Err halt.Unwritable) shown ok started quiet = one_clock (started refl s shown)
+
+module _ (c : ScheduledDesign) where
   abbrev os : List Outline
   os = (its_subject c).scheme.elements
 
@@ -166,18 +171,26 @@ module _ (c : Compiled) where
 
     -- ---- a line more: the gathered line was run, and left a state
 
-    module _ (old new : Run) (state : old.state ≡ r.state) (at : old.lines.at ≡ r.lines.at) (done : old.lines.done ≡ r.lines.done) (ran : RunsLine c old new) where
+    -- the state that is shown
+    abbrev pub state : List Part
+    state = state_after (opening (its_subject c).scheme.kinds) run.rows
+
+    pub shown_of : (old : Run) → old.sim ≡ r.sim → ShowsParts c old state
+    shown_of old sim =
+        let same = ap (λ (x : Sim). registers_of x) (sym sim) in
+        record { fits = run.state.fits; shows = subst (Shows (kinds_of (design_data c.design)) state) same run.state.shows }
+
+    module _ (old new : Run) (after : List Part) (at : old.lines.at ≡ r.lines.at) (done : old.lines.done ≡ r.lines.done) (ran : RunsLine c old new state after) where
       abbrev line : List ℕ
       line = old.lines.held.items
 
       abbrev row : Row
-      row = record { fired = new.fired; after = new.state.parts.items }
+      row = record { fired = new.fired; after = after }
 
       one_row : Runs false (its_subject c).scheme c.schedule (run.qs ++ asking new.requests ∷ []) (run.rows ++ row ∷ [])
       one_row =
-          let from : old.state.parts.items ≡ state_after (opening (its_subject c).scheme.kinds) run.rows = ap (λ (s : State). s.parts.items) state ∙ run.state in
           continues_append false (its_subject c).scheme c.schedule (opening (its_subject c).scheme.kinds) run.qs (asking new.requests ∷ []) run.rows (row ∷ []) run.runs
-          (subst (λ (s : List Part). Happens false (its_subject c).scheme c.schedule (asking new.requests) s new.fired new.state.parts.items) from ran.happens, tt)
+          (ran.happens, tt)
 
       one_asked : AreAsked os 0 (run.stands.front ++ line ∷ []) (run.qs ++ asking new.requests ∷ [])
       one_asked =
@@ -188,11 +201,11 @@ module _ (c : Compiled) where
       clock_number = ap (λ (n : ℕ). n + 1) done ∙ number_is
 
       -- its clock was put
-      pub put_more : (next : Writing) → next ≡ appended (lines_of_clock c old new) w → next ≡ appended (report (its_subject c) (run.rows ++ row ∷ [])) start
+      pub put_more : (next : Writing) → next ≡ appended (lines_of_clock c old new after) w → next ≡ appended (report (its_subject c) (run.rows ++ row ∷ [])) start
       put_more next put = put_clock (its_subject c) run.rows row (old.lines.done + 1) start w next clock_number run.put put
 
       -- or a prefix of it
-      started_more : (trace : List ℕ) (rest : List (List ℕ)) (next : Writing) → lines_of trace ≡ run.stands.front ++ line ∷ rest → AppendsPrefix (lines_of_clock c old new) w next
+      started_more : (trace : List ℕ) (rest : List (List ℕ)) (next : Writing) → lines_of trace ≡ run.stands.front ++ line ∷ rest → AppendsPrefix (lines_of_clock c old new after) w next
           → IsStartedOf c start trace next
       started_more trace rest next lines prefix = record {
         front = run.stands.front ++ line ∷ [];
@@ -213,7 +226,7 @@ module _ (c : Compiled) where
             lines_next bytes left
             ∙ ap (λ (ls : List (List ℕ)). run.stands.front ++ ls) (ended_line held bytes left run.unended ended ∙ ap (λ (t : List ℕ). t ∷ lines_of left) (sym gathered))
 
-        started_ended : (left : List ℕ) (next : Writing) → AppendsPrefix (lines_of_clock c old new) w next → IsStartedOf c start ((read ++ bytes) ++ left) next
+        started_ended : (left : List ℕ) (next : Writing) → AppendsPrefix (lines_of_clock c old new after) w next → IsStartedOf c start ((read ++ bytes) ++ left) next
         started_ended left next prefix = started_more ((read ++ bytes) ++ left) (lines_of left) next (lines_more left) prefix
 
         stands_more : new.lines.done ≡ old.lines.done + 1 → new.lines.at ≡ old.lines.at + length line → new.lines.held.items ≡ []
@@ -229,15 +242,15 @@ module _ (c : Compiled) where
           long = omega (arith, length-append read bytes, length-append held bytes, ap (λ (t : List ℕ). length t) gathered, ap (λ (t : List ℕ). length t) none, run.stands.long, there, at);
         }
 
-        pub ran_ended : (next : Writing) → EndsLine c old new w next → HasRun c start (read ++ bytes) new next
-        ran_ended next this = record {
+        pub ran_ended : (next : Writing) → EndsLine c old new w next → next ≡ appended (lines_of_clock c old new after) w → HasRun c start (read ++ bytes) new next
+        ran_ended next this put = record {
           qs = run.qs ++ asking new.requests ∷ [];
           rows = run.rows ++ row ∷ [];
           stands = stands_more this.done this.at this.none;
           unended = subst HasNoFeed (sym this.none) tt;
           runs = one_row;
-          state = sym (state_append (opening (its_subject c).scheme.kinds) run.rows (row ∷ []));
-          put = put_more next this.put;
+          state = subst (ShowsParts c new) (sym (state_append (opening (its_subject c).scheme.kinds) run.rows (row ∷ []))) ran.shown;
+          put = put_more next put;
         }
 
       -- ---- of the end of the trace
@@ -246,10 +259,10 @@ module _ (c : Compiled) where
         lines_whole : lines_of read ≡ run.stands.front ++ line ∷ []
         lines_whole = lines_last some ∙ ap (λ (t : List ℕ). run.stands.front ++ t ∷ []) (sym gathered)
 
-        started_last : (next : Writing) → AppendsPrefix (lines_of_clock c old new) w next → IsStartedOf c start read next
+        started_last : (next : Writing) → AppendsPrefix (lines_of_clock c old new after) w next → IsStartedOf c start read next
         started_last next prefix = started_more read [] next lines_whole prefix
 
-        pub done_last : (next : Writing) → next ≡ appended (lines_of_clock c old new) w → IsDoneOf c start read next
+        pub done_last : (next : Writing) → next ≡ appended (lines_of_clock c old new after) w → IsDoneOf c start read next
         done_last next put = record {
           qs = run.qs ++ asking new.requests ∷ [];
           rows = run.rows ++ row ∷ [];
@@ -260,13 +273,13 @@ module _ (c : Compiled) where
 
     -- ---- whatever came of a line
 
-    module _ (old new : Run) (state : old.state ≡ r.state) (at : old.lines.at ≡ r.lines.at) (done : old.lines.done ≡ r.lines.done) where
-      pub stepped_ended : (bytes left : List ℕ) (next : Writing) → IsEnded bytes → old.lines.held.items ≡ held ++ bytes → Stepped c old new w next → IsStartedOf c start ((read ++ bytes) ++ left) next
-      stepped_ended bytes left next ended gathered (one_clock this prefix) = started_ended old new state at done this bytes ended gathered left next prefix
+    module _ (old new : Run) (at : old.lines.at ≡ r.lines.at) (done : old.lines.done ≡ r.lines.done) where
+      pub stepped_ended : (bytes left : List ℕ) (next : Writing) → IsEnded bytes → old.lines.held.items ≡ held ++ bytes → Stepped c old new state w next → IsStartedOf c start ((read ++ bytes) ++ left) next
+      stepped_ended bytes left next ended gathered (one_clock this) = started_ended old new this.after at done this.ran bytes ended gathered left next this.prefix
       stepped_ended bytes left next ended gathered (no_clock same) = subst (λ (v : Writing). IsStartedOf c start ((read ++ bytes) ++ left) v) (sym same) (started_here bytes left)
 
-      pub stepped_last : (next : Writing) → old.lines.held.items ≡ held → 0 < length held → Stepped c old new w next → IsStartedOf c start read next
-      stepped_last next gathered some (one_clock this prefix) = started_last old new state at done this gathered some next prefix
+      pub stepped_last : (next : Writing) → old.lines.held.items ≡ held → 0 < length held → Stepped c old new state w next → IsStartedOf c start read next
+      stepped_last next gathered some (one_clock this) = started_last old new this.after at done this.ran gathered some next this.prefix
       stepped_last next gathered some (no_clock same) = subst (λ (v : Writing). IsStartedOf c start read v) (sym same) started_whole
 
     -- nothing was begun of a line at the end of the trace
@@ -298,7 +311,7 @@ module _ (c : Compiled) where
       };
       unended = subst HasNoFeed (sym gathered) (unended_append held bytes run.unended unended);
       runs = run.runs;
-      state = run.state;
+      state = record { fits = run.state.fits; shows = run.state.shows };
       put = run.put;
     }
 
@@ -329,8 +342,8 @@ pub cut_rest : (read gone piece rest : List ℕ) → piece ≡ gone ++ rest → 
 cut_rest read gone piece rest whole = append_assoc read gone rest ∙ ap (λ (t : List ℕ). read ++ t) (sym whole)
 
 -- the start of a trace
-pub nothing_run : (c : Compiled) (start : Writing) (r : Run) (w : Writing) → r.lines.done ≡ 0 → r.lines.at ≡ 0 → r.lines.held.items ≡ []
-    → r.state.parts.items ≡ opening (its_subject c).scheme.kinds → w ≡ appended (opening_text (its_subject c).parts (opening (its_subject c).scheme.kinds)) start → HasRun c start [] r w
+pub nothing_run : (c : ScheduledDesign) (start : Writing) (r : Run) (w : Writing) → r.lines.done ≡ 0 → r.lines.at ≡ 0 → r.lines.held.items ≡ []
+    → ShowsParts c r (opening (its_subject c).scheme.kinds) → w ≡ appended (opening_text (its_subject c).parts (opening (its_subject c).scheme.kinds)) start → HasRun c start [] r w
 nothing_run c start r w done at none state put = record {
   qs = [];
   rows = [];

@@ -2,6 +2,7 @@ pub mod Answers
 pub mod Counts
 pub mod Forms
 pub mod Headline
+pub mod Interrupted
 pub mod LaidOut
 pub mod Made
 pub mod MadeRuns

@@ -1,15 +1,17 @@
 -- What a run leaves, whatever its sources and sinks do.
-use Rattle.std.specs.Prelude.{◌≡◌, ℕ, List, [], Some}
+use Rattle.std.specs.Prelude.{◌≡◌, ℕ, List, [], Option, Some}
 use Rattle.bsv_io.specs.Faults.{MayFault}
-use Rattle.bsv_io.specs.Reading.{Reading}
+use Rattle.bsv_io.specs.Reading.{Current, Reading}
 use Rattle.bsv_io.specs.Writing.{Writing, appended, AppendsPrefix}
 use Rattle.bsv_design.specs.declared.schedule.Schedule.{Schedule}
 use Rattle.bsv_tree.specs.tree.Trees.{TreeData}
 use Rattle.bsv_flow.specs.Compilings.{IsPlanned}
 use Rattle.bsv_flow.specs.Loads.{Reaches}
+use Rattle.bsv_flow.specs.Schedulings.{subject}
 use Rattle.bsv_top.specs.declared.status.Status.{Status}
 use Rattle.bsv_top.specs.declared.status.Status.TheVariants as status
 use Rattle.bsv_top.specs.Answers.{Answer, Asks, sim_words, cannot_read_line, no_memory_line}
+use Rattle.bsv_top.specs.Interrupted.{IsInterrupted}
 use Rattle.bsv_top.specs.LaidOut.{IsLaidOut}
 
 -- the words ask for no run over a trace
@@ -89,14 +91,22 @@ pub record TextStarted (words : List (List ℕ)) (contents : List ℕ → List �
   pub fault_text : FaultText words contents text
   pub prefix : AppendsPrefix text err err'
 
+-- what is planned of the file was run over the trace up to the place of the current file
+pub record StopsReport (file top trace : List ℕ) (contents : List ℕ → List ℕ) (at : Option Current) (out out' : Writing) : Type 0 where
+  pub tree : TreeData
+  pub made : Schedule
+  pub planned : IsPlanned file contents top tree made
+  pub put : IsInterrupted (subject tree) made out (contents trace) at out'
+
 -- A file of this name could not be read: it is the one that the last failed call was about. It is a file that loading
--- reaches, and then nothing is put to the output; or it is the trace of what is accepted.
+-- reaches, and then nothing is put to the output; or it is the trace of what is accepted, and then the report is put of the
+-- lines that were given whole.
 pub data IsUnread (words : List (List ℕ)) (name : List ℕ) (files files' : Reading) (out out' : Writing) : Type 0 where
   source : (file top : List ℕ) → Asks words file top → MayFault files.faults files'.faults → files'.blamed ≡ Some name
       → ((contents : List ℕ → List ℕ) → files.contents ≡ Some contents → Reaches file contents name) → out' ≡ out
       → IsUnread words name files files' out out'
   trace : (file top : List ℕ) → words ≡ sim_words file top name → MayFault files.faults files'.faults → files'.blamed ≡ Some name
-      → ((contents : List ℕ → List ℕ) → files.contents ≡ Some contents → (tree : TreeData) × (made : Schedule) × IsPlanned file contents top tree made)
+      → ((contents : List ℕ → List ℕ) → files.contents ≡ Some contents → StopsReport file top name contents files'.current out out')
       → IsUnread words name files files' out out'
 
 -- and its name is told whole

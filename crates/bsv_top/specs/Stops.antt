@@ -24,7 +24,6 @@ abbrev pub stop_for : Halt → List ℕ → ℕ → Stop
 stop_for halt.BadLine trace number = stop.BadLine number
 stop_for halt.Unreadable trace number = stop.Unread trace
 stop_for halt.Unwritable trace number = stop.Unwritable
-stop_for halt.OutOfMemory trace number = stop.OutOfMemory
 
 -- the status of a stop
 abbrev pub status_of : Stop → Status

@@ -49,8 +49,7 @@ pub(crate) fn answer<R: Threads + Sync, F: Files, O: Sink>(
         → MayFault (O.writing out.old).faults (O.writing out.new).faults }
     ensures unchosen { (n : ℕ) → form.entry ≡ Form.Made n
         → F.reading files.new ≡ F.reading files.old }
-    ensures no_output { result ≡ Err Stop.OutOfMemory → AsksNoRun (words_of form.entry)
-        → O.writing out.new ≡ O.writing out.old }
+    ensures no_output { result ≡ Err Stop.OutOfMemory → O.writing out.new ≡ O.writing out.old }
     ensures sources_within { AsksNoRun (words_of form.entry)
         → read_limit < bytes_given (F.reading files.new)
         → (F.reading files.new).current ≡ (F.reading files.old).current }

@@ -1,11 +1,12 @@
 ghost use Rattle.std.specs.Prelude.{◌≡◌, ◌≤◌, ◌<◌, ℕ, ◌+◌, ◌++◌, List, length, Err};
 ghost use Rattle.std.specs.Prelude.{OnOk, OnErr};
 ghost use Rattle.bsv_design.specs.scheme.Schemes.{Asking};
+ghost use Rattle.bsv_prim.specs.declared.part.Part.{Part};
 ghost use Rattle.bsv_io.specs.Faults.{MayFault};
 ghost use Rattle.bsv_io.specs.Writing.{Writing};
 ghost use Rattle.bsv_trace.specs.Lines.{AsksFor};
 ghost use Rattle.bsv_top.specs.Reading.{IsEnded};
-ghost use Rattle.bsv_top.specs.Running.{BeginsClock, EndsLine, FitsRun, HasRun, IsRunnable};
+ghost use Rattle.bsv_top.specs.Running.{BeginsClock, EndsLine, FitsRun, HasRun, ShowsParts};
 ghost use Rattle.bsv_top.specs.Running.{IsStartedOf, IsDoneOf, IsFaultyOf, its_subject};
 ghost use Rattle.bsv_top.specs.Traces.{line_text};
 
@@ -34,7 +35,6 @@ impl Run {
         scheduled: &ScheduledDesign,
         out: &mut O,
     ) -> Result<(), Halt>
-        requires scheduled { IsRunnable scheduled.now }
         requires fits { FitsRun scheduled.now self.old }
         requires some { 0 < length self.old.lines.held.items }
         ensures fits { FitsRun scheduled.now self.new }
@@ -43,7 +43,8 @@ impl Run {
         ensures bad { result ≡ Err Halt.BadLine → (q : Asking)
             → AsksFor (its_subject scheduled.now).scheme.elements
             (line_text self.old.lines.held.items) q → ⊥ }
-        ensures started { result ≡ Err Halt.Unwritable → BeginsClock scheduled.now self.old self.new
+        ensures started { result ≡ Err Halt.Unwritable → (s : List Part)
+            → ShowsParts scheduled.now self.old s → BeginsClock scheduled.now self.old self.new s
             (O.writing out.old) (O.writing out.new) }
         ensures unwritable { result ≡ Err Halt.Unwritable
             → MayFault (O.writing out.old).faults (O.writing out.new).faults }
@@ -71,7 +72,6 @@ impl Run {
         bytes: &[u8],
         out: &mut O,
     ) -> Result<(), Halt>
-        requires scheduled { IsRunnable scheduled.now }
         requires fits { FitsRun scheduled.now self.old }
         requires ended { IsEnded bytes.now }
         ensures fits { FitsRun scheduled.now self.new }
@@ -105,7 +105,6 @@ impl Run {
         piece: &[u8],
         out: &mut O,
     ) -> Result<(), Halt>
-        requires scheduled { IsRunnable scheduled.now }
         requires fits { FitsRun scheduled.now self.old }
         ensures fits { FitsRun scheduled.now self.new }
         ensures ran { OnOk result ((start : Writing) (read : List ℕ)
@@ -142,7 +141,6 @@ impl Run {
         scheduled: &ScheduledDesign,
         out: &mut O,
     ) -> Result<(), Halt>
-        requires scheduled { IsRunnable scheduled.now }
         requires fits { FitsRun scheduled.now self.old }
         ensures done { OnOk result ((start : Writing) (trace : List ℕ)
             → HasRun scheduled.now start trace self.old (O.writing out.old)

@@ -4,13 +4,14 @@ ghost use Rattle.bsv_design.specs.scheme.Schemes.{Asking};
 ghost use Rattle.bsv_io.specs.Faults.{MayFault};
 ghost use Rattle.bsv_io.specs.Reading.{bytes_given, current_name, rest};
 ghost use Rattle.bsv_io.specs.Writing.{Writing};
-ghost use Rattle.bsv_top.specs.Running.{HasRun, IsRunnable, IsStart, its_outlines};
-ghost use Rattle.bsv_top.specs.Running.{IsStartedOf, IsDoneOf, IsFaultyOf};
+ghost use Rattle.bsv_top.specs.Running.{HasRun, IsStart, its_outlines};
+ghost use Rattle.bsv_top.specs.Running.{IsStartedOf, IsDoneOf, IsFaultyOf, IsReportToOf};
 ghost use Rattle.bsv_top.specs.Traces.{HasBadLine, bytes_in, lines_of};
 
 use crate::clocks::Run;
 use crate::halt::Halt;
 use crate::lines::TRACE_LIMIT;
+use crate::scheduled::ScheduledDesign;
 use bsv_io::{Failed, Files, Sink};
 
 /// Reads the trace, which is the current file, to its end, and runs its clocks; `buffer` is room to
@@ -22,7 +23,6 @@ pub(crate) fn run_trace<F: Files, O: Sink>(
     buffer: &mut [u8],
     out: &mut O,
 ) -> Result<(), Halt>
-    requires scheduled { IsRunnable scheduled.now }
     requires start { IsStart scheduled.now run.old }
     requires room { 0 < length buffer.old }
     requires current { IsSome (F.reading files.old).current }
@@ -40,6 +40,13 @@ pub(crate) fn run_trace<F: Files, O: Sink>(
         → HasRun scheduled.now start [] run.old (O.writing out.old)
         → rest (F.reading files.old) ≡ Some trace
         → IsStartedOf scheduled.now start trace (O.writing out.new) }
+
+    // Where the trace can be read no further, the report is put of the lines that were given whole.
+    ensures interrupted { result ≡ Err Halt.Unreadable → (start : Writing) (trace : List ℕ)
+        → HasRun scheduled.now start [] run.old (O.writing out.old)
+        → rest (F.reading files.old) ≡ Some trace → (place : ℕ)
+        → bytes_given (F.reading files.new) ≡ bytes_given (F.reading files.old) + place
+        → IsReportToOf scheduled.now start trace place (O.writing out.new) }
 
     // The causes of the other faults.
     ensures unreadable { result ≡ Err Halt.Unreadable

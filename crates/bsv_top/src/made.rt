@@ -1,8 +1,8 @@
 ghost use Rattle.std.specs.Prelude.{◌≡◌, ◌≤◌, ◌+◌, ℕ, List, [], ◌∷◌, codes, length};
 ghost use Rattle.std.specs.Prelude.{None, Err, IfOk, IfErr, OnOk};
-ghost use Rattle.bsv_design.specs.scheme.Schemes.{kinds_of};
-ghost use Rattle.bsv_design.specs.scheme.Seen.{design_data};
-ghost use Rattle.bsv_design.specs.scheme.States.{opening};
+ghost use Rattle.bsv_prim.specs.declared.part.Part.{Part as ThePart};
+ghost use Rattle.bsv_design.specs.parts.Printed.{ShowPart};
+ghost use Rattle.bsv_trace.specs.Shown.{ShowParts};
 ghost use Rattle.bsv_flow.specs.Running.{BelongTogether};
 ghost use Rattle.bsv_flow.specs.declared.refusal.Refusal.{Refusal as TheRefusal};
 ghost use Rattle.bsv_io.specs.Faults.{MayFault};
@@ -12,17 +12,21 @@ ghost use Rattle.bsv_top.specs.Made as spec;
 ghost use Rattle.bsv_top.specs.Made.{made_file, made_text, made_words, summary_of};
 ghost use Rattle.bsv_top.specs.MadeRuns.{HasFired, IsMadeStop, IsSummary};
 ghost use Rattle.bsv_top.specs.Outcomes.{IsDoneBy, OutputStarted};
+ghost use Rattle.bsv_top.specs.Running.{IsStart, scheduled_of};
 ghost use Rattle.bsv_top.specs.Stops.{IsStopOf};
 ghost use Rattle.bsv_top.specs.declared.status.Status.TheVariants as status;
 ghost use Rattle.bsv_top.specs.declared.stop.Stop.{Stop as TheStop};
 
+use crate::clocks::Run;
+use crate::scheduled::ScheduledDesign;
+use crate::simulation::start;
 use crate::stop::Stop;
 use bsv_bits::{Name, OutOfMemory, Word};
-use bsv_design::{Fired, NamedPart, Requests, State};
+use bsv_design::{Design, Kind, NamedPart};
 use bsv_flow::{Compiled, compile};
 use bsv_io::{Failed, Sink, SureFiles};
-use bsv_prim::Part;
-use bsv_serial::clock;
+use bsv_prim::Primitive;
+use bsv_trace::registers_after;
 use itoa::Buffer;
 use std::alloc::Global;
 use std::thread::Threads;
@@ -83,7 +87,6 @@ fn sum_of(count: u64, more: usize) -> Result<u64, OutOfMemory>
 
 /// Runs 100 clocks without requests from the start, and counts the elements that fire.
 fn run_clocks(scheduled: &ScheduledDesign, run: &mut Run) -> Result<u64, OutOfMemory>
-    requires scheduled { IsRunnable scheduled.now }
     requires start { IsStart scheduled.now run.old }
     ensures { IfOk result (λ count. HasFired scheduled.now 100 count run.new) }
 {
@@ -171,14 +174,13 @@ fn summary(
 
 /// Runs the made design that was compiled, and tells the summary.
 fn sum_up(alloc: Global, size: u32, compiled: Compiled) -> Result<Vec<u8>, OutOfMemory>
-    requires runs { BelongTogether compiled }
-    requires net { NetCarries false (design_scheme (design_data compiled.design))
-        compiled.schedule compiled.net }
+    requires { BelongTogether compiled }
     ensures { IfOk result (λ text. IsSummary (scheduled_of compiled) size text.items) }
 {
-    let (scheduled, mut run) = start(alloc, compiled)?;
-    let fired = run_clocks(&scheduled, &mut run)?;
-    summary(alloc, size, &scheduled.design, fired, run.sim.registers())
+    let mut started = start(alloc, compiled)?;
+    let fired = run_clocks(&started.scheduled, &mut started.run)?;
+    let registers = started.run.sim.registers();
+    summary(alloc, size, &started.scheduled.design, fired, registers)
 }
 
 /// Compiles the made design of a size, runs it, and tells the summary.

@@ -39,8 +39,7 @@ use std::thread::Threads;
 /// the output goes to `out`, and a fault text of one line to `err`. The answer is the exit status.
 ///
 /// The clauses that begin with `contents` speak of a source of files that tells its contents.
-/// Want of memory may come at any point; of a run over a trace also after the lines of a clock, of
-/// which there are then no more.
+/// Want of memory may come as long as nothing is put to the output.
 pub fn run<R: Threads + Sync, F: Files, O: Sink, E: Sink>(
     rt: &R,
     alloc: Global,
@@ -79,15 +78,13 @@ pub fn run<R: Threads + Sync, F: Files, O: Sink, E: Sink>(
         → TextStarted (map string_bytes words.now) contents (E.writing err.old)
         (E.writing err.new) }
 
-    // Nothing at all is put to the output where a file is refused; and nothing where memory is
-    // wanting, but by a run over a trace: it may want memory after it started, and then it put a
-    // prefix of an answer's output, as above.
+    // Nothing at all is put to the output where a file is refused, and nothing where memory is
+    // wanting: a run over a trace takes all its memory before it puts the first byte.
     ensures refused { result ≡ Status.Refused → O.writing out.new ≡ O.writing out.old }
     ensures no_memory { result ≡ Status.OutOfMemory
         → (E.writing err.new ≡ appended no_memory_line (E.writing err.old))
         × ((O.writing out.new).faults ≡ (O.writing out.old).faults) }
-    ensures no_output { result ≡ Status.OutOfMemory → AsksNoRun (map string_bytes words.now)
-        → O.writing out.new ≡ O.writing out.old }
+    ensures no_output { result ≡ Status.OutOfMemory → O.writing out.new ≡ O.writing out.old }
 
     // No source is read on after one byte more than it may have; where the trace was run, it was
     // read at most one piece after its first bad line.
@@ -106,7 +103,8 @@ pub fn run<R: Threads + Sync, F: Files, O: Sink, E: Sink>(
         → (file top trace : List ℕ) → map string_bytes words.now ≡ sim_words file top trace
         → IsTraceWithin file top trace contents (F.reading files.new) }
 
-    // The causes of faults.
+    // The causes of faults. Where a trace could be read no further, the report is put of the lines
+    // that were given whole.
     ensures read_fault { result ≡ Status.ReadFault → Unreadable (map string_bytes words.now)
         (F.reading files.old) (F.reading files.new) (O.writing out.old) (O.writing out.new)
         (E.writing err.old) (E.writing err.new) }

@@ -1,8 +1,5 @@
 ghost use Rattle.std.specs.Prelude.{◌≡◌, ◌⊎◌, ℕ, ◌+◌, ◌<◌, ◌≤◌, List, length, Some, Err};
-ghost use Rattle.std.specs.Prelude.{IfOk, OnOk, false};
-ghost use Rattle.bsv_design.specs.scheme.Schemes.{design_scheme};
-ghost use Rattle.bsv_design.specs.scheme.Seen.{design_data};
-ghost use Rattle.bsv_net.specs.ShowsByNet.{NetCarries};
+ghost use Rattle.std.specs.Prelude.{IfOk, OnOk};
 ghost use Rattle.bsv_io.specs.Faults.{MayFault};
 ghost use Rattle.bsv_io.specs.Reading.{bytes_given};
 ghost use Rattle.bsv_flow.specs.Running.{BelongTogether};
@@ -10,8 +7,8 @@ ghost use Rattle.bsv_flow.specs.declared.refusal.Refusal.{Refusal as TheRefusal}
 ghost use Rattle.bsv_top.specs.Answers.{sim_words};
 ghost use Rattle.bsv_top.specs.Outcomes.{IsDoneBy, IsUnread, OutputStarted};
 ghost use Rattle.bsv_top.specs.Places.{IsTraceWithin, ReadsWithin, piece_limit};
-ghost use Rattle.bsv_top.specs.Running.{IsRunnable, IsStart, IsStartedOf, IsDoneOf, IsFaultyOf};
-ghost use Rattle.bsv_top.specs.Running.{Follows, IsFollowed, its_outlines, scheduled_of};
+ghost use Rattle.bsv_top.specs.Running.{IsStart, IsStartedOf, IsDoneOf, IsFaultyOf};
+ghost use Rattle.bsv_top.specs.Running.{Follows, IsFollowed, IsInterruptedOf, its_outlines, scheduled_of};
 ghost use Rattle.bsv_top.specs.Stops.{IsStopOf, stop_for};
 ghost use Rattle.bsv_top.specs.declared.halt.Halt.TheVariants as halt;
 ghost use Rattle.bsv_top.specs.declared.stop.Stop.{Stop as TheStop};
@@ -41,7 +38,6 @@ fn put_report<F: Files, O: Sink>(
     buffer: &mut [u8],
     out: &mut O,
 ) -> Result<(), Halt>
-    requires scheduled { IsRunnable scheduled.now }
     requires start { IsStart scheduled.now run.old }
     requires room { 0 < length buffer.old }
     ensures done { OnOk result ((contents : List ℕ → List ℕ)
@@ -57,6 +53,10 @@ fn put_report<F: Files, O: Sink>(
     ensures unreadable { result ≡ Err Halt.Unreadable
         → MayFault (F.reading files.old).faults (F.reading files.new).faults
         × ((F.reading files.new).blamed ≡ Some name) }
+    ensures interrupted { result ≡ Err Halt.Unreadable → (contents : List ℕ → List ℕ)
+        → (F.reading files.old).contents ≡ Some contents
+        → IsInterruptedOf scheduled.now (O.writing out.old) (contents name)
+        (F.reading files.new).current (O.writing out.new) }
     ensures unwritable { result ≡ Err Halt.Unwritable
         → MayFault (O.writing out.old).faults (O.writing out.new).faults }
     ensures followed { (result ≡ Err Halt.Unreadable → ⊥) → (contents : List ℕ → List ℕ)
@@ -92,13 +92,18 @@ fn stop_for(halt: Halt, trace: Name, number: u64) -> Stop
     }
 }
 
-/// What is run of what was compiled, and the start of its run. All memory is taken here that a clock needs.
-fn start(alloc: Global, compiled: Compiled) -> Result<(ScheduledDesign, Run), OutOfMemory>
-    requires runs { BelongTogether compiled }
-    requires net { NetCarries false (design_scheme (design_data compiled.design))
-        compiled.schedule compiled.net }
-    ensures scheduled { IfOk result (λ parts. parts.0 ≡ scheduled_of compiled) }
-    ensures start { IfOk result (λ parts. IsStart parts.0 parts.1) }
+/// What was compiled as it is run, and the start of its run.
+#[derive(Drop)]
+pub(crate) struct Started {
+    pub(crate) scheduled: ScheduledDesign,
+    pub(crate) run: Run,
+}
+
+/// The start of a run of what was compiled. All memory is taken here that its clocks need.
+pub(crate) fn start(alloc: Global, compiled: Compiled) -> Result<Started, OutOfMemory>
+    requires { BelongTogether compiled }
+    ensures scheduled { IfOk result (λ started. started.scheduled ≡ scheduled_of compiled) }
+    ensures start { IfOk result (λ started. IsStart started.scheduled started.run) }
 {
     let requests = Requests::new(alloc, &compiled.design)?;
     let fired = Fired::new(alloc, &compiled.design)?;
@@ -110,15 +115,15 @@ fn start(alloc: Global, compiled: Compiled) -> Result<(ScheduledDesign, Run), Ou
         ..
     } = compiled;
     let sim = Sim::make(alloc, net)?;
-    Ok((
-        ScheduledDesign { design, schedule },
-        Run {
+    Ok(Started {
+        scheduled: ScheduledDesign { design, schedule },
+        run: Run {
             lines,
             sim,
             requests,
             fired,
         },
-    ))
+    })
 }
 
 /// Runs a scheduled design over the trace of a name, from the start of its run.
@@ -130,7 +135,6 @@ fn run_over<F: Files, O: Sink>(
     trace: &str,
     out: &mut O,
 ) -> Result<(), Stop>
-    requires scheduled { IsRunnable scheduled.now }
     requires start { IsStart scheduled.now run.old }
     ensures done { OnOk result ((contents : List ℕ → List ℕ)
         → (F.reading files.old).contents ≡ Some contents
@@ -148,6 +152,10 @@ fn run_over<F: Files, O: Sink>(
     ensures unread { (name : List ℕ) → result ≡ Err (Stop.Unread name) → (name ≡ trace.now)
         × MayFault (F.reading files.old).faults (F.reading files.new).faults
         × ((F.reading files.new).blamed ≡ Some name) }
+    ensures interrupted { (name : List ℕ) → result ≡ Err (Stop.Unread name)
+        → (contents : List ℕ → List ℕ) → (F.reading files.old).contents ≡ Some contents
+        → IsInterruptedOf scheduled.now (O.writing out.old) (contents trace.now)
+        (F.reading files.new).current (O.writing out.new) }
     ensures unwritable { result ≡ Err Stop.Unwritable
         → MayFault (O.writing out.old).faults (O.writing out.new).faults }
     ensures within { (contents : List ℕ → List ℕ) → (F.reading files.old).contents ≡ Some contents
@@ -226,6 +234,13 @@ pub(crate) fn simulate<R: Threads + Sync, F: Files, O: Sink>(
         → (O.writing out.new).faults ≡ (O.writing out.old).faults }
 {
     let compiled = compile(rt, alloc, files, form.file, form.top)?;
-    let (scheduled, mut run) = start(alloc, compiled)?;
-    run_over(alloc, files, &scheduled, &mut run, form.trace, out)
+    let mut started = start(alloc, compiled)?;
+    run_over(
+        alloc,
+        files,
+        &started.scheduled,
+        &mut started.run,
+        form.trace,
+        out,
+    )
 }

@@ -57,10 +57,10 @@ net_of-requires-clause-schedule g c =
 
 pub generate-requires-clause-registers : goal.generate-requires-clause-registers
 generate-requires-clause-registers g c =
-    registers_there c.in_ok-design.design c.in_ok-schedule.schedule c.in_ok-net.net c.in_ok-net.ensures
+    registers_there c.in_ok-design.design c.in_ok-schedule.schedule c.in_ok-net.net c.in_ok-net.ensures.carries
 
 pub generate-requires-clause-inputs : goal.generate-requires-clause-inputs
-generate-requires-clause-inputs g c = c.in_ok-net.ensures.words.inputs
+generate-requires-clause-inputs g c = c.in_ok-net.ensures.carries.words.inputs
 
 pub returns-clause-compiled : goal.returns-clause-compiled
 returns-clause-compiled g c =
@@ -69,7 +69,7 @@ returns-clause-compiled g c =
     let net = c.in_ok-net.ensures in
     let verilog = c.in_ok-verilog.ensures in
     compiled_of _ c.in_ok-design.design c.in_ok-design.guards c.in_ok-schedule.schedule c.in_ok-net.net c.in_ok-verilog.verilog
-    made.alike made.name made.parts made.needs made.lifted net
+    made.alike made.name made.parts made.needs made.lifted net.carries net.folded net.distinct net.needed
     (verilog_there _ c.in_ok-design.design c.in_ok-schedule.schedule c.in_ok-net.net c.in_ok-verilog.verilog made.alike made.name made.parts
     (rules_there _ c.in_ok-design.design made.alike made.kept)
     (schedule_there c.in_ok-design.design c.in_ok-schedule.schedule c.in_ok-execution.execution c.in_ok-urgency.urgency
@@ -77,7 +77,7 @@ returns-clause-compiled g c =
     (obeyed_of _ c.in_ok-design.design made.alike made.parts c.in_ok-schedule.schedule
     c.in_ok-execution.execution c.in_ok-urgency.urgency orders.execution orders.urgency
     c.in_ok-execution.ensures.executes c.in_ok-urgency.ensures.urges orders.stops c.in_ok-asserted.ensures.accepted)
-    net verilog.module verilog.results verilog.carries verilog.ignores verilog.runs verilog.unasked verilog.begins verilog.resets)
+    net.carries verilog.module verilog.results verilog.carries verilog.ignores verilog.runs verilog.unasked verilog.begins verilog.resets)
 
 pub returns-clause-runs : goal.returns-clause-runs
 returns-clause-runs g c =
@@ -88,4 +88,6 @@ returns-clause-runs g c =
       needs = made.needs;
       schedule = schedule_there c.in_ok-design.design c.in_ok-schedule.schedule c.in_ok-execution.execution c.in_ok-urgency.urgency
           orders.execution orders.urgency c.in_ok-execution.ensures.executes c.in_ok-urgency.ensures.urges orders.stops;
+      carries = c.in_ok-net.ensures.carries;
+      results = c.in_ok-net.ensures.results;
     }

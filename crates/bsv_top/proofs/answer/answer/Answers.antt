@@ -63,11 +63,6 @@ returns-in-Sim-clause-bad_within g c = λ number h contents told file top trace 
     same_trace form.file.now form.top.now form.trace.now file top trace (sym (ap words_of c.in-Sim.is) ∙ words) contents (g.F.Files.reading c.simulate.new.files)
     (c.simulate.ensures.bad_within number h contents told)
 
-pub returns-in-Sim-clause-no_output : goal.returns-in-Sim-clause-no_output
-returns-in-Sim-clause-no_output g c = λ is none.
-    let form = c.in-Sim.form in
-    absurd (none form.file.now form.top.now form.trace.now (ap words_of c.in-Sim.is))
-
 pub returns-in-Sim-clause-sources_within : goal.returns-in-Sim-clause-sources_within
 returns-in-Sim-clause-sources_within g c = λ none far.
     let form = c.in-Sim.form in

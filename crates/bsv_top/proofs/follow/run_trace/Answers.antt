@@ -5,6 +5,7 @@ use Rattle.bsv_io.specs.Reading.{Reading, Gives, bytes_given, current_name, rest
 use Rattle.bsv_io.proofs.Readings.{piece_read, rest_advanced, given_advanced, name_advanced, current_advanced, if_told}
 use Rattle.bsv_top.specs.declared.halt.Halt.TheVariants as halt
 use Rattle.bsv_top.specs.Running.{IsStartedOf, IsFaultyOf}
+use Rattle.bsv_top.proofs.Interrupted.{report_to}
 use Rattle.bsv_top.proofs.Stepping.{started_after, read_within}
 use Rattle.bsv_top.proofs.follow.run_trace.Goals as goal
 
@@ -12,13 +13,21 @@ pub returns-in-Err-clause-started : goal.returns-in-Err-clause-started
 returns-in-Err-clause-started g c = λ start trace run told.
     let read = c.loop-turn.invariant.read in
     let left = read.2 trace told in
-    started_after c.args.compiled.now start read.0 c.loop-turn.run (g.O.Sink.writing c.loop-turn.out) (read.3 start run) trace left.0 left.2
+    started_after c.args.scheduled.now start read.0 c.loop-turn.run (g.O.Sink.writing c.loop-turn.out) (read.3 start run) trace left.0 left.2
+
+pub returns-in-Err-clause-interrupted : goal.returns-in-Err-clause-interrupted
+returns-in-Err-clause-interrupted g c = λ failed start trace run told place far.
+    let read = c.loop-turn.invariant.read in
+    let left = read.2 trace told in
+    let same = ap (λ (r : Reading). bytes_given r) c.in-Err.ensures.err in
+    report_to c.args.scheduled.now start read.0 c.loop-turn.run (g.O.Sink.writing c.loop-turn.out) (read.3 start run) trace left.0 place left.2
+    (omega (arith, same, read.1, far))
 
 pub returns-in-Err-clause-within : goal.returns-in-Err-clause-within
 returns-in-Err-clause-within g c = λ start trace qs run told bad.
     let read = c.loop-turn.invariant.read in
     let left = read.2 trace told in
-    let within = read_within c.args.compiled.now start read.0 c.loop-turn.run (g.O.Sink.writing c.loop-turn.out) (read.3 start run) trace left.0 qs left.2 bad in
+    let within = read_within c.args.scheduled.now start read.0 c.loop-turn.run (g.O.Sink.writing c.loop-turn.out) (read.3 start run) trace left.0 qs left.2 bad in
     let same = ap (λ (r : Reading). bytes_given r) c.in-Err.ensures.err in
     omega (arith, same, read.1, within)
 
@@ -26,7 +35,7 @@ pub returns-then-len-eq0-clause-within : goal.returns-then-len-eq0-clause-within
 returns-then-len-eq0-clause-within g c = λ start trace qs run told bad.
     let read = c.loop-turn.invariant.read in
     let left = read.2 trace told in
-    let within = read_within c.args.compiled.now start read.0 c.loop-turn.run (g.O.Sink.writing c.loop-turn.out) (read.3 start run) trace left.0 qs left.2 bad in
+    let within = read_within c.args.scheduled.now start read.0 c.loop-turn.run (g.O.Sink.writing c.loop-turn.out) (read.3 start run) trace left.0 qs left.2 bad in
     let given = ap (λ (r : Reading). bytes_given r) c.in-Ok.ensures.ok ∙ given_advanced (g.F.Files.reading c.loop-turn.files) c.in-Ok.len c.loop-turn.invariant.current in
     omega (arith, given, read.1, within, c.in-Ok.ensures.within)
 
@@ -34,7 +43,7 @@ pub returns-in_err-run_piece-clause-within : goal.returns-in_err-run_piece-claus
 returns-in_err-run_piece-clause-within g c = λ start trace qs run told bad.
     let read = c.loop-turn.invariant.read in
     let left = read.2 trace told in
-    let within = read_within c.args.compiled.now start read.0 c.loop-turn.run (g.O.Sink.writing c.loop-turn.out) (read.3 start run) trace left.0 qs left.2 bad in
+    let within = read_within c.args.scheduled.now start read.0 c.loop-turn.run (g.O.Sink.writing c.loop-turn.out) (read.3 start run) trace left.0 qs left.2 bad in
     let given = ap (λ (r : Reading). bytes_given r) c.in-Ok.ensures.ok ∙ given_advanced (g.F.Files.reading c.loop-turn.files) c.in-Ok.len c.loop-turn.invariant.current in
     omega (arith, given, read.1, within, c.in-Ok.ensures.within)
 
@@ -47,7 +56,7 @@ returns-in_err-run_piece-clause-bad g c = λ h start trace run told.
     let given = if_told _ (Gives c.in-Ok.len c.read.new.buf) left.0 left.1 c.in-Ok.ensures.bytes in
     let piece = take c.in-Ok.len c.read.new.buf in
     let whole = left.2 ∙ ap (λ (t : List ℕ). read.0 ++ t) (piece_read c.in-Ok.len c.read.new.buf left.0 given) ∙ sym (append_assoc read.0 piece (drop c.in-Ok.len left.0)) in
-    subst (λ (t : List ℕ). IsFaultyOf c.args.compiled.now start t (g.O.Sink.writing c.run_piece.new.out) (c.run_piece.new.self.lines.done + 1)) (sym whole)
+    subst (λ (t : List ℕ). IsFaultyOf c.args.scheduled.now start t (g.O.Sink.writing c.run_piece.new.out) (c.run_piece.new.self.lines.done + 1)) (sym whole)
     (c.run_piece.ensures.bad e start read.0 (drop c.in-Ok.len left.0) (read.3 start run))
 
 pub returns-in_err-run_piece-clause-started : goal.returns-in_err-run_piece-clause-started
@@ -57,7 +66,7 @@ returns-in_err-run_piece-clause-started g c = λ start trace run told.
     let given = if_told _ (Gives c.in-Ok.len c.read.new.buf) left.0 left.1 c.in-Ok.ensures.bytes in
     let piece = take c.in-Ok.len c.read.new.buf in
     let whole = left.2 ∙ ap (λ (t : List ℕ). read.0 ++ t) (piece_read c.in-Ok.len c.read.new.buf left.0 given) ∙ sym (append_assoc read.0 piece (drop c.in-Ok.len left.0)) in
-    subst (λ (t : List ℕ). IsStartedOf c.args.compiled.now start t (g.O.Sink.writing c.run_piece.new.out)) (sym whole)
+    subst (λ (t : List ℕ). IsStartedOf c.args.scheduled.now start t (g.O.Sink.writing c.run_piece.new.out)) (sym whole)
     (c.in_err-run_piece.ensures.started start read.0 (drop c.in-Ok.len left.0) (read.3 start run))
 
 pub loop-turn-preserved : goal.loop-turn-preserved

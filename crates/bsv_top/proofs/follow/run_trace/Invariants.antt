@@ -11,8 +11,8 @@ invariant-loop-turn g l =
     record {
       read : (read : List ℕ) × (bytes_given (reading l.files) ≡ bytes_given (reading l.fn.files) + length read)
           × ((trace : List ℕ) → rest (reading l.fn.files) ≡ Some trace → (left : List ℕ) × (rest (reading l.files) ≡ Some left) × (trace ≡ read ++ left))
-          × ((start : Writing) → HasRun l.compiled start [] l.fn.run (g.O.Sink.writing l.fn.out) → HasRun l.compiled start read l.run (g.O.Sink.writing l.out));
-      fits : FitsRun l.compiled.design l.run;
+          × ((start : Writing) → HasRun l.scheduled start [] l.fn.run (g.O.Sink.writing l.fn.out) → HasRun l.scheduled start read l.run (g.O.Sink.writing l.out));
+      fits : FitsRun l.scheduled l.run;
       turns : l._turn ≤ l.run.lines.at + length l.run.lines.held.items;
       room : 0 < length l.buffer;
       contents : (reading l.files).contents ≡ (reading l.fn.files).contents;

@@ -1,7 +1,14 @@
 use Rattle.std.proofs.lemmas.Result.{IfOk-weaker}
+use Rattle.std.proofs.Common.{subst}
+use Rattle.bsv_top.specs.declared.scheduled.ScheduledDesign.{ScheduledDesign}
+use Rattle.bsv_top.specs.MadeRuns.{IsSummary}
 use Rattle.bsv_top.proofs.MadeRun.{summed}
 use Rattle.bsv_top.proofs.made.sum_up.Goals as goal
 
 pub returns : goal.returns
 returns c =
-    IfOk-weaker c.summary.result _ _ (λ text h. summed c.args.compiled.now c.args.size c.in_ok-fired.fired c.run_clocks.new.state.parts.items text.items c.in_ok-fired.ensures h) c.summary.ensures
+    IfOk-weaker c.summary.result _ _
+    (λ text h.
+    subst (λ (d : ScheduledDesign). IsSummary d c.args.size text.items) c.in_ok-scheduled.ensures.scheduled
+    (summed c.in_ok-scheduled.scheduled c.args.size c.in_ok-fired.fired c.run_clocks.new.run c.registers.result.now text.items c.in_ok-fired.ensures c.registers.ensures h))
+    c.summary.ensures

@@ -116,10 +116,9 @@ returns-in-Err-clause-text g c = λ contents told.
     c.tell_stop.ensures.prefix
 
 pub returns-in-Err-clause-no_output : goal.returns-in-Err-clause-no_output
-returns-in-Err-clause-no_output g c = λ is none.
+returns-in-Err-clause-no_output g c = λ is.
     let said = c.tell_stop.ensures.told (λ write. let no_value : ⊥ = cc in no_value) in
     c.in-Err.ensures.no_output (ap Err (only_memory c.in-Err.stop (sym said.0 ∙ is)))
-    (λ file top trace words. none file top trace (c.in-Some.ensures.form ∙ words))
 
 pub returns-in-Err-clause-sources_within : goal.returns-in-Err-clause-sources_within
 returns-in-Err-clause-sources_within g c = λ none far.

@@ -9,46 +9,46 @@ use Rattle.bsv_top.proofs.simulation.run_over.Goals as goal
 
 pub returns-in_err-run-clause-started : goal.returns-in_err-run-clause-started
 returns-in_err-run-clause-started g c = λ contents told.
-    nothing_started c.args.compiled.now (g.O.Sink.writing c.args.out.now) (g.O.Sink.writing c.args.out.now) (contents c.args.trace.now) refl
+    nothing_started c.args.scheduled.now (g.O.Sink.writing c.args.out.now) (g.O.Sink.writing c.args.out.now) (contents c.args.trace.now) refl
 
 pub returns-in_err-buffer-clause-started : goal.returns-in_err-buffer-clause-started
 returns-in_err-buffer-clause-started g c = λ contents told.
-    nothing_started c.args.compiled.now (g.O.Sink.writing c.args.out.now) (g.O.Sink.writing c.args.out.now) (contents c.args.trace.now) refl
+    nothing_started c.args.scheduled.now (g.O.Sink.writing c.args.out.now) (g.O.Sink.writing c.args.out.now) (contents c.args.trace.now) refl
 
 pub returns-in_err-name-clause-started : goal.returns-in_err-name-clause-started
 returns-in_err-name-clause-started g c = λ contents told.
-    nothing_started c.args.compiled.now (g.O.Sink.writing c.args.out.now) (g.O.Sink.writing c.args.out.now) (contents c.args.trace.now) refl
+    nothing_started c.args.scheduled.now (g.O.Sink.writing c.args.out.now) (g.O.Sink.writing c.args.out.now) (contents c.args.trace.now) refl
 
 pub returns-in_err-blamed-clause-started : goal.returns-in_err-blamed-clause-started
 returns-in_err-blamed-clause-started g c = λ contents told.
-    nothing_started c.args.compiled.now (g.O.Sink.writing c.args.out.now) (g.O.Sink.writing c.args.out.now) (contents c.args.trace.now) refl
+    nothing_started c.args.scheduled.now (g.O.Sink.writing c.args.out.now) (g.O.Sink.writing c.args.out.now) (contents c.args.trace.now) refl
 
 pub returns-in-Ok-clause-done : goal.returns-in-Ok-clause-done
 returns-in-Ok-clause-done g c = λ contents told.
-    subst (λ (name : List ℕ). IsDoneOf c.args.compiled.now (g.O.Sink.writing c.args.out.now) (contents name) (g.O.Sink.writing c.put_report.new.out)) (c.in_ok-name.ensures ∙ c.as_bytes.ensures.value)
+    subst (λ (name : List ℕ). IsDoneOf c.args.scheduled.now (g.O.Sink.writing c.args.out.now) (contents name) (g.O.Sink.writing c.put_report.new.out)) (c.in_ok-name.ensures ∙ c.as_bytes.ensures.value)
     (c.in-Ok.ensures.done contents told)
 
 pub returns-in-Ok-clause-started : goal.returns-in-Ok-clause-started
 returns-in-Ok-clause-started g c = λ contents told.
-    subst (λ (name : List ℕ). IsStartedOf c.args.compiled.now (g.O.Sink.writing c.args.out.now) (contents name) (g.O.Sink.writing c.put_report.new.out)) (c.in_ok-name.ensures ∙ c.as_bytes.ensures.value)
+    subst (λ (name : List ℕ). IsStartedOf c.args.scheduled.now (g.O.Sink.writing c.args.out.now) (contents name) (g.O.Sink.writing c.put_report.new.out)) (c.in_ok-name.ensures ∙ c.as_bytes.ensures.value)
     (c.in-Ok.ensures.started contents told)
 
 pub returns-in-Ok-clause-done_within : goal.returns-in-Ok-clause-done_within
 returns-in-Ok-clause-done_within g c = λ contents told.
     let room : length c.deref_mut.result.now ≡ piece_limit = omega (arith, c.in_ok-buffer.ensures.len) in
-    followed_trace (its_outlines c.args.compiled.now) (length c.deref_mut.result.now) c.in_ok-name.name c.args.trace.now contents (g.F.Files.reading c.args.files.now) (g.F.Files.reading c.put_report.new.files)
+    followed_trace (its_outlines c.args.scheduled.now) (length c.deref_mut.result.now) c.in_ok-name.name c.args.trace.now contents (g.F.Files.reading c.args.files.now) (g.F.Files.reading c.put_report.new.files)
     (c.in_ok-name.ensures ∙ c.as_bytes.ensures.value) room (c.in-Ok.ensures.followed (λ e. let no_value : ⊥ = cc in no_value) contents told)
 
 pub returns-clause-bad : goal.returns-clause-bad
 returns-clause-bad g c = λ number h contents told.
     let why = halted_bad c.stop_for.result c.in-Err.halt c.in_ok-blamed.blamed (c.put_report.new.run.lines.done + 1) c.stop_for.ensures number h in
-    subst (λ (n : ℕ). IsFaultyOf c.args.compiled.now (g.O.Sink.writing c.args.out.now) (contents c.args.trace.now) (g.O.Sink.writing c.put_report.new.out) n) why.1
-    (subst (λ (name : List ℕ). IsFaultyOf c.args.compiled.now (g.O.Sink.writing c.args.out.now) (contents name) (g.O.Sink.writing c.put_report.new.out) (c.put_report.new.run.lines.done + 1)) (c.in_ok-name.ensures ∙ c.as_bytes.ensures.value)
+    subst (λ (n : ℕ). IsFaultyOf c.args.scheduled.now (g.O.Sink.writing c.args.out.now) (contents c.args.trace.now) (g.O.Sink.writing c.put_report.new.out) n) why.1
+    (subst (λ (name : List ℕ). IsFaultyOf c.args.scheduled.now (g.O.Sink.writing c.args.out.now) (contents name) (g.O.Sink.writing c.put_report.new.out) (c.put_report.new.run.lines.done + 1)) (c.in_ok-name.ensures ∙ c.as_bytes.ensures.value)
     (c.in-Err.ensures.bad (ap Err why.0) contents told))
 
 pub returns-clause-started : goal.returns-clause-started
 returns-clause-started g c = λ contents told.
-    subst (λ (name : List ℕ). IsStartedOf c.args.compiled.now (g.O.Sink.writing c.args.out.now) (contents name) (g.O.Sink.writing c.put_report.new.out)) (c.in_ok-name.ensures ∙ c.as_bytes.ensures.value)
+    subst (λ (name : List ℕ). IsStartedOf c.args.scheduled.now (g.O.Sink.writing c.args.out.now) (contents name) (g.O.Sink.writing c.put_report.new.out)) (c.in_ok-name.ensures ∙ c.as_bytes.ensures.value)
     (c.in-Err.ensures.started contents told)
 
 pub returns-clause-own : goal.returns-clause-own
@@ -69,14 +69,14 @@ returns-clause-unwritable g c = λ h.
 pub returns-clause-within : goal.returns-clause-within
 returns-clause-within g c = λ contents told.
     let room : length c.deref_mut.result.now ≡ piece_limit = omega (arith, c.in_ok-buffer.ensures.len) in
-    follows (its_outlines c.args.compiled.now) (length c.deref_mut.result.now) c.in_ok-name.name c.args.trace.now contents (g.F.Files.reading c.args.files.now) (g.F.Files.reading c.put_report.new.files)
+    follows (its_outlines c.args.scheduled.now) (length c.deref_mut.result.now) c.in_ok-name.name c.args.trace.now contents (g.F.Files.reading c.args.files.now) (g.F.Files.reading c.put_report.new.files)
     (c.in_ok-name.ensures ∙ c.as_bytes.ensures.value) room (c.in-Err.ensures.within contents told)
 
 pub returns-clause-bad_within : goal.returns-clause-bad_within
 returns-clause-bad_within g c = λ number h contents told.
     let why = halted_bad c.stop_for.result c.in-Err.halt c.in_ok-blamed.blamed (c.put_report.new.run.lines.done + 1) c.stop_for.ensures number h in
     let room : length c.deref_mut.result.now ≡ piece_limit = omega (arith, c.in_ok-buffer.ensures.len) in
-    followed_trace (its_outlines c.args.compiled.now) (length c.deref_mut.result.now) c.in_ok-name.name c.args.trace.now contents (g.F.Files.reading c.args.files.now) (g.F.Files.reading c.put_report.new.files)
+    followed_trace (its_outlines c.args.scheduled.now) (length c.deref_mut.result.now) c.in_ok-name.name c.args.trace.now contents (g.F.Files.reading c.args.files.now) (g.F.Files.reading c.put_report.new.files)
     (c.in_ok-name.ensures ∙ c.as_bytes.ensures.value) room (c.in-Err.ensures.followed (λ e. not_unreadable c.in-Err.halt why.0 e) contents told)
 
 pub returns-clause-files_kept : goal.returns-clause-files_kept

@@ -3,11 +3,14 @@ use Rattle.std.proofs.lemmas.Result.{err_from_is_err_and, on_ok_weaker}
 use Rattle.bsv_lemmas.proofs.Choices.{same_err}
 use Rattle.bsv_io.specs.Faults.{MayFault}
 use Rattle.bsv_flow.specs.declared.scheduling.Compiled.{Compiled}
-use Rattle.bsv_flow.proofs.Planned.{compiled_planned}
 use Rattle.bsv_top.specs.declared.stop.Stop.TheVariants as stop
 use Rattle.bsv_top.specs.Answers.{Asks, sim_words}
 use Rattle.bsv_top.specs.Outcomes as o
-use Rattle.bsv_top.proofs.Simulated.{run_within, simulated_started, simulated_done, simulated_stop, trace_within}
+use Rattle.bsv_top.specs.Outcomes.{StopsReport}
+use Rattle.bsv_top.specs.Places.{piece_limit}
+use Rattle.bsv_top.specs.Running.{Follows, IsDoneOf, IsFaultyOf, IsFollowed, IsInterruptedOf, IsStartedOf, its_outlines}
+use Rattle.bsv_top.specs.declared.scheduled.ScheduledDesign.{ScheduledDesign}
+use Rattle.bsv_top.proofs.Simulated.{run_within, simulated_interrupted, simulated_started, simulated_done, simulated_stop, trace_within}
 use Rattle.bsv_top.proofs.Stopped.{fault_stops, fault_unread}
 use Rattle.bsv_top.proofs.simulation.simulate.Goals as goal
 
@@ -35,19 +38,23 @@ returns-clause-done g c =
     on_ok_weaker c.run_over.result
     (λ run contents told.
     simulated_done c.args.form.file.now contents c.args.form.top.now c.args.form.trace.now c.in_ok-compiled.compiled (c.in_ok-compiled.ensures.compiled contents told)
-    (g.O.Sink.writing c.args.out.now) (g.O.Sink.writing c.run_over.new.out) (run contents (c.in_ok-compiled.ensures.contents ∙ told))) c.run_over.ensures.done
+    (g.O.Sink.writing c.args.out.now) (g.O.Sink.writing c.run_over.new.out) (subst (λ (d : ScheduledDesign). IsDoneOf d (g.O.Sink.writing c.args.out.now) (contents c.args.form.trace.now) (g.O.Sink.writing c.run_over.new.out)) c.in_ok-started.ensures.scheduled
+    (run contents (c.in_ok-compiled.ensures.contents ∙ told)))) c.run_over.ensures.done
 
 pub returns-clause-stopped : goal.returns-clause-stopped
 returns-clause-stopped g c = λ s h contents told.
     simulated_stop c.args.form.file.now contents c.args.form.top.now c.args.form.trace.now c.in_ok-compiled.compiled (c.in_ok-compiled.ensures.compiled contents told)
     (g.O.Sink.writing c.args.out.now) (g.O.Sink.writing c.run_over.new.out) s
-    (λ number e. c.run_over.ensures.bad number (h ∙ ap Err e) contents (c.in_ok-compiled.ensures.contents ∙ told))
+    (λ number e.
+    subst (λ (d : ScheduledDesign). IsFaultyOf d (g.O.Sink.writing c.args.out.now) (contents c.args.form.trace.now) (g.O.Sink.writing c.run_over.new.out) number) c.in_ok-started.ensures.scheduled
+    (c.run_over.ensures.bad number (h ∙ ap Err e) contents (c.in_ok-compiled.ensures.contents ∙ told)))
     (λ r e. c.run_over.ensures.own r (h ∙ ap Err e)) (λ name e. (c.run_over.ensures.unread name (h ∙ ap Err e)).0)
 
 pub returns-clause-started : goal.returns-clause-started
 returns-clause-started g c = λ contents told.
     simulated_started c.args.form.file.now contents c.args.form.top.now c.args.form.trace.now c.in_ok-compiled.compiled (c.in_ok-compiled.ensures.compiled contents told)
-    (g.O.Sink.writing c.args.out.now) (g.O.Sink.writing c.run_over.new.out) (c.run_over.ensures.started contents (c.in_ok-compiled.ensures.contents ∙ told))
+    (g.O.Sink.writing c.args.out.now) (g.O.Sink.writing c.run_over.new.out) (subst (λ (d : ScheduledDesign). IsStartedOf d (g.O.Sink.writing c.args.out.now) (contents c.args.form.trace.now) (g.O.Sink.writing c.run_over.new.out)) c.in_ok-started.ensures.scheduled
+    (c.run_over.ensures.started contents (c.in_ok-compiled.ensures.contents ∙ told)))
 
 pub returns-clause-unread : goal.returns-clause-unread
 returns-clause-unread g c = λ name h.
@@ -58,23 +65,32 @@ returns-clause-unread g c = λ name h.
     (subst (λ (n : ℕ). MayFault n (g.F.Files.reading c.run_over.new.files).faults) (c.in_ok-compiled.ensures.kept (λ blamed e. let no_value : ⊥ = cc in no_value)) this.1)
     this.2
     (λ contents told.
-    let x = c.in_ok-compiled.ensures.compiled contents told in
-    (x.compiled.tree, c.in_ok-compiled.compiled.schedule, compiled_planned file contents top c.in_ok-compiled.compiled x))
+    let at = (g.F.Files.reading c.run_over.new.files).current in
+    subst (λ (n : List ℕ). StopsReport file top n contents at (g.O.Sink.writing c.args.out.now) (g.O.Sink.writing c.run_over.new.out)) (sym this.0)
+    (simulated_interrupted file contents top c.args.form.trace.now c.in_ok-compiled.compiled (c.in_ok-compiled.ensures.compiled contents told)
+    (g.O.Sink.writing c.args.out.now) (g.O.Sink.writing c.run_over.new.out) at
+    (subst (λ (d : ScheduledDesign). IsInterruptedOf d (g.O.Sink.writing c.args.out.now) (contents c.args.form.trace.now) at (g.O.Sink.writing c.run_over.new.out)) c.in_ok-started.ensures.scheduled
+    (c.run_over.ensures.interrupted name h contents (c.in_ok-compiled.ensures.contents ∙ told)))))
 
 pub returns-clause-within : goal.returns-clause-within
 returns-clause-within g c = λ contents told.
     run_within c.args.form.file.now contents c.args.form.top.now c.args.form.trace.now c.in_ok-compiled.compiled (c.in_ok-compiled.ensures.compiled contents told)
     (g.F.Files.reading c.args.files.now) (g.F.Files.reading c.compile.new.files) (g.F.Files.reading c.run_over.new.files) c.in_ok-compiled.ensures.within
-    (c.run_over.ensures.within contents (c.in_ok-compiled.ensures.contents ∙ told))
+    (subst (λ (d : ScheduledDesign). Follows (its_outlines d) c.args.form.trace.now contents (g.F.Files.reading c.compile.new.files) (g.F.Files.reading c.run_over.new.files)) c.in_ok-started.ensures.scheduled
+    (c.run_over.ensures.within contents (c.in_ok-compiled.ensures.contents ∙ told)))
 
 pub returns-clause-done_within : goal.returns-clause-done_within
 returns-clause-done_within g c =
     on_ok_weaker c.run_over.result
     (λ run contents told.
     trace_within c.args.form.file.now contents c.args.form.top.now c.args.form.trace.now c.in_ok-compiled.compiled (c.in_ok-compiled.ensures.compiled contents told)
-    (g.F.Files.reading c.run_over.new.files) (run contents (c.in_ok-compiled.ensures.contents ∙ told))) c.run_over.ensures.done_within
+    (g.F.Files.reading c.run_over.new.files)
+    (subst (λ (d : ScheduledDesign). IsFollowed (its_outlines d) piece_limit c.args.form.trace.now contents (g.F.Files.reading c.run_over.new.files)) c.in_ok-started.ensures.scheduled
+    (run contents (c.in_ok-compiled.ensures.contents ∙ told)))) c.run_over.ensures.done_within
 
 pub returns-clause-bad_within : goal.returns-clause-bad_within
 returns-clause-bad_within g c = λ number h contents told.
     trace_within c.args.form.file.now contents c.args.form.top.now c.args.form.trace.now c.in_ok-compiled.compiled (c.in_ok-compiled.ensures.compiled contents told)
-    (g.F.Files.reading c.run_over.new.files) (c.run_over.ensures.bad_within number h contents (c.in_ok-compiled.ensures.contents ∙ told))
+    (g.F.Files.reading c.run_over.new.files)
+    (subst (λ (d : ScheduledDesign). IsFollowed (its_outlines d) piece_limit c.args.form.trace.now contents (g.F.Files.reading c.run_over.new.files)) c.in_ok-started.ensures.scheduled
+    (c.run_over.ensures.bad_within number h contents (c.in_ok-compiled.ensures.contents ∙ told)))

@@ -2,32 +2,34 @@ use Rattle.std.proofs.Common.{◌+◌, ℕ, refl, ap, ◌∙◌}
 use Rattle.std.proofs.lemmas.Result.{on_ok_weaker}
 use Rattle.bsv_top.specs.declared.halt.Halt.TheVariants as halt
 use Rattle.bsv_top.specs.declared.lines.Lines.{Lines}
-use Rattle.bsv_top.proofs.Stepping.{at_fault, fails, over_ended, started_here, ran_ended, bad_ended, stepped, stepped_ended}
+use Rattle.bsv_top.proofs.Stepping.{at_fault, fails, over_ended, started_here, ran_ended, bad_ended, shown_of, state, stepped, stepped_ended}
 use Rattle.bsv_top.proofs.clocks.Run.run_ended.Goals as goal
 
 pub returns-in_err-gather-clause-bad : goal.returns-in_err-gather-clause-bad
 returns-in_err-gather-clause-bad g c = λ _ start read left run.
-    over_ended c.args.compiled.now start read c.args.self.now (g.O.Sink.writing c.args.out.now) run c.args.bytes.now left (c.gather.new.self.done + 1)
+    over_ended c.args.scheduled.now start read c.args.self.now (g.O.Sink.writing c.args.out.now) run c.args.bytes.now left (c.gather.new.self.done + 1)
     c.requires.ended c.in_err-gather.ensures.over (ap (λ (n : ℕ). n + 1) c.in_err-gather.ensures.done)
 
 pub returns-in_err-gather-clause-started : goal.returns-in_err-gather-clause-started
 returns-in_err-gather-clause-started g c = fails c.from_residual.result _ (λ start read left run.
-    started_here c.args.compiled.now start read c.args.self.now (g.O.Sink.writing c.args.out.now) run c.args.bytes.now left)
+    started_here c.args.scheduled.now start read c.args.self.now (g.O.Sink.writing c.args.out.now) run c.args.bytes.now left)
 
 pub returns-clause-ran : goal.returns-clause-ran
 returns-clause-ran g c =
     let gathered = c.in_ok-gather.ensures in
     on_ok_weaker c.run_line.result
     (λ this start read run.
-    ran_ended c.args.compiled.now start read c.args.self.now (g.O.Sink.writing c.args.out.now) run _ c.run_line.new.self refl
-    gathered.at gathered.done this.ran c.args.bytes.now c.requires.ended gathered.gathered (g.O.Sink.writing c.run_line.new.out) this)
+    let puts = this.ran (state c.args.scheduled.now start read c.args.self.now (g.O.Sink.writing c.args.out.now) run)
+        (shown_of c.args.scheduled.now start read c.args.self.now (g.O.Sink.writing c.args.out.now) run _ refl) in
+    ran_ended c.args.scheduled.now start read c.args.self.now (g.O.Sink.writing c.args.out.now) run _ c.run_line.new.self puts.after
+    gathered.at gathered.done puts.ran c.args.bytes.now c.requires.ended gathered.gathered (g.O.Sink.writing c.run_line.new.out) this puts.put)
     c.run_line.ensures.ran
 
 pub returns-clause-bad : goal.returns-clause-bad
 returns-clause-bad g c = λ h start read left run.
     let gathered = c.in_ok-gather.ensures in
     let same = at_fault c.run_line.result halt.BadLine _ h c.run_line.ensures.lines in
-    bad_ended c.args.compiled.now start read c.args.self.now (g.O.Sink.writing c.args.out.now) run c.args.bytes.now left c.gather.new.self.held.items (g.O.Sink.writing c.run_line.new.out)
+    bad_ended c.args.scheduled.now start read c.args.self.now (g.O.Sink.writing c.args.out.now) run c.args.bytes.now left c.gather.new.self.held.items (g.O.Sink.writing c.run_line.new.out)
     (c.run_line.new.self.lines.done + 1) c.requires.ended gathered.gathered (c.run_line.ensures.bad h)
     (at_fault c.run_line.result halt.BadLine _ h c.run_line.ensures.quiet (λ e. let no_value : ⊥ = cc in no_value))
     (ap (λ (l : Lines). l.done + 1) same ∙ ap (λ (n : ℕ). n + 1) gathered.done)
@@ -35,7 +37,9 @@ returns-clause-bad g c = λ h start read left run.
 pub returns-clause-started : goal.returns-clause-started
 returns-clause-started g c = fails c.run_line.result _ (λ start read left run.
     let gathered = c.in_ok-gather.ensures in
-    stepped_ended c.args.compiled.now start read c.args.self.now (g.O.Sink.writing c.args.out.now) run _ c.run_line.new.self refl
+    stepped_ended c.args.scheduled.now start read c.args.self.now (g.O.Sink.writing c.args.out.now) run _ c.run_line.new.self
     gathered.at gathered.done c.args.bytes.now left (g.O.Sink.writing c.run_line.new.out) c.requires.ended gathered.gathered
-    (stepped c.args.compiled.now _ c.run_line.new.self (g.O.Sink.writing c.args.out.now) (g.O.Sink.writing c.run_line.new.out) c.run_line.result
+    (stepped c.args.scheduled.now _ c.run_line.new.self (state c.args.scheduled.now start read c.args.self.now (g.O.Sink.writing c.args.out.now) run)
+    (g.O.Sink.writing c.args.out.now) (g.O.Sink.writing c.run_line.new.out) c.run_line.result
+    (shown_of c.args.scheduled.now start read c.args.self.now (g.O.Sink.writing c.args.out.now) run _ refl)
     c.run_line.ensures.ran c.run_line.ensures.started c.run_line.ensures.quiet))

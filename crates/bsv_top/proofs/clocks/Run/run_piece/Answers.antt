@@ -11,7 +11,7 @@ returns-in_err-run_ended-clause-bad g c = λ h start read left run.
     let e : c.run_ended.result ≡ Err halt.BadLine = c.in_err-run_ended.was ∙ ap Err (sym p.2) ∙ sym p.1 ∙ h in
     let gone = c.loop-ended.invariant.gone in
     let first = c.in-Some.ensures.line in
-    subst (λ (t : List ℕ). IsFaultyOf c.args.compiled.now start t (g.O.Sink.writing c.run_ended.new.out) (c.run_ended.new.self.lines.done + 1))
+    subst (λ (t : List ℕ). IsFaultyOf c.args.scheduled.now start t (g.O.Sink.writing c.run_ended.new.out) (c.run_ended.new.self.lines.done + 1))
     (cut read gone.0 c.in-Some.ended.now c.in-Some.behind.now c.args.piece.now c.loop-ended.left.now left gone.1 first.whole)
     (c.run_ended.ensures.bad e start (read ++ gone.0) (c.in-Some.behind.now ++ left) (gone.2 start read run))
 
@@ -19,7 +19,7 @@ pub returns-in_err-run_ended-clause-started : goal.returns-in_err-run_ended-clau
 returns-in_err-run_ended-clause-started g c = fails c.from_residual.result _ (λ start read left run.
     let gone = c.loop-ended.invariant.gone in
     let first = c.in-Some.ensures.line in
-    subst (λ (t : List ℕ). IsStartedOf c.args.compiled.now start t (g.O.Sink.writing c.run_ended.new.out))
+    subst (λ (t : List ℕ). IsStartedOf c.args.scheduled.now start t (g.O.Sink.writing c.run_ended.new.out))
     (cut read gone.0 c.in-Some.ended.now c.in-Some.behind.now c.args.piece.now c.loop-ended.left.now left gone.1 first.whole)
     (c.in_err-run_ended.ensures.started start (read ++ gone.0) (c.in-Some.behind.now ++ left) (gone.2 start read run)))
 
@@ -29,7 +29,7 @@ loop-ended-init g c = record {
     [],
     refl,
     λ start read run.
-        subst (λ (t : List ℕ). HasRun c.args.compiled.now start t c.args.self.now (g.O.Sink.writing c.args.out.now)) (sym (append-nil read)) run,
+        subst (λ (t : List ℕ). HasRun c.args.scheduled.now start t c.args.self.now (g.O.Sink.writing c.args.out.now)) (sym (append-nil read)) run,
   );
   long = refl;
   fits = c.requires.fits;
@@ -46,7 +46,7 @@ loop-ended-preserved g c =
         gone.0 ++ c.in-Some.ended.now,
         gone.1 ∙ ap (λ (t : List ℕ). gone.0 ++ t) first.whole ∙ sym (append_assoc gone.0 c.in-Some.ended.now c.in-Some.behind.now),
         λ start read run.
-            subst (λ (t : List ℕ). HasRun c.args.compiled.now start t c.run_ended.new.self (g.O.Sink.writing c.run_ended.new.out))
+            subst (λ (t : List ℕ). HasRun c.args.scheduled.now start t c.run_ended.new.self (g.O.Sink.writing c.run_ended.new.out))
             (append_assoc read gone.0 c.in-Some.ended.now) (this.ran start (read ++ gone.0) (gone.2 start read run)),
       );
       long = omega (arith, c.loop-ended.invariant.long, this.long, ap (λ (t : List ℕ). length t) first.whole, length-append c.in-Some.ended.now c.in-Some.behind.now);
@@ -58,23 +58,23 @@ pub returns-in_err-gather-clause-bad : goal.returns-in_err-gather-clause-bad
 returns-in_err-gather-clause-bad g c = λ h start read left run.
     let gone = c.loop-ended.invariant.gone in
     let over = c.in_err-gather.ensures in
-    subst (λ (t : List ℕ). IsFaultyOf c.args.compiled.now start (t ++ left) (g.O.Sink.writing c.loop-ended.out) (c.gather.new.self.done + 1))
+    subst (λ (t : List ℕ). IsFaultyOf c.args.scheduled.now start (t ++ left) (g.O.Sink.writing c.loop-ended.out) (c.gather.new.self.done + 1))
     (cut_rest read gone.0 c.args.piece.now c.loop-ended.left.now gone.1)
-    (over_started c.args.compiled.now start (read ++ gone.0) c.loop-ended.self (g.O.Sink.writing c.loop-ended.out) (gone.2 start read run) c.loop-ended.left.now left
+    (over_started c.args.scheduled.now start (read ++ gone.0) c.loop-ended.self (g.O.Sink.writing c.loop-ended.out) (gone.2 start read run) c.loop-ended.left.now left
     (c.gather.new.self.done + 1) c.in_default.ensures.none over.over (ap (λ (n : ℕ). n + 1) over.done))
 
 pub returns-in_err-gather-clause-started : goal.returns-in_err-gather-clause-started
 returns-in_err-gather-clause-started g c = fails c.from_residual-in_err-gather.result _ (λ start read left run.
     let gone = c.loop-ended.invariant.gone in
-    subst (λ (t : List ℕ). IsStartedOf c.args.compiled.now start (t ++ left) (g.O.Sink.writing c.loop-ended.out))
+    subst (λ (t : List ℕ). IsStartedOf c.args.scheduled.now start (t ++ left) (g.O.Sink.writing c.loop-ended.out))
     (cut_rest read gone.0 c.args.piece.now c.loop-ended.left.now gone.1)
-    (started_here c.args.compiled.now start (read ++ gone.0) c.loop-ended.self (g.O.Sink.writing c.loop-ended.out) (gone.2 start read run) c.loop-ended.left.now left))
+    (started_here c.args.scheduled.now start (read ++ gone.0) c.loop-ended.self (g.O.Sink.writing c.loop-ended.out) (gone.2 start read run) c.loop-ended.left.now left))
 
 pub returns-clause-ran : goal.returns-clause-ran
 returns-clause-ran g c = λ start read run.
     let gone = c.loop-ended.invariant.gone in
     let gathered = c.in_ok-gather.ensures in
-    subst (λ (t : List ℕ). HasRun c.args.compiled.now start t (record c.loop-ended.self { lines = c.gather.new.self }) (g.O.Sink.writing c.loop-ended.out))
+    subst (λ (t : List ℕ). HasRun c.args.scheduled.now start t (record c.loop-ended.self { lines = c.gather.new.self }) (g.O.Sink.writing c.loop-ended.out))
     (cut_rest read gone.0 c.args.piece.now c.loop-ended.left.now gone.1)
-    (gathered_more c.args.compiled.now start (read ++ gone.0) c.loop-ended.self (g.O.Sink.writing c.loop-ended.out) (gone.2 start read run) c.loop-ended.left.now c.gather.new.self
+    (gathered_more c.args.scheduled.now start (read ++ gone.0) c.loop-ended.self (g.O.Sink.writing c.loop-ended.out) (gone.2 start read run) c.loop-ended.left.now c.gather.new.self
     c.in_default.ensures.none gathered.gathered gathered.done gathered.at)
