@@ -52,7 +52,12 @@ fn plain_net(alloc: Global, compiled: &Compiled) -> Result<Net, OutOfMemory>
     ensures results { IfOk result (λ net.
         NamesResults (design_scheme (design_data compiled.now.design)) (net_data net)) }
 {
-    let net = add_fire(alloc, &compiled.design, &compiled.guards, &compiled.schedule)?;
+    let net = add_fire(
+        alloc,
+        &compiled.design,
+        &compiled.guards,
+        &compiled.schedule,
+    )?;
     add_next(alloc, &compiled.design, &compiled.schedule, net)
 }
 

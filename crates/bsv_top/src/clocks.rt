@@ -30,11 +30,7 @@ pub(crate) struct Run {
 
 impl Run {
     /// Runs the clock of the line that was gathered, and puts its lines.
-    fn run_line<O: Sink>(
-        &mut self,
-        scheduled: &ScheduledDesign,
-        out: &mut O,
-    ) -> Result<(), Halt>
+    fn run_line<O: Sink>(&mut self, scheduled: &ScheduledDesign, out: &mut O) -> Result<(), Halt>
         requires fits { FitsRun scheduled.now self.old }
         requires some { 0 < length self.old.lines.held.items }
         ensures fits { FitsRun scheduled.now self.new }
@@ -58,7 +54,8 @@ impl Run {
     {
         let design = &scheduled.design;
         line(design, self.lines.text(), &mut self.requests)?;
-        self.sim.clock(&scheduled.schedule, &self.requests, &mut self.fired);
+        self.sim
+            .clock(&scheduled.schedule, &self.requests, &mut self.fired);
         let number = self.lines.done + 1;
         write_clock_registers(design, number, &self.fired, self.sim.registers(), out)?;
         self.lines.end_line();

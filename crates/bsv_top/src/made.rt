@@ -92,7 +92,8 @@ fn run_clocks(scheduled: &ScheduledDesign, run: &mut Run) -> Result<u64, OutOfMe
 {
     let mut count = 0u64;
     for _clock in 0..100u32 {
-        run.sim.clock(&scheduled.schedule, &run.requests, &mut run.fired);
+        run.sim
+            .clock(&scheduled.schedule, &run.requests, &mut run.fired);
         count = sum_of(count, run.fired.list.as_slice().len())?;
     }
     Ok(count)

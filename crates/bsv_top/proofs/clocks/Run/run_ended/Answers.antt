@@ -20,7 +20,7 @@ returns-clause-ran g c =
     on_ok_weaker c.run_line.result
     (λ this start read run.
     let puts = this.ran (state c.args.scheduled.now start read c.args.self.now (g.O.Sink.writing c.args.out.now) run)
-        (shown_of c.args.scheduled.now start read c.args.self.now (g.O.Sink.writing c.args.out.now) run _ refl) in
+    (shown_of c.args.scheduled.now start read c.args.self.now (g.O.Sink.writing c.args.out.now) run _ refl) in
     ran_ended c.args.scheduled.now start read c.args.self.now (g.O.Sink.writing c.args.out.now) run _ c.run_line.new.self puts.after
     gathered.at gathered.done puts.ran c.args.bytes.now c.requires.ended gathered.gathered (g.O.Sink.writing c.run_line.new.out) this puts.put)
     c.run_line.ensures.ran
