@@ -21,4 +21,6 @@ mod Spelled
 mod Stepping
 mod Stopped
 mod Told
+pub mod Clocking
+pub mod HeldAt
 pub mod Interrupted

@@ -1,9 +1,39 @@
-use Rattle.std.proofs.Common.{List, ℕ, ap, ◌∙◌, subst}
+use Rattle.std.proofs.Common.{refl}
 use Rattle.bsv_design.specs.scheme.Seen.{asking}
-use Rattle.bsv_io.specs.Writing.{appended, AppendsPrefix}
-use Rattle.bsv_top.proofs.Named.{asks_here, asks_there, clock_same}
+use Rattle.bsv_top.specs.declared.clocks.Run.{Run}
+use Rattle.bsv_top.proofs.Clocking.{begins_clock, can_clock, fits_after, puts_clock, written}
+use Rattle.bsv_top.proofs.Named.{asks_here, asks_there}
 use Rattle.bsv_top.proofs.clocks.Run.run_line.Goals as goal
 
 pub returns-in_err-line-clause-bad : goal.returns-in_err-line-clause-bad
 returns-in_err-line-clause-bad g c = λ _ q asks.
     c.in_err-line.ensures.bad q (asks_there c.args.scheduled.now.design c.text.result.now _ q c.text.ensures asks)
+
+pub clock-requires : goal.clock-requires
+clock-requires g c = ∣ can_clock c.args.scheduled.now c.args.self.now c.requires.fits (asking c.line.new.requests) c.in_ok-line.ensures.fits ∣₁
+
+pub returns-in_err-write_clock_registers-clause-started : goal.returns-in_err-write_clock_registers-clause-started
+returns-in_err-write_clock_registers-clause-started g c = λ _ s shown.
+    let d = c.args.scheduled.now in
+    let new : Run = record { lines = c.args.self.now.lines; sim = c.clock.new.self; requests = c.line.new.requests; fired = c.clock.new.fired } in
+    begins_clock d c.args.self.now c.requires.fits new c.in_ok-line.ensures.fits c.clock.ensures.happens
+    (asks_here d.design c.text.result.now _ (asking c.line.new.requests) c.text.ensures c.in_ok-line.ensures.asks) s shown
+    _ (g.O.Sink.writing c.args.out.now) (g.O.Sink.writing c.write_clock_registers.new.sink) refl
+    (c.in_err-write_clock_registers.ensures.prefix _
+    (written d c.args.self.now c.requires.fits new c.in_ok-line.ensures.fits c.clock.ensures.happens c.registers.result.now c.registers.ensures s shown))
+
+pub returns-clause-ran : goal.returns-clause-ran
+returns-clause-ran g c =
+    let d = c.args.scheduled.now in
+    let new : Run = record { lines = c.end_line.new.self; sim = c.clock.new.self; requests = c.line.new.requests; fired = c.clock.new.fired } in
+    record {
+      ran = λ s shown.
+          puts_clock d c.args.self.now c.requires.fits new c.in_ok-line.ensures.fits c.clock.ensures.happens
+          (asks_here d.design c.text.result.now _ (asking c.line.new.requests) c.text.ensures c.in_ok-line.ensures.asks) s shown
+          _ (g.O.Sink.writing c.args.out.now) (g.O.Sink.writing c.write_clock_registers.new.sink) refl
+          (c.in_ok-write_clock_registers.ensures.ok _
+          (written d c.args.self.now c.requires.fits new c.in_ok-line.ensures.fits c.clock.ensures.happens c.registers.result.now c.registers.ensures s shown));
+      done = c.end_line.ensures.done;
+      at = c.end_line.ensures.at;
+      none = c.end_line.ensures.held;
+    }
