@@ -32,7 +32,7 @@ use Rattle.bsv_flow.proofs.WellClocked.{well_clocked}
 use Rattle.bsv_top.specs.Traces.{AreAsked, AreAskedToBad}
 use Rattle.bsv_top.proofs.Happening.{room}
 use Rattle.bsv_top.proofs.Named.{outlines_are}
-use Rattle.bsv_serial.proofs.ClockGround.{requests_fit}
+use Rattle.bsv_sim.proofs.Asked.{requests_fit}
 use Rattle.bsv_schedule.proofs.RelationsLemmas.{agrees_design}
 
 few_elements : (d : Design) → length d.elements < room

@@ -1,16 +1,17 @@
 -- A trace that can be read no further: what was read of it is the lines that were run, and what was begun of the next one.
-use Rattle.std.proofs.Common.{◌≡◌, ◌∙◌, ℕ, zero, suc, ◌+◌, ◌==◌, ◌≤◌, Bool, true, false, if◌then◌else◌, List, [], ◌∷◌, ◌++◌, length, take, drop, refl, sym, ap, subst, arith, append_assoc, append-nil, length-append}
+use Rattle.std.proofs.Common.{◌≡◌, ◌∙◌, ℕ, zero, suc, ◌+◌, ◌==◌, ◌≤◌, Bool, true, false, if◌then◌else◌, List, [], ◌∷◌, ◌++◌, Option, None, Some, length, option_map, take, drop, refl, sym, ap, subst, arith, append_assoc, append-nil, length-append}
 use Rattle.std.proofs.lemmas.Bool.{eqb-true}
+use Rattle.bsv_io.specs.Reading.{Current, given_of}
 use Rattle.bsv_io.specs.Writing.{Writing}
 use Rattle.bsv_top.specs.declared.clocks.Run.{Run}
 use Rattle.bsv_top.specs.declared.scheduled.ScheduledDesign.{ScheduledDesign}
 use Rattle.bsv_top.specs.Reading.{HasNoFeed}
-use Rattle.bsv_top.specs.Running.{HasRun, IsReportToOf, its_subject}
+use Rattle.bsv_top.specs.Running.{HasRun, IsInterruptedOf, IsReportToOf, its_subject}
 use Rattle.bsv_top.specs.Traces.{bytes_in, lines_of, onto}
 
 -- ---- the bytes of lines
 
-flat : List (List ℕ) → List ℕ
+abbrev flat : List (List ℕ) → List ℕ
 flat [] = []
 flat (line ∷ lines) = line ++ flat lines
 
@@ -28,11 +29,11 @@ flat_onto byte (line ∷ lines) = refl
 
 flat_lines : (bytes : List ℕ) → flat (lines_of bytes) ≡ bytes
 flat_lines [] = refl
-flat_lines (byte ∷ bytes) = of (byte == 10)
+flat_lines (byte ∷ bytes) = of (byte == 10) (flat_lines bytes)
   where
-    of : (t : Bool) → flat (if t then (byte ∷ []) ∷ lines_of bytes else onto byte (lines_of bytes)) ≡ byte ∷ bytes
-    of true = ap (λ (t : List ℕ). byte ∷ t) (flat_lines bytes)
-    of false = flat_onto byte (lines_of bytes) ∙ ap (λ (t : List ℕ). byte ∷ t) (flat_lines bytes)
+    of : (t : Bool) → flat (lines_of bytes) ≡ bytes → flat (if t then (byte ∷ []) ∷ lines_of bytes else onto byte (lines_of bytes)) ≡ byte ∷ bytes
+    of true rest = ap (λ (t : List ℕ). byte ∷ t) rest
+    of false rest = flat_onto byte (lines_of bytes) ∙ ap (λ (t : List ℕ). byte ∷ t) rest
 
 -- ---- lists
 
@@ -79,3 +80,9 @@ module _ (c : ScheduledDesign) (start : Writing) (read : List ℕ) (r : Run) (w 
     runs = run.runs;
     put = run.put;
   }
+
+-- the place is that of the current file
+pub interrupted_at : (c : ScheduledDesign) (start : Writing) (trace name : List ℕ) (w : Writing) (o : Option Current) → option_map (λ (at : Current). at.name) o ≡ Some name
+    → ((place : ℕ) → given_of o ≡ place → IsReportToOf c start trace place w) → IsInterruptedOf c start trace o w
+interrupted_at c start trace name w None named there = absurd (let no_value : ⊥ = cc in no_value)
+interrupted_at c start trace name w (Some at) named there = there at.place refl

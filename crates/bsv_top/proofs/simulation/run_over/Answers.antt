@@ -2,14 +2,10 @@ use Rattle.std.proofs.Common.{◌≡◌, ◌∙◌, ℕ, ◌+◌, List, length, 
 use Rattle.bsv_lemmas.proofs.Choices.{same_err}
 use Rattle.bsv_top.specs.declared.halt.Halt.TheVariants as halt
 use Rattle.bsv_top.specs.Places.{piece_limit}
-use Rattle.bsv_top.specs.Running.{IsStartedOf, IsDoneOf, IsFaultyOf, its_outlines}
-use Rattle.bsv_top.proofs.Halted.{halted_bad, halted_read, halted_refused, halted_unread, halted_unwritable, halted_written, not_unreadable}
+use Rattle.bsv_top.specs.Running.{IsStartedOf, IsDoneOf, IsFaultyOf, IsInterruptedOf, its_outlines}
+use Rattle.bsv_top.proofs.Halted.{halted_bad, halted_memory, halted_read, halted_refused, halted_unread, halted_unwritable, halted_written, not_unreadable}
 use Rattle.bsv_top.proofs.Opened.{followed_trace, follows, nothing_started}
 use Rattle.bsv_top.proofs.simulation.run_over.Goals as goal
-
-pub returns-in_err-run-clause-started : goal.returns-in_err-run-clause-started
-returns-in_err-run-clause-started g c = λ contents told.
-    nothing_started c.args.scheduled.now (g.O.Sink.writing c.args.out.now) (g.O.Sink.writing c.args.out.now) (contents c.args.trace.now) refl
 
 pub returns-in_err-buffer-clause-started : goal.returns-in_err-buffer-clause-started
 returns-in_err-buffer-clause-started g c = λ contents told.
@@ -86,3 +82,13 @@ returns-clause-files_kept g c = λ none.
 pub returns-clause-out_kept : goal.returns-clause-out_kept
 returns-clause-out_kept g c = λ none.
     c.in-Err.ensures.out_kept (λ e. halted_written c.stop_for.result c.in-Err.halt c.in_ok-blamed.blamed (c.put_report.new.run.lines.done + 1) c.stop_for.ensures none (same_err c.in-Err.halt halt.Unwritable e))
+
+pub returns-clause-no_memory : goal.returns-clause-no_memory
+returns-clause-no_memory g c = λ h.
+    absurd (halted_memory c.stop_for.result c.in-Err.halt c.in_ok-blamed.blamed (c.put_report.new.run.lines.done + 1) c.stop_for.ensures h)
+
+pub returns-clause-interrupted : goal.returns-clause-interrupted
+returns-clause-interrupted g c = λ name h contents told.
+    let why = halted_unread c.stop_for.result c.in-Err.halt c.in_ok-blamed.blamed (c.put_report.new.run.lines.done + 1) c.stop_for.ensures name h in
+    subst (λ (n : List ℕ). IsInterruptedOf c.args.scheduled.now (g.O.Sink.writing c.args.out.now) (contents n) (g.F.Files.reading c.put_report.new.files).current (g.O.Sink.writing c.put_report.new.out))
+    (c.in_ok-name.ensures ∙ c.as_bytes.ensures.value) (c.in-Err.ensures.interrupted (ap Err why.0) contents told)

@@ -94,3 +94,6 @@ returns-clause-bad_within g c = λ number h contents told.
     (g.F.Files.reading c.run_over.new.files)
     (subst (λ (d : ScheduledDesign). IsFollowed (its_outlines d) piece_limit c.args.form.trace.now contents (g.F.Files.reading c.run_over.new.files)) c.in_ok-started.ensures.scheduled
     (c.run_over.ensures.bad_within number h contents (c.in_ok-compiled.ensures.contents ∙ told)))
+
+pub returns-clause-refused : goal.returns-clause-refused
+returns-clause-refused g c = λ r h. absurd (c.run_over.ensures.own r h)
