@@ -43,13 +43,13 @@ module _ (path : List ℕ) (whole : Option Bits) where
 
   pub is_here : (i : NamedPart) (is : List NamedPart) (registers : List Bits) (t : Bool) → bytes_eq i.path path ≡ t → t ≡ true
       → (h : FirstHere path whole i is registers) → whole ≡ number_of h.part
-  is_here i is registers t test yes h =
-      h.same ∙ ap (λ (b : Bool). if b then number_of h.part else held_at path is h.parts) (test ∙ yes)
+  is_here i is registers t test holds h =
+      h.same ∙ ap (λ (b : Bool). if b then number_of h.part else held_at path is h.parts) (test ∙ holds)
 
   pub is_later : (i : NamedPart) (is : List NamedPart) (registers : List Bits) (t : Bool) → bytes_eq i.path path ≡ t → t ≡ false
       → (h : FirstHere path whole i is registers) → whole ≡ held_at path is h.parts
-  is_later i is registers t test no h =
-      h.same ∙ ap (λ (b : Bool). if b then number_of h.part else held_at path is h.parts) (test ∙ no)
+  is_later i is registers t test fails h =
+      h.same ∙ ap (λ (b : Bool). if b then number_of h.part else held_at path is h.parts) (test ∙ fails)
 
 none_held : (path : List ℕ) (ps : List Part) → held_at path [] ps ≡ None
 none_held path [] = refl

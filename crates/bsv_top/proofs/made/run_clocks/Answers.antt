@@ -7,9 +7,9 @@ use Rattle.bsv_top.proofs.made.run_clocks.Goals as goal
 
 pub loop-clock-init : goal.loop-clock-init
 loop-clock-init c = record {
-  fired = none_fired c.args.scheduled.now c.args.run.now c.requires;
-  fits = c.requires.fits;
-  nothing = c.requires.nothing;
+  fired = none_fired c.args.scheduled.now c.args.run.now c.requires.start;
+  fits = c.requires.start.fits;
+  nothing = c.requires.start.nothing;
 }
 
 pub clock-requires : goal.clock-requires
