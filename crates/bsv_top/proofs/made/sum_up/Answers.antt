@@ -10,5 +10,5 @@ returns c =
     IfOk-weaker c.summary.result _ _
     (λ text h.
     subst (λ (d : ScheduledDesign). IsSummary d c.args.size text.items) c.in_ok-started.ensures.scheduled
-    (summed c.in_ok-started.started.scheduled c.args.size c.in_ok-fired.fired c.run_clocks.new.run c.registers.result.now text.items c.in_ok-fired.ensures c.registers.ensures h))
+    (summed c.in_ok-started.started.scheduled c.args.size c.in_ok-fired.fired c.run_clocks.new.run c.registers-registers.result.now text.items c.in_ok-fired.ensures c.registers-registers.ensures h))
     c.summary.ensures
