@@ -68,8 +68,8 @@ pub returns-clause-interrupted : goal.returns-clause-interrupted
 returns-clause-interrupted g c = λ failed contents told.
     let whole = rest_chosen (g.F.Files.reading c.args.files.now) (g.F.Files.reading c.choose.new.self) c.args.name c.args.name contents c.in_default.ensures.ok refl told in
     let from = opened c.args.scheduled.now (g.O.Sink.writing c.args.out.now) (g.O.Sink.writing c.write_opening_registers.new.sink) c.args.run.now c.requires.start
-        (c.in_ok-write_opening_registers.ensures.ok _
-        (shown_here c.args.scheduled.now (g.O.Sink.writing c.args.out.now) (g.O.Sink.writing c.args.out.now) c.args.run.now c.requires.start c.registers.result.now c.registers.ensures)) in
+    (c.in_ok-write_opening_registers.ensures.ok _
+    (shown_here c.args.scheduled.now (g.O.Sink.writing c.args.out.now) (g.O.Sink.writing c.args.out.now) c.args.run.now c.requires.start c.registers.result.now c.registers.ensures)) in
     let none = ap (λ (r : Reading). bytes_given r) c.in_default.ensures.ok in
     interrupted_at c.args.scheduled.now (g.O.Sink.writing c.args.out.now) (contents c.args.name) c.args.name (g.O.Sink.writing c.run_trace.new.out)
     (g.F.Files.reading c.run_trace.new.files).current (c.run_trace.ensures.current ∙ ap current_name c.in_default.ensures.ok)
