@@ -1,6 +1,6 @@
 use bsv_bits::Word;
 use bsv_design::{Design, Element, Fired};
-use bsv_net::{Net, NetNode};
+use bsv_net::Net;
 use sqlite_items::at;
 
 /// What became of an element in a clock.
@@ -100,34 +100,4 @@ pub(crate) fn agrees(
     fates_agree(design, net, values, fired)
         && results_agree(net, values, fired)
         && nexts_agree(net, values, shown)
-}
-
-/// Whether no two nodes are equal.
-pub(crate) fn are_distinct(nodes: &[NetNode]) -> bool {
-    let mut rest = nodes;
-    while let Some((node, after)) = rest.split_first() {
-        if after.iter().any(|other| other == node) {
-            return false;
-        }
-        rest = after;
-    }
-    true
-}
-
-/// Whether the same is told of a clock.
-pub(crate) fn tells_same(fired: &Fired, told: &Fired) -> bool {
-    fired.list.as_slice() == told.list.as_slice()
-        && fired.stopped.as_slice() == told.stopped.as_slice()
-        && fired.blocked.as_slice() == told.blocked.as_slice()
-        && fired.results.as_slice() == told.results.as_slice()
-}
-
-/// Whether registers have the words that show a state.
-pub(crate) fn shows(registers: &[Word], shown: &[Option<Word>]) -> bool {
-    for (place, word) in shown.iter().enumerate() {
-        if word.is_some() && at(registers, place).copied() != *word {
-            return false;
-        }
-    }
-    true
 }

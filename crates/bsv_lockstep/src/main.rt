@@ -1,11 +1,11 @@
-//! Runs designs clock by clock, and tells whether all engines agree: the serial engine, which runs one element after the
-//! other; the net of the design as it is made, and without its repeats, each of whose words is computed once a clock; and
-//! the simulator. The words are the names of case files.
+//! Runs designs clock by clock by two engines, and tells whether they agree: the serial engine, which runs one
+//! element after the other, and the net of the design, each of whose words is computed once a clock. The words are
+//! the names of case files.
 //!
 //! Modules in reading order: `case` (a case file), `compiling` (its design, which can be run), `shown` (the words of
 //! registers that show a state), `asked` (the words of inputs that a line of a trace asks for), `evaluating` (the
-//! words of a net), `agreeing` (whether a net or the simulator tells what the serial engine did), `clocks` (a design that
-//! is run by all). What a run keeps from clock to clock is in `specs/Running.antt`.
+//! words of a net), `agreeing` (whether a net tells what the serial engine did), `clocks` (a design that is run by
+//! both). What a run keeps from clock to clock is in `specs/Running.antt`.
 #![tactic(auto)]
 
 mod agreeing;
@@ -24,7 +24,7 @@ use std::fs;
 use std::rt::Files;
 use std::thread::Threads;
 
-/// Runs a case, and tells whether all engines agree: in how many clocks they do, or in which first one they do not.
+/// Runs a case, and tells whether both engines agree: in how many clocks they do, or in which first one they do not.
 fn run_case<R: Files + AllocGlobal + Print + Threads + Sync>(rt: &R, file: &str) -> Result<()> {
     let text = fs::read_to_string(rt, file)?;
     let case = case_of(rt.alloc(), text.as_str())?;
