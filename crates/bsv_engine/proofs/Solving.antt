@@ -2,29 +2,23 @@
 use Rattle.std.proofs.Common.{◌≡◌, ◌∙◌, ℕ, ◌+◌, ◌<◌, true, List, [], ◌∷◌, ◌++◌, length, get_or, take, drop, Some, sym, ap, arith}
 use Rattle.std.specs.Prelude.{slice_get}
 use Rattle.std.specs.List.{list_all}
-use Rattle.std.proofs.lemmas.List.{take_at, take-append-drop, length-map, length-take-le, map-append, append_assoc}
+use Rattle.std.proofs.lemmas.List.{take_at, take-append-drop, length-take-le, map-append, append_assoc}
 use Rattle.std.proofs.lemmas.Option.{slice_get_within, slice_get-get_or}
 use Rattle.bsv_lemmas.proofs.Places.{at_middle}
 use Rattle.bsv_bits.specs.Words.{Bits}
 use Rattle.bsv_design.specs.design.Bodies.{at, of_parts, values}
 use Rattle.bsv_design.specs.design.Words.{or_zero}
 use Rattle.bsv_design.specs.scheme.Relations.{no_answers}
-use Rattle.bsv_design.proofs.Bodies.{words_append, words_long, words_grown}
+use Rattle.bsv_design.proofs.Bodies.{words_append, words_grown}
 use Rattle.bsv_guard.specs.Fitting.{HaveWidths}
 use Rattle.bsv_guard.proofs.BodyFits.{word_there}
 use Rattle.bsv_guard.proofs.Lists.{holds_at_all}
 use Rattle.bsv_net.specs.declared.node.NetNode.{NetNode}
 use Rattle.bsv_net.specs.Equations.{computed}
 use Rattle.bsv_net.specs.Nets.{as_node, as_nodes, is_within, word, words}
-use Rattle.bsv_net.proofs.Evaluating.{words_more}
+use Rattle.bsv_net.proofs.Evaluating.{words_long, words_more}
 use Rattle.bsv_net.proofs.Solution.{as_computed}
 use Rattle.bsv_engine.specs.Cells.{IsSolved}
-
--- there is a word for each node
-words_count : (xs : List NetNode) (inputs registers : List Bits) → length (words xs inputs registers) ≡ length xs
-unfolding words
-words_count xs inputs registers =
-    words_long (of_parts no_answers) (inputs ++ registers) [] [] (as_nodes (length inputs) xs) ∙ omega (arith, length-map xs (as_node (length inputs)))
 
 -- the words of the first nodes stand in front
 words_front : (xs : List NetNode) (inputs registers : List Bits) (k : ℕ) → (more : List Bits) × (words xs inputs registers ≡ words (take k xs) inputs registers ++ more)
@@ -46,7 +40,7 @@ module _ (nodes : List NetNode) (inputs registers : List Bits) (m : ℕ) (within
       let before : List Bits = words (take k nodes) inputs registers in
       let w : Bits = word inputs registers before x in
       let l : k < length nodes = slice_get_within nodes k x there in
-      let count : length before ≡ k = words_count (take k nodes) inputs registers ∙ length-take-le k nodes (omega arith) in
+      let count : length before ≡ k = words_long (take k nodes) inputs registers ∙ length-take-le k nodes (omega arith) in
       let front = words_front nodes inputs registers (k + 1) in
       let split : all ≡ before ++ w ∷ front.0 =
       front.1 ∙ ap (λ l. l ++ front.0) (words_more nodes inputs registers k x there) ∙ append_assoc before (w ∷ []) front.0 in
@@ -61,7 +55,7 @@ module _ (nodes : List NetNode) (inputs registers : List Bits) (m : ℕ) (within
 
   pub solved_where : (us : List ℕ) → HaveWidths us all → IsSolved inputs registers nodes us all
   solved_where us have = record {
-    long = words_count nodes inputs registers;
+    long = words_long nodes inputs registers;
     words = word_at;
     fits = λ k l. word_there us all have k (get_or us k 0) (slice_get-get_or us k 0 l);
   }

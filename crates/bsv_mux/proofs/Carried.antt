@@ -45,6 +45,7 @@ use Rattle.bsv_net.specs.declared.node.Site.{Site as NetSite}
 use Rattle.bsv_net.specs.AtHand.{net_data}
 use Rattle.bsv_net.specs.Nets.{IsNet, register_widths, words}
 use Rattle.bsv_net.specs.Placing.{node_at}
+use Rattle.bsv_net.proofs.Evaluating.{words_long}
 use Rattle.bsv_net.proofs.Grows.{Grows, grows_trans, kept, length_grows}
 use Rattle.bsv_net.proofs.Solution.{satisfies, same_length, words_have}
 use Rattle.bsv_ports.specs.CallSites.{or_none, all_call_sites}
@@ -64,7 +65,7 @@ use Rattle.bsv_net.proofs.Numbers.{number_at}
 use Rattle.bsv_fire.proofs.Whole.{after_is, fired_is, fires_is, look_is}
 use Rattle.bsv_mux.specs.Nexts.{IsNextNet, Told, next_words, renamed, told, with_registers}
 use Rattle.bsv_mux.proofs.NextsTold.{NextsTold, nexts_grow, nexts_told, words_are}
-use Rattle.bsv_mux.proofs.Older.{Named, named, results_renamed, words_grown, words_long}
+use Rattle.bsv_mux.proofs.Older.{Named, named, results_renamed, words_grown}
 use Rattle.bsv_graph.proofs.Below.{count_below}
 use Rattle.bsv_clock.proofs.Propositions.{bits_set}
 

@@ -3,7 +3,6 @@ use Rattle.std.proofs.Common.{◌≡◌, ◌∙◌, ◌<◌, ◌≤◌, ◌+◌,
 use Rattle.std.specs.Prelude.{slice_get, nat_lt, if◌then◌else◌}
 use Rattle.std.specs.List.{list_all}
 use Rattle.std.proofs.lemmas.Bool.{and_parts, ltb-true, ltb-false}
-use Rattle.std.proofs.lemmas.List.{length-map}
 use Rattle.std.proofs.lemmas.Option.{slice_get_past}
 use Rattle.bsv_bits.specs.Words.{Bits}
 use Rattle.bsv_design.specs.declared.node.Node.{Node}
@@ -22,12 +21,6 @@ use Rattle.bsv_ports.specs.CallSites.{or_none}
 use Rattle.bsv_mux.specs.Nexts.{renamed}
 
 -- ---- words
-
--- there is a word for each node
-pub words_long : (ns : List NetNode) (inputs registers : List Bits) → length (words ns inputs registers) ≡ length ns
-unfolding words
-words_long ns inputs registers =
-    bodies.words_long (of_parts no_answers) (inputs ++ registers) [] [] (as_nodes (length inputs) ns) ∙ (ap (λ k. 0 + k) (length-map ns (as_node (length inputs))) ∙ omega arith)
 
 nodes_both : (n : ℕ) (xs ys : List NetNode) → as_nodes n (xs ++ ys) ≡ as_nodes n xs ++ as_nodes n ys
 nodes_both n [] ys = refl

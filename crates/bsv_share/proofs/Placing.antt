@@ -1,18 +1,16 @@
 -- A net with other nodes gives the same where each output is at a place of the same word.
 use Rattle.std.proofs.Common.{◌≡◌, ◌∙◌, ◌<◌, ◌≤◌, ◌+◌, ℕ, zero, suc, List, [], ◌∷◌, ◌++◌, None, map, length, refl, sym, ap, ap₂, subst, arith}
 use Rattle.std.specs.List.{AllByRecursion}
-use Rattle.std.proofs.lemmas.List.{length-map}
 use Rattle.std.proofs.lemmas.Option.{slice_get_past}
 use Rattle.bsv_lemmas.proofs.Places.{all_at, mapped_at}
 use Rattle.bsv_bits.specs.Words.{Bits, IsWord}
-use Rattle.bsv_design.specs.design.Bodies.{at, of_parts}
+use Rattle.bsv_design.specs.design.Bodies.{at}
 use Rattle.bsv_design.specs.design.Words.{or_zero}
-use Rattle.bsv_design.specs.scheme.Relations.{no_answers}
-use Rattle.bsv_design.proofs.Bodies as bodies
 use Rattle.bsv_guard.specs.Fitting.{HaveWidths}
 use Rattle.bsv_net.specs.declared.net_data.NetData.{NetData}
 use Rattle.bsv_net.specs.declared.node.NetNode.{NetNode}
-use Rattle.bsv_net.specs.Nets.{IsNet, as_node, as_nodes, register_widths, words}
+use Rattle.bsv_net.specs.Nets.{IsNet, register_widths, words}
+use Rattle.bsv_net.proofs.Evaluating.{words_long}
 use Rattle.bsv_net.proofs.Solution.{satisfies, words_have}
 use Rattle.bsv_share.specs.Outputs.{place_or, with_nodes}
 use Rattle.bsv_share.specs.Sharing.{GivesSame, StaysNamed}
@@ -20,12 +18,6 @@ use Rattle.bsv_share.proofs.Alike.{Alike}
 use Rattle.bsv_share.proofs.Rules.{Solved}
 
 -- ---- words
-
--- there is a word for each node
-words_long : (ns : List NetNode) (inputs registers : List Bits) → length (words ns inputs registers) ≡ length ns
-unfolding words
-words_long ns inputs registers =
-    bodies.words_long (of_parts no_answers) (inputs ++ registers) [] [] (as_nodes (length inputs) ns) ∙ (ap (λ k. 0 + k) (length-map ns (as_node (length inputs))) ∙ omega arith)
 
 pub past_nodes : (ns : List NetNode) (inputs registers : List Bits) (k : ℕ) → length ns ≤ k → at (words ns inputs registers) k ≡ or_zero None
 past_nodes ns inputs registers k l =
