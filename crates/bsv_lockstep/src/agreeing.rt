@@ -1,6 +1,6 @@
 use bsv_bits::Word;
 use bsv_design::{Design, Element, Fired};
-use bsv_net::Net;
+use bsv_net::{Net, NetNode};
 use sqlite_items::at;
 
 /// What became of an element in a clock.
@@ -100,4 +100,40 @@ pub(crate) fn agrees(
     fates_agree(design, net, values, fired)
         && results_agree(net, values, fired)
         && nexts_agree(net, values, shown)
+}
+
+/// Whether registers hold the words that show a state.
+fn registers_agree(registers: &[Word], shown: &[Option<Word>]) -> bool {
+    for (place, word) in shown.iter().enumerate() {
+        if word.is_some() && registers.get(place).copied() != *word {
+            return false;
+        }
+    }
+    true
+}
+
+/// Whether the simulator, whose registers hold these words, told in a clock what the serial engine did.
+pub(crate) fn simulator_agrees(
+    registers: &[Word],
+    told: &Fired,
+    fired: &Fired,
+    shown: &[Option<Word>],
+) -> bool {
+    told.list == fired.list
+        && told.stopped == fired.stopped
+        && told.blocked == fired.blocked
+        && told.results == fired.results
+        && registers_agree(registers, shown)
+}
+
+/// Whether two nodes of a net are equal.
+pub(crate) fn has_repeat(nodes: &[NetNode]) -> bool {
+    let mut rest = nodes;
+    while let Some((node, after)) = rest.split_first() {
+        if after.contains(node) {
+            return true;
+        }
+        rest = after;
+    }
+    false
 }

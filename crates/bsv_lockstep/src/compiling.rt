@@ -1,11 +1,15 @@
 ghost use Rattle.std.specs.Prelude.{IfOk};
 ghost use Rattle.bsv_flow.specs.Running.{BelongTogether};
+ghost use Rattle.bsv_lockstep.specs.Running.{CarriesDesign};
 
 use crate::case::Case;
 use anyhow::{Result, bail};
-use bsv_bits::Name;
+use bsv_bits::{Name, OutOfMemory};
+use bsv_fire::add_fire;
 use bsv_flow::{Compiled, compile};
 use bsv_io::MemFiles;
+use bsv_mux::add_next;
+use bsv_net::Net;
 use std::alloc::Global;
 use std::thread::Threads;
 
@@ -37,4 +41,14 @@ pub(crate) fn compiled_of<R: AllocGlobal + Threads + Sync>(rt: &R, case: &Case) 
         Ok(found) => Ok(found),
         Err(_) => bail!("a design is refused"),
     }
+}
+
+/// The net of what was compiled, before repeats are taken out of it.
+pub(crate) fn net_of(alloc: Global, compiled: &Compiled) -> Result<Net, OutOfMemory>
+    requires { BelongTogether compiled.now }
+    ensures { IfOk result (CarriesDesign compiled.now) }
+{
+    let (design, schedule) = (&compiled.design, &compiled.schedule);
+    let net = add_fire(alloc, design, &compiled.guards, schedule)?;
+    add_next(alloc, design, schedule, net)
 }

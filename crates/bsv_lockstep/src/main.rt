@@ -1,11 +1,12 @@
-//! Runs designs clock by clock by two engines, and tells whether they agree: the serial engine, which runs one
-//! element after the other, and the net of the design, each of whose words is computed once a clock. The words are
-//! the names of case files.
+//! Runs designs clock by clock by four engines, and tells whether they agree: the serial engine, which runs one
+//! element after the other; the net of the design, each of whose words is computed once a clock; that net without
+//! repeats; and the simulator, which keeps its registers from clock to clock. It looks, too, whether a net without
+//! repeats has two equal nodes. The words are the names of case files.
 //!
-//! Modules in reading order: `case` (a case file), `compiling` (its design, which can be run), `shown` (the words of
-//! registers that show a state), `asked` (the words of inputs that a line of a trace asks for), `evaluating` (the
-//! words of a net), `agreeing` (whether a net tells what the serial engine did), `clocks` (a design that is run by
-//! both). What a run keeps from clock to clock is in `specs/Running.antt`.
+//! Modules in reading order: `case` (a case file), `compiling` (its design, which can be run, and its net), `shown`
+//! (the words of registers that show a state), `asked` (the words of inputs that a line of a trace asks for),
+//! `evaluating` (the words of a net), `agreeing` (whether a net and the simulator tell what the serial engine did),
+//! `clocks` (a design that is run by all). What a run keeps from clock to clock is in `specs/Running.antt`.
 #![tactic(auto)]
 
 mod agreeing;
@@ -16,23 +17,40 @@ mod compiling;
 mod evaluating;
 mod shown;
 
+use crate::agreeing::has_repeat;
 use crate::case::case_of;
-use crate::clocks::{Outcome, outcome_of};
-use crate::compiling::compiled_of;
+use crate::clocks::{Engine, Outcome, outcome_of};
+use crate::compiling::{compiled_of, net_of};
 use anyhow::{Context, Result, bail};
 use std::fs;
 use std::rt::Files;
 use std::thread::Threads;
 
-/// Runs a case, and tells whether both engines agree: in how many clocks they do, or in which first one they do not.
+/// What an engine is called.
+fn name_of(engine: Engine) -> &'static str {
+    match engine {
+        Engine::Net => "the net",
+        Engine::SharedNet => "the net without repeats",
+        Engine::Simulator => "the simulator",
+    }
+}
+
+/// Runs a case, and tells whether all engines agree: in how many clocks they do, or in which first one they do not.
 fn run_case<R: Files + AllocGlobal + Print + Threads + Sync>(rt: &R, file: &str) -> Result<()> {
     let text = fs::read_to_string(rt, file)?;
     let case = case_of(rt.alloc(), text.as_str())?;
     let compiled = compiled_of(rt, &case)?;
+    let net = net_of(rt.alloc(), &compiled)?;
     let name = file.strip_suffix(".case").unwrap_or(file);
-    match outcome_of(rt.alloc(), &compiled, case.trace.as_str())? {
+    if has_repeat(compiled.net.nodes.as_slice()) {
+        bail!("{name}: two nodes of the net without repeats are equal");
+    }
+    match outcome_of(rt.alloc(), &compiled, &net, case.trace.as_str())? {
         Outcome::Agree(clocks) => println!(rt; "{name}: {clocks} clocks agree")?,
-        Outcome::Differ(clock) => bail!("{name}: differs at clock {clock}"),
+        Outcome::Differ(clock, engine) => {
+            let engine = name_of(engine);
+            bail!("{name}: {engine} differs at clock {clock}")
+        }
     }
     Ok(())
 }

@@ -32,17 +32,6 @@ pub struct Sim {
     ghost table: { length stoppers.items ≡ length net.fires },
 }
 
-/// A table of so many entries.
-fn table(alloc: Global, count: usize) -> Result<Vec<u32>, OutOfMemory>
-    ensures { IfOk result (λ table. length table.items ≡ count) }
-{
-    let mut table = Vec::with_capacity(alloc, count)?;
-    for _ in 0..count {
-        table.push(0)?;
-    }
-    Ok(table)
-}
-
 impl Sim {
     ghost use Rattle.bsv_design.specs.declared.design.Design.{Design as TheDesign};
     ghost use Rattle.bsv_design.specs.declared.kind.Kind.{Kind};
@@ -66,15 +55,10 @@ impl Sim {
             → map cell net.registers ≡ cells_of ks
             → Shows ks (opening ks) (spec.registers_of sim)) }
     {
-        let engine = Engine::make(
-            alloc,
-            net.inputs.as_slice(),
-            net.registers.as_slice(),
-            net.nodes.as_slice(),
-        )?;
+        let engine = Engine::of_net(alloc, &net)?;
         let registers = starts(alloc, net.registers.as_slice())?;
         let inputs = Vec::with_capacity(alloc, net.inputs.len())?;
-        let stoppers = table(alloc, net.fires.len())?;
+        let stoppers = vec![in alloc; 0; net.fires.len()]?;
         Ok(Sim {
             net,
             engine,

@@ -16,16 +16,17 @@ use crate::scheduled::ScheduledDesign;
 use bsv_design::{Fired, Requests};
 use bsv_io::Sink;
 use bsv_sim::Sim;
-use bsv_trace::{line, write_clock_registers};
+use bsv_trace::{ClockWriter, line};
 
 /// How far a trace was run: how far it was read, and the simulator, whose registers show the state; with room for
-/// what a line asks for and for what happens in its clock. A clock takes no memory.
+/// what a line asks for, for what happens in its clock, and for its text. A clock takes no memory.
 #[derive(Drop)]
 pub(crate) struct Run {
     pub(crate) lines: Lines,
     pub(crate) sim: Sim,
     pub(crate) requests: Requests,
     pub(crate) fired: Fired,
+    pub(crate) writer: ClockWriter,
 }
 
 impl Run {
@@ -57,7 +58,9 @@ impl Run {
         self.sim
             .clock(&scheduled.schedule, &self.requests, &mut self.fired);
         let number = self.lines.done + 1;
-        write_clock_registers(design, number, &self.fired, self.sim.registers(), out)?;
+        let registers = self.sim.registers();
+        self.writer
+            .put(design, number, &self.fired, registers, out)?;
         self.lines.end_line();
         Ok(())
     }

@@ -25,7 +25,7 @@ use bsv_design::{Fired, Requests};
 use bsv_flow::{Compiled, compile};
 use bsv_io::{Failed, Files, Sink};
 use bsv_sim::Sim;
-use bsv_trace::write_opening_registers;
+use bsv_trace::{ClockWriter, write_opening_registers};
 use std::alloc::Global;
 use std::thread::Threads;
 
@@ -122,6 +122,7 @@ pub(crate) fn start(alloc: Global, compiled: Compiled) -> Result<Started, OutOfM
             sim,
             requests,
             fired,
+            writer: ClockWriter::new(),
         },
     })
 }

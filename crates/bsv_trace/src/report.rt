@@ -1,4 +1,4 @@
-ghost use Rattle.std.specs.Prelude.{◌≡◌, ◌≤◌, ◌++◌, List, OnOk, OnErr};
+ghost use Rattle.std.specs.Prelude.{◌≡◌, ◌≤◌, ◌++◌, List, [], OnOk, OnErr};
 ghost use Rattle.std.specs.List.{flat_map};
 ghost use Rattle.bsv_io.specs.Faults.{MayFault};
 ghost use Rattle.bsv_io.specs.Writing.{appended, AppendsPrefix};
@@ -287,6 +287,63 @@ pub fn write_opening_registers<S: Sink>(
     buffer.flush(sink)
 }
 
+/// The writer of one clock after the other. It has room for bytes that wait to be put, so that no clock makes that room
+/// anew. Nothing waits between its calls: what a failed one did not put is given up.
+#[derive(Drop)]
+pub struct ClockWriter {
+    buffer: PutBuffer,
+    ghost empty: { buffer ≡ [] },
+}
+
+impl ClockWriter {
+    /// Nothing is put yet.
+    pub fn new() -> ClockWriter {
+        ClockWriter {
+            buffer: PutBuffer::new(),
+        }
+    }
+
+    /// Puts what `write_clock` puts of the clock of a number and of the state that the registers show.
+    pub fn put<S: Sink>(
+        &mut self,
+        design: &Design,
+        number: u64,
+        fired: &Fired,
+        registers: &[Word],
+        sink: &mut S,
+    ) -> Result<(), Failed>
+        requires { ShowSome design.now.parts registers.now }
+        ensures ok { (ps : List ThePart) → ShowParts design.now.parts registers.now ps
+            → OnOk result (S.writing sink.new ≡ appended
+            (texts.clock_text (texts.name_at design.now.elements) number fired.now
+            design.now.parts ps)
+            (S.writing sink.old)) }
+        ensures prefix { (ps : List ThePart) → ShowParts design.now.parts registers.now ps
+            → AppendsPrefix
+            (texts.clock_text (texts.name_at design.now.elements) number fired.now
+            design.now.parts ps)
+            (S.writing sink.old) (S.writing sink.new) }
+        ensures count { (S.writing sink.old).faults ≤ (S.writing sink.new).faults }
+        ensures counted { OnErr result (MayFault (S.writing sink.old).faults
+            (S.writing sink.new).faults) }
+    {
+        let added = add_clock_registers(
+            &mut self.buffer,
+            sink,
+            design.elements.as_slice(),
+            number,
+            fired,
+            design.parts.as_slice(),
+            registers,
+        );
+        if let Err(Failed) = added {
+            self.buffer = PutBuffer::new();
+            return Err(Failed);
+        }
+        self.buffer.flush(sink)
+    }
+}
+
 /// Puts what `write_clock` puts of the clock of a number and of the state that the registers show.
 pub fn write_clock_registers<S: Sink>(
     design: &Design,
@@ -310,15 +367,5 @@ pub fn write_clock_registers<S: Sink>(
     ensures counted { OnErr result (MayFault (S.writing sink.old).faults
         (S.writing sink.new).faults) }
 {
-    let mut buffer = PutBuffer::new();
-    add_clock_registers(
-        &mut buffer,
-        sink,
-        design.elements.as_slice(),
-        number,
-        fired,
-        design.parts.as_slice(),
-        registers,
-    )?;
-    buffer.flush(sink)
+    ClockWriter::new().put(design, number, fired, registers, sink)
 }

@@ -22,7 +22,7 @@ loop-clock-preserved c =
     let d = c.args.scheduled.now in
     let old = c.loop-clock.run in
     let so_far = c.loop-clock.invariant in
-    let new : Run = record { lines = old.lines; sim = c.clock.new.self; requests = old.requests; fired = c.clock.new.fired } in
+    let new : Run = record { lines = old.lines; sim = c.clock.new.self; requests = old.requests; fired = c.clock.new.fired; writer = old.writer } in
     record {
       fired = fired_more d c.loop-clock._clock c.loop-clock.count _ old new (asking old.requests) so_far.fired so_far.nothing
           (clock_from d old so_far.fits new so_far.fits.requests c.clock.ensures.happens _ so_far.fired.state)

@@ -1,37 +1,24 @@
 use Rattle.std.proofs.Common.{◌∙◌, List, map, sym, ap, subst}
-use Rattle.std.proofs.Math.Logic.{∥∥₁_elim, ∥∥₁_prop}
 use Rattle.bsv_bits.specs.Words.{Bits}
 use Rattle.bsv_prim.specs.declared.primitive.RegisterInfo.{RegisterInfo}
 use Rattle.bsv_guard.specs.Fitting.{HaveWidths}
-use Rattle.bsv_net.specs.AtHand.{net_data}
-use Rattle.bsv_net.specs.Nets.{IsNet, register_widths}
+use Rattle.bsv_net.specs.Nets.{register_widths}
 use Rattle.bsv_design.specs.scheme.States.{opening}
 use Rattle.bsv_clock.specs.Shows.{Shows}
 use Rattle.bsv_sim.proofs.NetLists.{starts_have}
 use Rattle.bsv_sim.proofs.Opening.{shows_opening}
 use Rattle.bsv_sim.proofs.sim.Sim.make.Goals as goal
 
-pub make-requires : goal.make-requires
-make-requires c =
-    ∥∥₁_elim c.args.net.right ∥∥₁_prop (λ (right : IsNet (net_data c.args.net)).
-    ∣ record {
-      net = net_data c.args.net;
-      right = right;
-      inputs = sym c.as_slice.ensures;
-      registers = sym c.as_slice-2.ensures;
-      nodes = sym c.as_slice-3.ensures;
-    } ∣₁)
-
 pub invariant_of-result-clause-widths : goal.invariant_of-result-clause-widths
 invariant_of-result-clause-widths c =
     let start : RegisterInfo → Bits = λ r. r.start in
     ∣ subst (λ (ws : List Bits). HaveWidths (register_widths c.args.net.registers) ws)
-    (sym (c.in_ok-registers.ensures ∙ ap (λ (rs : List RegisterInfo). map start rs) c.as_slice-4.ensures))
+    (sym (c.in_ok-registers.ensures ∙ ap (λ (rs : List RegisterInfo). map start rs) c.as_slice.ensures))
     (starts_have c.args.net.registers) ∣₁
 
 pub returns-clause-opening : goal.returns-clause-opening
 returns-clause-opening c =
     let start : RegisterInfo → Bits = λ r. r.start in
     λ ks e. subst (λ (ws : List Bits). Shows ks (opening ks) ws)
-    (sym (c.in_ok-registers.ensures ∙ ap (λ (rs : List RegisterInfo). map start rs) c.as_slice-4.ensures))
+    (sym (c.in_ok-registers.ensures ∙ ap (λ (rs : List RegisterInfo). map start rs) c.as_slice.ensures))
     (shows_opening ks c.args.net.registers e)

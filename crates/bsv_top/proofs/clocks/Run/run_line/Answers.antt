@@ -12,26 +12,26 @@ returns-in_err-line-clause-bad g c = λ _ q asks.
 pub clock-requires : goal.clock-requires
 clock-requires g c = ∣ can_clock c.args.scheduled.now c.args.self.now c.requires.fits (asking c.line.new.requests) c.in_ok-line.ensures.fits ∣₁
 
-pub returns-in_err-write_clock_registers-clause-started : goal.returns-in_err-write_clock_registers-clause-started
-returns-in_err-write_clock_registers-clause-started g c = λ _ s shown.
+pub returns-in_err-put-clause-started : goal.returns-in_err-put-clause-started
+returns-in_err-put-clause-started g c = λ _ s shown.
     let d = c.args.scheduled.now in
-    let new : Run = record { lines = c.args.self.now.lines; sim = c.clock.new.self; requests = c.line.new.requests; fired = c.clock.new.fired } in
+    let new : Run = record { lines = c.args.self.now.lines; sim = c.clock.new.self; requests = c.line.new.requests; fired = c.clock.new.fired; writer = c.put.new.self } in
     begins_clock d c.args.self.now c.requires.fits new c.in_ok-line.ensures.fits c.clock.ensures.happens
     (asks_here d.design c.text.result.now _ (asking c.line.new.requests) c.text.ensures c.in_ok-line.ensures.asks) s shown
-    _ (g.O.Sink.writing c.args.out.now) (g.O.Sink.writing c.write_clock_registers.new.sink) refl
-    (c.in_err-write_clock_registers.ensures.prefix _
+    _ (g.O.Sink.writing c.args.out.now) (g.O.Sink.writing c.put.new.sink) refl
+    (c.in_err-put.ensures.prefix _
     (written d c.args.self.now c.requires.fits new c.in_ok-line.ensures.fits c.clock.ensures.happens c.registers.result.now c.registers.ensures s shown))
 
 pub returns-clause-ran : goal.returns-clause-ran
 returns-clause-ran g c =
     let d = c.args.scheduled.now in
-    let new : Run = record { lines = c.end_line.new.self; sim = c.clock.new.self; requests = c.line.new.requests; fired = c.clock.new.fired } in
+    let new : Run = record { lines = c.end_line.new.self; sim = c.clock.new.self; requests = c.line.new.requests; fired = c.clock.new.fired; writer = c.put.new.self } in
     record {
       ran = λ s shown.
           puts_clock d c.args.self.now c.requires.fits new c.in_ok-line.ensures.fits c.clock.ensures.happens
           (asks_here d.design c.text.result.now _ (asking c.line.new.requests) c.text.ensures c.in_ok-line.ensures.asks) s shown
-          _ (g.O.Sink.writing c.args.out.now) (g.O.Sink.writing c.write_clock_registers.new.sink) refl
-          (c.in_ok-write_clock_registers.ensures.ok _
+          _ (g.O.Sink.writing c.args.out.now) (g.O.Sink.writing c.put.new.sink) refl
+          (c.in_ok-put.ensures.ok _
           (written d c.args.self.now c.requires.fits new c.in_ok-line.ensures.fits c.clock.ensures.happens c.registers.result.now c.registers.ensures s shown));
       done = c.end_line.ensures.done;
       at = c.end_line.ensures.at;
