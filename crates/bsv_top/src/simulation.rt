@@ -108,6 +108,7 @@ pub(crate) fn start(alloc: Global, compiled: Compiled) -> Result<Started, OutOfM
     let requests = Requests::new(alloc, &compiled.design)?;
     let fired = Fired::new(alloc, &compiled.design)?;
     let lines = Lines::new(alloc)?;
+    let writer = ClockWriter::new();
     let Compiled {
         design,
         schedule,
@@ -122,7 +123,7 @@ pub(crate) fn start(alloc: Global, compiled: Compiled) -> Result<Started, OutOfM
             sim,
             requests,
             fired,
-            writer: ClockWriter::new(),
+            writer,
         },
     })
 }
