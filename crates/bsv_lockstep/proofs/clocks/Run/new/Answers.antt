@@ -1,15 +1,13 @@
-use Rattle.std.proofs.Common.{sym, subst}
-use Rattle.bsv_design.specs.scheme.Schemes.{kinds_of}
-use Rattle.bsv_design.specs.scheme.Seen.{design_data}
-use Rattle.bsv_design.specs.scheme.States.{FitsKinds}
-use Rattle.bsv_clock.proofs.OneRun.{opening_fits}
+use Rattle.bsv_lockstep.proofs.Simulating.{begins, simulated_by}
 use Rattle.bsv_lockstep.proofs.clocks.Run.new.Goals as goal
 
 pub returns : goal.returns
 returns c =
+    let shared = c.in_ok-shared.ensures in
     let room = c.in_ok-new-2.ensures in
-    record {
-      parts = subst (FitsKinds (kinds_of (design_data c.args.design.now))) (sym c.in_ok-opening.ensures) (opening_fits (kinds_of (design_data c.args.design.now)));
-      requests = c.in_ok-new.ensures.fit;
-      room = record { list = room.list_room; stopped = room.stopped_room; blocked = room.blocked_room; results = room.results_room };
-    }
+    let told = c.in_ok-new-3.ensures in
+    begins c.args.compiled.now _ c.in_ok-shared.shared
+    (simulated_by c.args.compiled.now c.args.net.now c.in_ok-shared.shared c.requires.compiled c.requires.net shared.carries shared.results)
+    c.in_ok-make.ensures.net c.in_ok-make.ensures.opening c.in_ok-opening.ensures c.in_ok-new.ensures.fit
+    (record { list = room.list_room; stopped = room.stopped_room; blocked = room.blocked_room; results = room.results_room })
+    (record { list = told.list_room; stopped = told.stopped_room; blocked = told.blocked_room; results = told.results_room })

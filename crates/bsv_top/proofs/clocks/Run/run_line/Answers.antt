@@ -20,7 +20,7 @@ returns-in_err-put-clause-started g c = λ _ s shown.
     (asks_here d.design c.text.result.now _ (asking c.line.new.requests) c.text.ensures c.in_ok-line.ensures.asks) s shown
     _ (g.O.Sink.writing c.args.out.now) (g.O.Sink.writing c.put.new.sink) refl
     (c.in_err-put.ensures.prefix _
-    (written d c.args.self.now c.requires.fits new c.in_ok-line.ensures.fits c.clock.ensures.happens c.registers.result.now c.registers.ensures s shown))
+    (written d c.args.self.now c.requires.fits new c.in_ok-line.ensures.fits c.clock.ensures.happens c.registers-registers.result.now c.registers-registers.ensures s shown))
 
 pub returns-clause-ran : goal.returns-clause-ran
 returns-clause-ran g c =
@@ -32,7 +32,7 @@ returns-clause-ran g c =
           (asks_here d.design c.text.result.now _ (asking c.line.new.requests) c.text.ensures c.in_ok-line.ensures.asks) s shown
           _ (g.O.Sink.writing c.args.out.now) (g.O.Sink.writing c.put.new.sink) refl
           (c.in_ok-put.ensures.ok _
-          (written d c.args.self.now c.requires.fits new c.in_ok-line.ensures.fits c.clock.ensures.happens c.registers.result.now c.registers.ensures s shown));
+          (written d c.args.self.now c.requires.fits new c.in_ok-line.ensures.fits c.clock.ensures.happens c.registers-registers.result.now c.registers-registers.ensures s shown));
       done = c.end_line.ensures.done;
       at = c.end_line.ensures.at;
       none = c.end_line.ensures.held;
