@@ -3,9 +3,8 @@ use Rattle.std.proofs.Common.{◌≡◌, List, length, map, sym, subst}
 use Rattle.bsv_prim.specs.declared.part.Part.{Part}
 use Rattle.bsv_design.specs.declared.design.Design.{Design}
 use Rattle.bsv_design.specs.declared.kind.Kind.{Kind}
-use Rattle.bsv_design.specs.declared.requests.Requests.{Requests}
 use Rattle.bsv_design.specs.scheme.Rooms.{HasRoom}
-use Rattle.bsv_design.specs.scheme.Schemes.{Asking, design_scheme, kinds_of}
+use Rattle.bsv_design.specs.scheme.Schemes.{design_scheme, kinds_of}
 use Rattle.bsv_design.specs.scheme.Seen.{asking, design_data}
 use Rattle.bsv_design.specs.scheme.States.{AskingFits, FitsKinds, opening}
 use Rattle.bsv_clock.specs.Shows.{Shows, cell, cells_of}
@@ -49,20 +48,6 @@ begins c r n simulated net shows state asks room told =
       shows = shows ks (registers_there c.design c.schedule n simulated.carries);
       told = told;
     }
-
--- other requests
-pub asked_for : (c : Compiled) (old : Run) → FitsRun c old → (r : Requests) → AskingFits c.design.elements (asking r)
-    → FitsRun c (record { state = old.state; requests = r; fired = old.fired; sim = old.sim; told = old.told })
-asked_for c old fits r asks = record {
-  parts = fits.parts;
-  requests = asks;
-  room = fits.room;
-  simulated = fits.simulated;
-  held = fits.held;
-  held_fits = fits.held_fits;
-  shows = fits.shows;
-  told = fits.told;
-}
 
 -- ---- a clock
 

@@ -12,5 +12,5 @@ returns c =
     let new : Run = record { state = c.clock-2.new.state; requests = old.requests; fired = c.clock-2.new.fired; sim = c.clock.new.self; told = c.clock.new.fired } in
     record {
       fits = fits_after c.args.compiled.now old c.requires.fits new c.clock.ensures.net c.clock.ensures.happens refl
-      c.clock-2.ensures.fits c.clock-2.ensures.room (c.clock.ensures.room _ c.requires.fits.told);
+          c.clock-2.ensures.fits c.clock-2.ensures.room (c.clock.ensures.room _ c.requires.fits.told);
     }
