@@ -9,6 +9,8 @@
 //! `clocks` (a design that is run by all). What a run keeps from clock to clock is in `specs/Running.antt`.
 #![tactic(auto)]
 
+ghost use Rattle.bsv_flow.specs.Running.{BelongTogether};
+
 mod agreeing;
 mod asked;
 mod case;
@@ -22,6 +24,7 @@ use crate::case::case_of;
 use crate::clocks::{Engine, Outcome, outcome_of};
 use crate::compiling::{compiled_of, net_of};
 use anyhow::{Context, Result, bail};
+use bsv_flow::Compiled;
 use std::fs;
 use std::rt::Files;
 use std::thread::Threads;
@@ -35,17 +38,20 @@ fn name_of(engine: Engine) -> &'static str {
     }
 }
 
-/// Runs a case, and tells whether all engines agree: in how many clocks they do, or in which first one they do not.
-fn run_case<R: Files + AllocGlobal + Print + Threads + Sync>(rt: &R, file: &str) -> Result<()> {
-    let text = fs::read_to_string(rt, file)?;
-    let case = case_of(rt.alloc(), text.as_str())?;
-    let compiled = compiled_of(rt, &case)?;
-    let net = net_of(rt.alloc(), &compiled)?;
-    let name = file.strip_suffix(".case").unwrap_or(file);
+/// Tells whether all engines agree on what was compiled: in how many clocks they do, or in which first one they do not.
+fn compare<R: AllocGlobal + Print>(
+    rt: &R,
+    compiled: &Compiled,
+    name: &str,
+    trace: &str,
+) -> Result<()>
+    requires { BelongTogether compiled.now }
+{
     if has_repeat(compiled.net.nodes.as_slice()) {
         bail!("{name}: two nodes of the net without repeats are equal");
     }
-    match outcome_of(rt.alloc(), &compiled, &net, case.trace.as_str())? {
+    let net = net_of(rt.alloc(), compiled)?;
+    match outcome_of(rt.alloc(), compiled, &net, trace)? {
         Outcome::Agree(clocks) => println!(rt; "{name}: {clocks} clocks agree")?,
         Outcome::Differ(clock, engine) => {
             let engine = name_of(engine);
@@ -53,6 +59,15 @@ fn run_case<R: Files + AllocGlobal + Print + Threads + Sync>(rt: &R, file: &str)
         }
     }
     Ok(())
+}
+
+/// Runs a case by all engines, and tells whether they agree.
+fn run_case<R: Files + AllocGlobal + Print + Threads + Sync>(rt: &R, file: &str) -> Result<()> {
+    let text = fs::read_to_string(rt, file)?;
+    let case = case_of(rt.alloc(), text.as_str())?;
+    let compiled = compiled_of(rt, &case)?;
+    let name = file.strip_suffix(".case").unwrap_or(file);
+    compare(rt, &compiled, name, case.trace.as_str())
 }
 
 fn main(rt: HostRuntime) -> Result<()> {
