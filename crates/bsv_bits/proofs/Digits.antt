@@ -1,9 +1,15 @@
 -- The digits of a number, from its last one on.
-use Rattle.std.proofs.Common.{◌≡◌, ℕ, zero, suc, ◌+◌, ◌-◌, ◌/◌, ◌%◌, ◌^◌, ◌<◌, ◌≤◌, List, [], ◌∷◌, ◌++◌, length, drop, set, refl, ap, sym, ◌∙◌, subst, arith, add-one, length-append}
-use Rattle.std.proofs.Math.Nat.{div-div-eq-div-mul, div-one, pow-suc, pow-succ'}
+use Rattle.std.proofs.Common.{◌≡◌, ℕ, zero, suc, ◌+◌, ◌-◌, ◌*◌, ◌/◌, ◌%◌, ◌^◌, ◌<◌, ◌≤◌, List, [], ◌∷◌, ◌++◌, length, drop, set, refl, ap, sym, ◌∙◌, subst, arith, add-one, length-append}
+use Rattle.std.proofs.Math.Nat.{div-div-eq-div-mul, div-one, pow-suc, pow-succ', mul-pos}
+use Rattle.std.proofs.Math.Arith.{mod-mul}
+use Rattle.std.proofs.lemmas.Nat.{div-mul-add, mod-mul-add, pow-add}
 use Rattle.std.proofs.Math.ListN.{length-set}
-use Rattle.std.proofs.lemmas.List.{drop-set, drop-drop}
+use Rattle.std.proofs.lemmas.List.{append-nil, append_assoc, drop-set, drop-drop}
 use Rattle.bsv_bits.specs.Constants.{hex_digits, hex_glyph}
+
+pow-positive : (count : ℕ) → 0 < 16 ^ count
+pow-positive zero = omega arith
+pow-positive (suc count) = rw (pow-suc 16 count) (omega (arith, pow-positive count))
 
 -- a digit less is a division more
 div-pow_suc : (number count : ℕ) → number / 16 / 16 ^ count ≡ number / 16 ^ suc count
@@ -30,6 +36,42 @@ turn_written out turn left number below written over glyph is =
 pub length-hex_digits : (count number : ℕ) → length (hex_digits count number) ≡ count
 length-hex_digits zero number = refl
 length-hex_digits (suc count) number = length-append (hex_digits count (number / 16)) _ ∙ omega (arith, length-hex_digits count (number / 16))
+
+-- the last digits of what is left of a number after more of them are its own
+pub hex_digits-modulo : (count more number : ℕ) → 0 < more → hex_digits count (number % (16 ^ count * more)) ≡ hex_digits count number
+hex_digits-modulo zero more number some = refl
+hex_digits-modulo (suc count) more number some =
+    let m = 16 ^ count * more in
+    let power : 16 ^ suc count ≡ 16 ^ count * 16 = pow-suc 16 count in
+    let modulus : 16 ^ suc count * more ≡ m * 16 = rw power (omega arith) in
+    let positive : 0 < m = mul-pos (pow-positive count) some in
+    let low : number % 16 < 16 = omega arith in
+    let parts : number % (16 ^ suc count * more) ≡ number / 16 % m * 16 + number % 16 =
+    ap (λ k. number % k) modulus ∙ mod-mul number {m = m} {c = 16} positive (omega arith) in
+    let front : number % (16 ^ suc count * more) / 16 ≡ number / 16 % m = ap (λ k. k / 16) parts ∙ div-mul-add (number / 16 % m) 16 (number % 16) low in
+    let last : number % (16 ^ suc count * more) % 16 ≡ number % 16 = ap (λ k. k % 16) parts ∙ mod-mul-add (number / 16 % m) 16 (number % 16) low in
+    ap (λ k. hex_digits count k ++ hex_glyph (number % (16 ^ suc count * more) % 16) ∷ []) front
+    ∙ ap (λ k. hex_digits count (number / 16 % m) ++ hex_glyph k ∷ []) last
+    ∙ ap (λ digits. digits ++ hex_glyph (number % 16) ∷ []) (hex_digits-modulo count more (number / 16) some)
+
+-- at most sixteen digits are those of the last 64 bits
+pub sixteen : (count number : ℕ) → count ≤ 16 → hex_digits count (number % 2 ^ 64) ≡ hex_digits count number
+sixteen count number few =
+    let rest : count + (16 - count) ≡ 16 = omega arith in
+    let split : 16 ^ count * 16 ^ (16 - count) ≡ 2 ^ 64 = sym (pow-add 16 count (16 - count)) ∙ ap (λ k. 16 ^ k) rest in
+    ap (λ k. hex_digits count (number % k)) (sym split) ∙ hex_digits-modulo count (16 ^ (16 - count)) number (pow-positive (16 - count))
+
+-- digits are those in front and then the last ones
+pub hex_digits-both : (count last number : ℕ) → hex_digits (count + last) number ≡ hex_digits count (number / 16 ^ last) ++ hex_digits last number
+hex_digits-both count zero number =
+    let same : count + 0 ≡ count = omega arith in
+    ap (λ k. hex_digits k number) same ∙ ap (hex_digits count) (sym (div-one number)) ∙ sym (append-nil (hex_digits count (number / 1)))
+hex_digits-both count (suc last) number =
+    let more : count + suc last ≡ suc (count + last) = omega arith in
+    ap (λ k. hex_digits k number) more
+    ∙ ap (λ digits. digits ++ hex_glyph (number % 16) ∷ []) (hex_digits-both count last (number / 16))
+    ∙ append_assoc (hex_digits count (number / 16 / 16 ^ last)) (hex_digits last (number / 16)) (hex_glyph (number % 16) ∷ [])
+    ∙ ap (λ k. hex_digits count k ++ hex_digits (suc last) number) (div-pow_suc number last)
 
 -- where two buffers are the same after one place, they are after each later one
 pub same_after : (xs ys : List ℕ) (m n : ℕ) → drop m xs ≡ drop m ys → m ≤ n → drop n xs ≡ drop n ys

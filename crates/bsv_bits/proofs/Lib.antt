@@ -1,4 +1,5 @@
 pub mod ConstantTexts
+pub mod DecimalTexts
 pub mod DigitValues
 pub mod Digits
 pub mod Modulo

@@ -1,8 +1,7 @@
-ghost use Rattle.std.specs.Prelude.{◌≡◌, ◌+◌, ◌<◌, ◌≤◌, ◌++◌, length, take, drop};
+ghost use Rattle.std.specs.Prelude.{◌≡◌, ◌+◌, ◌<◌, ◌≤◌, ◌++◌, length, take, drop, decimal};
 ghost use Rattle.bsv_bits.specs.Constants.{constant_text, hex_digits, hex_glyph};
 
 use crate::word::Word;
-use itoa::Buffer;
 
 /// The character of a hexadecimal digit.
 fn glyph(digit: u8) -> u8
@@ -16,8 +15,8 @@ fn glyph(digit: u8) -> u8
     }
 }
 
-/// Fills the slice with the last digits of a number.
-fn write_digits(number: u128, out: &mut [u8])
+/// Fills the slice with the last digits of a number of 64 bits.
+fn write_narrow_digits(number: u64, out: &mut [u8])
     ensures { out.new ≡ hex_digits (length out.old) number }
 {
     let mut left = number;
@@ -25,6 +24,53 @@ fn write_digits(number: u128, out: &mut [u8])
         let place = out.len() - 1 - turn;
         out[place] = glyph((left % 16) as u8);
         left /= 16;
+    }
+}
+
+/// Fills the slice with the last digits of a number, of which sixteen are those of its last 64
+/// bits.
+fn write_digits(number: u128, out: &mut [u8])
+    ensures { out.new ≡ hex_digits (length out.old) number }
+{
+    let low = (number % (1u128 << 64)) as u64;
+    if out.len() <= 16 {
+        write_narrow_digits(low, out);
+    } else {
+        let (front, last) = out.split_at_mut(out.len() - 16);
+        write_narrow_digits((number >> 64) as u64, front);
+        write_narrow_digits(low, last);
+    }
+}
+
+/// The character of a decimal digit.
+fn decimal_glyph(digit: u32) -> u8
+    requires { digit < 10 }
+    ensures { result ≡ 48 + digit }
+{
+    b'0' + digit as u8
+}
+
+/// Writes a number below 1,000 in decimal to the front of the buffer, and answers how many digits
+/// it has.
+fn put_decimal(out: &mut [u8], number: u32) -> usize
+    requires small { number < 1000 }
+    requires room { 3 ≤ length out.old }
+    ensures length { result ≡ length (decimal number) }
+    ensures front { take result out.new ≡ decimal number }
+    ensures rest { drop result out.new ≡ drop result out.old }
+{
+    if number < 10 {
+        put(out, 0, &[decimal_glyph(number)])
+    } else if number < 100 {
+        put(
+            out,
+            0,
+            &[decimal_glyph(number / 10), decimal_glyph(number % 10)],
+        )
+    } else {
+        let last = decimal_glyph(number % 10);
+        let tens = decimal_glyph(number / 10 % 10);
+        put(out, 0, &[decimal_glyph(number / 100), tens, last])
     }
 }
 
@@ -62,8 +108,7 @@ impl Word {
         ensures short { result ≤ 37 }
         ensures rest { drop result out.new ≡ drop result out.old }
     {
-        let mut width = Buffer::new();
-        let base = put(out, 0, width.format(self.width()).as_bytes());
+        let base = put_decimal(out, self.width());
         let digits = put(out, base, b"'h");
         put_digits(out, digits, self.value(), (self.width() as usize + 3) / 4)
     }

@@ -1,4 +1,4 @@
-ghost use Rattle.std.specs.Prelude.{◌≡◌, ◌+◌, ◌-◌, ◌*◌, ◌/◌, ◌%◌, ◌^◌, ◌<◌, ◌≤◌};
+ghost use Rattle.std.specs.Prelude.{◌≡◌, ◌+◌, ◌-◌, ◌*◌, ◌/◌, ◌%◌, ◌^◌, ◌<◌, ◌≤◌, nat_lt};
 
 /// What is left of a number modulo 2^width.
 pub(crate) fn reduce(width: u32, number: u128) -> u128
@@ -9,6 +9,17 @@ pub(crate) fn reduce(width: u32, number: u128) -> u128
         number % (1u128 << width)
     } else {
         number
+    }
+}
+
+/// Whether a number is below 2^width.
+pub(crate) fn has_bits(width: u32, number: u128) -> bool
+    requires { width ≤ 128 }
+    ensures { result ≡ nat_lt number (2 ^ width) }
+{
+    match u64::try_from(number) {
+        Ok(narrow) => width >= 64 || narrow < 1u64 << width,
+        Err(_) => width == 128 || number < 1u128 << width,
     }
 }
 

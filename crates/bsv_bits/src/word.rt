@@ -5,7 +5,7 @@ ghost use Rattle.bsv_bits.specs.Words.{word_less, word_shl, word_shr, word_slice
 ghost use Rattle.bsv_bits.specs.Words.{word_extend};
 ghost use Rattle.bsv_bits.specs.Signed.{is_negative, word_less_signed, word_sar, word_sign_extend};
 
-use crate::numbers::{difference, joined, ones, reduce, shifted_down, shifted_up};
+use crate::numbers::{difference, has_bits, joined, ones, reduce, shifted_down, shifted_up};
 use std::marker::Model;
 
 /// A width from 1 to 128 and a value below 2^width. Contracts see the record of both.
@@ -34,7 +34,7 @@ impl Word {
         ensures in_range { IsSome result ↔ IsWord (record { width = width; value = value }) }
         ensures word { IfSome result (λ word. word ≡ record { width = width; value = value }) }
     {
-        if width < 1 || width > 128 || reduce(width, value) != value {
+        if width < 1 || width > 128 || !has_bits(width, value) {
             return None;
         }
         Some(Word { width, value })

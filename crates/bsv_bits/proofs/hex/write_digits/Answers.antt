@@ -1,11 +1,17 @@
-use Rattle.std.proofs.Common.{◌∙◌, ap, arith, ◌/◌}
-use Rattle.bsv_bits.proofs.Digits.{turn_written, div-pow_suc_last}
+use Rattle.std.proofs.Common.{◌≡◌, ◌+◌, ◌/◌, ◌%◌, ◌^◌, ◌++◌, length, ap, sym, ◌∙◌, arith}
+use Rattle.bsv_bits.specs.Constants.{hex_digits}
+use Rattle.bsv_bits.proofs.Digits.{hex_digits-both, sixteen}
 use Rattle.bsv_bits.proofs.hex.write_digits.Goals as goal
 
-pub loop-turn-preserved : goal.loop-turn-preserved
-loop-turn-preserved c =
-    let before = c.loop-turn.invariant in
-    record {
-      written = turn_written c.loop-turn.out c.loop-turn.turn c.loop-turn.left c.args.number (omega arith) before.written before.left c.glyph.result c.glyph.ensures;
-      left = ap (λ k. k / 16) before.left ∙ div-pow_suc_last c.args.number c.loop-turn.turn;
-    }
+pub returns-then-out-le16 : goal.returns-then-out-le16
+returns-then-out-le16 c =
+    c.write_narrow_digits.ensures ∙ sixteen (length c.args.out.now) c.args.number (omega arith)
+
+pub returns-else-out-le16 : goal.returns-else-out-le16
+returns-else-out-le16 c =
+    let front = length c.split_at_mut-front.result.0.now in
+    let last : length c.split_at_mut-front.result.1.now ≡ 16 = omega arith in
+    let both : length c.args.out.now ≡ front + 16 = omega arith in
+    ap (λ digits. digits ++ c.write_narrow_digits-else-out-le16-2.new.out) c.write_narrow_digits-else-out-le16.ensures
+    ∙ ap (λ digits. hex_digits front (c.args.number / 2 ^ 64) ++ digits) (c.write_narrow_digits-else-out-le16-2.ensures ∙ ap (λ count. hex_digits count (c.args.number % 2 ^ 64)) last ∙ sixteen 16 c.args.number (omega arith))
+    ∙ sym (ap (λ count. hex_digits count c.args.number) both ∙ hex_digits-both front 16 c.args.number)

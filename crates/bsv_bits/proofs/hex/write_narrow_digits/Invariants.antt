@@ -1,6 +1,6 @@
 use Rattle.std.proofs.Common.{◌≡◌, ◌-◌, ◌/◌, ◌^◌, length, drop}
 use Rattle.bsv_bits.specs.Constants.{hex_digits}
-use Rattle.bsv_bits.proofs.hex.write_digits.Given as goal
+use Rattle.bsv_bits.proofs.hex.write_narrow_digits.Given as goal
 
 -- the last digits are written, and what is left has lost them
 abbrev pub invariant-loop-turn : goal.invariant-loop-turn
