@@ -2,11 +2,13 @@ pub mod Truths
 pub mod OrderLaws
 pub mod ValueLemmas
 pub mod Answering
+pub mod UsersLemmas
 pub mod UsesLemmas
 pub mod DesignLemmas
 pub mod RelationsLemmas
 pub mod BetweenLemmas
 pub mod StageLemmas
+pub mod MarkLemmas
 pub mod OneExecution
 pub mod BehindLemmas
 pub mod PlaceLemmas

@@ -2,9 +2,9 @@
 use Rattle.std.proofs.Common.{◌≡◌, ◌∙◌, ℕ, ◌<◌, ◌⊎◌, inl, inr, Bool, true, false, not, ◌&&◌, List, [], ◌∷◌, ◌++◌, length, map, refl, sym, ap, subst, Some, None, ltb-true}
 use Rattle.std.proofs.lemmas.Bool.{lt-ltb, eqb-true, and_parts, and_from}
 use Rattle.std.proofs.lemmas.List.{length-map}
-use Rattle.std.proofs.lemmas.Option.{slice_get_within}
+use Rattle.std.proofs.lemmas.Option.{get_or_from_slice_get, slice_get_within}
 use Rattle.bsv_bits.specs.declared.memory.OutOfMemory.{OutOfMemory}
-use Rattle.std.specs.Prelude.{IsTrue, IfOk, Result, Ok, Err, if◌then◌else◌, filter, nat_lt, ◌==◌, ◌↔◌, slice_get, Option}
+use Rattle.std.specs.Prelude.{IsTrue, IfOk, Result, Ok, Err, if◌then◌else◌, filter, nat_lt, ◌==◌, ◌↔◌, slice_get, slice_index_or, Option}
 use Rattle.std.specs.List.{list_all, list_any, flat_map}
 use Rattle.bsv_lemmas.proofs.Places.{item_there}
 use Rattle.bsv_design.specs.declared.design.Design.{Design}
@@ -23,19 +23,19 @@ use Rattle.bsv_schedule.specs.declared.relating.related.Relation.{Relation}
 use Rattle.bsv_schedule.specs.declared.relating.related.Relation.TheVariants as relation
 use Rattle.bsv_schedule.specs.declared.relating.relations.Relations.{Relations}
 use Rattle.bsv_graph.specs.declared.table.Table.{Table}
-use Rattle.bsv_schedule.specs.declared.relating.usage.Usage.{Usage}
+use Rattle.bsv_schedule.specs.declared.relating.usage.Use.{Use}
 use Rattle.bsv_graph.specs.Edges.{AllBelow, edges_where, edges_from, numbers_below}
 use Rattle.bsv_schedule.specs.relating.Elements.{relating, edges_of, edge_of, is_urging, is_ordering, is_preempting, preempts, has_role}
 use Rattle.bsv_graph.specs.Orders.{In}
 use Rattle.bsv_schedule.specs.relating.Relating.{Agrees, feed_edges}
 use Rattle.bsv_schedule.specs.relating.Relations.{relating_of, marked}
 use Rattle.bsv_graph.specs.Table.{side_of, at}
-use Rattle.bsv_schedule.specs.relating.Uses.{Among, AreUsages, Meets, meet, meet_of, meet_at, used, pair_below}
+use Rattle.bsv_schedule.specs.relating.Uses.{Among, AreUsages, Meets, MeetAt, UseSame, used, pair_below}
 use Rattle.bsv_graph.specs.Walks.{HasEdge}
 use Rattle.bsv_schedule.proofs.DesignLemmas.{uses_some, uses_none, kinds_are, pairs_below}
 use Rattle.bsv_graph.proofs.EdgeLemmas.{all_within, in_below}
 use Rattle.bsv_schedule.proofs.Truths.{same_truths}
-use Rattle.bsv_schedule.proofs.UsesLemmas.{any_of, all_has, meet_meets, meets_meet, meets_same, goes_is, feeds_is}
+use Rattle.bsv_schedule.proofs.UsesLemmas.{any_of, all_has, meets_same, goes_is, feeds_is}
 
 -- ---- tables of elements that meet
 
@@ -45,18 +45,25 @@ pub record IsSchemeOf (S : Scheme) (ks : List Kind) (es : List Element) : Type 0
   pub some : (n : ℕ) (e : Element) → slice_get es n ≡ Some e → S.uses n ≡ map target e.calls
   pub none : (n : ℕ) → slice_get es n ≡ None → S.uses n ≡ []
 
-module _ (S : Scheme) (ks : List Kind) (es : List Element) (us : List Usage) (scheme : IsSchemeOf S ks es) (are : AreUsages ks es us)
+module _ (S : Scheme) (ks : List Kind) (es : List Element) (us : List (List Use)) (scheme : IsSchemeOf S ks es) (are : AreUsages ks es us)
     (w : Relation) (t : Table) (side : side_of t ≡ length us)
-    (marks : (a b : ℕ) → a < length us → b < length us → IsTrue (at t a b) ↔ IsTrue (meet_at w ks us a b)) where
+    (marks : (a b : ℕ) → a < length us → b < length us → IsTrue (at t a b) ↔ MeetAt w ks us a b) where
   uses_element : (n : ℕ) (x : Target) → Among (S.uses n) x → (e : Element) × (slice_get es n ≡ Some e)
   uses_element n x h = of (slice_get es n) refl where
     of : (o : Option Element) → slice_get es n ≡ o → (e : Element) × (slice_get es n ≡ Some e)
     of None e = let k : Among [] x = subst (λ ts. Among ts x) (scheme.none n e) h in absurd k
     of (Some e) is = (e, is)
 
-  -- where both elements stand, with what they use
-  at_both : (a b : ℕ) (u v : Usage) → slice_get us a ≡ Some u → slice_get us b ≡ Some v → meet_at w ks us a b ≡ meet w ks u v
-  at_both a b u v h k = ap (λ o. meet_of w ks o (slice_get us b)) h ∙ ap (λ o. meet_of w ks (Some u) o) k
+  -- what is noted of an element is what the scheme says that it uses
+  uses_noted : (n : ℕ) → n < length us → UseSame (used (slice_index_or us n [])) (S.uses n)
+  uses_noted n below =
+      let own = item_there us n below in
+      let e = item_there es n (subst (λ count. n < count) are.count below) in
+      subst (λ xs. UseSame (used xs) (S.uses n)) (sym (get_or_from_slice_get us n own.0 [] own.1))
+      (subst (UseSame (used own.0)) (sym (scheme.some n e.0 e.1)) (are.same n e.0 own.0 e.1 own.1))
+
+  turned : (xs ys : List Target) → UseSame xs ys → UseSame ys xs
+  turned xs ys same x = ((same x).1, (same x).0)
 
   pub marked_meets : (a b : ℕ) → IsTrue (marked t a b) → Meets w S.kinds (S.uses a) (S.uses b)
   marked_meets a b h =
@@ -64,16 +71,8 @@ module _ (S : Scheme) (ks : List Kind) (es : List Element) (us : List Usage) (sc
       let q = and_parts (nat_lt a (side_of t)) (nat_lt b (side_of t)) p.0 in
       let la : a < length us = subst (λ n. a < n) side (ltb-true a (side_of t) q.0) in
       let lb : b < length us = subst (λ n. b < n) side (ltb-true b (side_of t) q.1) in
-      let u = item_there us a la in
-      let v = item_there us b lb in
-      let d = item_there es a (subst (λ n. a < n) are.count la) in
-      let e = item_there es b (subst (λ n. b < n) are.count lb) in
-      let m : IsTrue (meet w ks u.0 v.0) = subst IsTrue (at_both a b u.0 v.0 u.1 v.1) ((marks a b la lb).0 p.1) in
       subst (λ k. Meets w k (S.uses a) (S.uses b)) (sym scheme.kinds)
-      (subst (λ xs. Meets w ks xs (S.uses b)) (sym (scheme.some a d.0 d.1))
-      (subst (λ ys. Meets w ks (map target d.0.calls) ys) (sym (scheme.some b e.0 e.1))
-      (meets_same w ks (used u.0) (used v.0) (map target d.0.calls) (map target e.0.calls) (are.same a d.0 u.0 d.1 u.1) (are.same b e.0 v.0 e.1 v.1)
-      (meet_meets w ks u.0 v.0 m))))
+      (meets_same w ks _ _ (S.uses a) (S.uses b) (uses_noted a la) (uses_noted b lb) ((marks a b la lb).0 p.1))
 
   pub meets_marked : (a b : ℕ) → Meets w S.kinds (S.uses a) (S.uses b) → IsTrue (marked t a b)
   meets_marked a b h =
@@ -81,21 +80,13 @@ module _ (S : Scheme) (ks : List Kind) (es : List Element) (us : List Usage) (sc
       let e = uses_element b h.second h.in_second in
       let la : a < length us = subst (λ n. a < n) (sym are.count) (slice_get_within es a d.0 d.1) in
       let lb : b < length us = subst (λ n. b < n) (sym are.count) (slice_get_within es b e.0 e.1) in
-      let u = item_there us a la in
-      let v = item_there us b lb in
-      let same_d = are.same a d.0 u.0 d.1 u.1 in
-      let same_e = are.same b e.0 v.0 e.1 v.1 in
-      let m : Meets w ks (map target d.0.calls) (map target e.0.calls) =
-      subst (λ ys. Meets w ks (map target d.0.calls) ys) (scheme.some b e.0 e.1)
-      (subst (λ xs. Meets w ks xs (S.uses b)) (scheme.some a d.0 d.1)
-      (subst (λ k. Meets w k (S.uses a) (S.uses b)) scheme.kinds h)) in
-      let n : IsTrue (meet w ks u.0 v.0) =
-      meets_meet w ks u.0 v.0 (meets_same w ks (map target d.0.calls) (map target e.0.calls) (used u.0) (used v.0)
-      (λ x. ((same_d x).1, (same_d x).0)) (λ x. ((same_e x).1, (same_e x).0)) m) in
+      let m : MeetAt w ks us a b =
+      meets_same w ks (S.uses a) (S.uses b) _ _ (turned _ _ (uses_noted a la)) (turned _ _ (uses_noted b lb))
+      (subst (λ k. Meets w k (S.uses a) (S.uses b)) scheme.kinds h) in
       and_from (nat_lt a (side_of t) && nat_lt b (side_of t)) (at t a b)
       (and_from (nat_lt a (side_of t)) (nat_lt b (side_of t)) (lt-ltb a (side_of t) (subst (λ n. a < n) (sym side) la))
       (lt-ltb b (side_of t) (subst (λ n. b < n) (sym side) lb)))
-      ((marks a b la lb).1 (subst IsTrue (sym (at_both a b u.0 v.0 u.1 v.1)) n))
+      ((marks a b la lb).1 m)
 
 -- ---- pairs as edges
 
@@ -226,29 +217,26 @@ relating_same S r roles go feed preempt order urge =
     }
 
 -- what the parts of the relations of a design are
-module _ (d : Design) (ks : List Kind) (es : List Element) (us vs : List Usage) (kinds : ks ≡ kinds_of (design_data d)) (elements : es ≡ d.elements)
-    (slice : vs ≡ us) (are : AreUsages ks es us) where
+module _ (d : Design) (ks : List Kind) (es : List Element) (us : List (List Use)) (kinds : ks ≡ kinds_of (design_data d)) (elements : es ≡ d.elements)
+    (are : AreUsages ks es us) where
   scheme : IsSchemeOf (design_scheme (design_data d)) ks es
   scheme = subst (λ k. IsSchemeOf (design_scheme (design_data d)) k es) (sym kinds) (subst (IsSchemeOf (design_scheme (design_data d)) (kinds_of (design_data d))) (sym elements) (scheme_of d))
 
-  usages : AreUsages ks es vs
-  usages = subst (AreUsages ks es) (sym slice) are
+  pub many : length us ≡ length d.elements
+  many = are.count ∙ ap length elements
 
-  pub many : length vs ≡ length d.elements
-  many = usages.count ∙ ap length elements
-
-  module _ (t : Table) (side : side_of t ≡ length vs) where
-    pub clashes_are : ((a b : ℕ) → a < length vs → b < length vs → IsTrue (at t a b) ↔ IsTrue (meet_at relation.Clashes ks vs a b))
+  module _ (t : Table) (side : side_of t ≡ length us) where
+    pub clashes_are : ((a b : ℕ) → a < length us → b < length us → IsTrue (at t a b) ↔ MeetAt relation.Clashes ks us a b)
         → (a b : ℕ) → not (marked t a b) ≡ goes (design_scheme (design_data d)) a b
     clashes_are marks a b = goes_is (design_scheme (design_data d)) a b (marked t a b)
-        (marked_meets (design_scheme (design_data d)) ks es vs scheme usages relation.Clashes t side marks a b)
-        (meets_marked (design_scheme (design_data d)) ks es vs scheme usages relation.Clashes t side marks a b)
+        (marked_meets (design_scheme (design_data d)) ks es us scheme are relation.Clashes t side marks a b)
+        (meets_marked (design_scheme (design_data d)) ks es us scheme are relation.Clashes t side marks a b)
 
-    pub feeds_are : ((a b : ℕ) → a < length vs → b < length vs → IsTrue (at t a b) ↔ IsTrue (meet_at relation.Feeds ks vs a b))
+    pub feeds_are : ((a b : ℕ) → a < length us → b < length us → IsTrue (at t a b) ↔ MeetAt relation.Feeds ks us a b)
         → (a b : ℕ) → marked t a b ≡ feeds (design_scheme (design_data d)) a b
     feeds_are marks a b = feeds_is (design_scheme (design_data d)) a b (marked t a b)
-        (marked_meets (design_scheme (design_data d)) ks es vs scheme usages relation.Feeds t side marks a b)
-        (meets_marked (design_scheme (design_data d)) ks es vs scheme usages relation.Feeds t side marks a b)
+        (marked_meets (design_scheme (design_data d)) ks es us scheme are relation.Feeds t side marks a b)
+        (meets_marked (design_scheme (design_data d)) ks es us scheme are relation.Feeds t side marks a b)
 
 -- ---- edges look below the count alone
 

@@ -1,8 +1,7 @@
 -- Uses each once say the same as calls: which elements clash, and which feed which.
-use Rattle.std.proofs.Common.{◌≡◌, ◌≢◌, ◌∙◌, ℕ, ◌<◌, ◌⊎◌, inl, inr, Bool, true, false, not, ◌&&◌, ◌||◌, List, [], ◌∷◌, ◌++◌, length, get_or, map, refl, zero, suc, sym, ap, subst, arith, Some, None}
-use Rattle.std.proofs.Common.{get_or-set_same, get_or-set_other}
-use Rattle.std.proofs.lemmas.Bool.{cases_eq, and_parts, and_from, or_left, or_right, eq-eqb, eqb-true}
-use Rattle.std.specs.Prelude.{IsTrue, IsFalse, if◌then◌else◌, filter, ◌==◌, slice_get, Option}
+use Rattle.std.proofs.Common.{◌≡◌, ◌∙◌, ℕ, ◌<◌, ◌⊎◌, inl, inr, Bool, true, false, not, ◌&&◌, ◌||◌, List, [], ◌∷◌, ◌++◌, length, get_or, map, refl, zero, suc, sym, ap, subst, arith, Some, None}
+use Rattle.std.proofs.lemmas.Bool.{and_parts, and_from, or_left, or_right}
+use Rattle.std.specs.Prelude.{IsTrue, IsFalse, ◌==◌, slice_get, Option}
 use Rattle.std.specs.List.{list_all, list_any}
 use Rattle.bsv_design.specs.declared.element.Call.{Call}
 use Rattle.bsv_design.specs.declared.kind.Kind.{Kind}
@@ -12,11 +11,9 @@ use Rattle.bsv_design.specs.scheme.Schemes.{Scheme}
 use Rattle.bsv_design.specs.design.Widths.{call_named}
 use Rattle.bsv_schedule.specs.declared.relating.related.Relation.{Relation}
 use Rattle.bsv_schedule.specs.declared.relating.related.Relation.TheVariants as relation
-use Rattle.bsv_schedule.specs.declared.relating.usage.Usage.{Usage}
 use Rattle.bsv_schedule.specs.declared.relating.usage.Use.{Use}
-use Rattle.bsv_schedule.specs.relating.Grouping.{methods_on, methods_at, AreGrouped, added}
 use Rattle.bsv_schedule.specs.relating.Related.{names_method, related, on_one_part}
-use Rattle.bsv_schedule.specs.relating.Uses.{target_of, Among, UseSame, Meets, IsNoted, used, use_named, meet, calls_meet}
+use Rattle.bsv_schedule.specs.relating.Uses.{target_of, Among, UseSame, Meets, IsNoted, use_named, calls_meet}
 use Rattle.bsv_schedule.proofs.Truths.{same_truths}
 
 -- ---- members of lists
@@ -68,105 +65,12 @@ pub all_from : {X : Type 0} (f : X → Bool) (xs : List X) → ((x : X) → Amon
 all_from f [] h = refl
 all_from f (y ∷ xs) h = and_from (f y) (list_all f xs) (h y (inl refl)) (all_from f xs (λ x k. h x (inr k)))
 
--- ---- methods by part
-
-on_if : Bool → Use → List ℕ → List ℕ
-on_if b u ms = if b then u.method ∷ ms else ms
-
-on_step : (b : Bool) (u : Use) (us : List Use) → map (λ u. u.method) (if b then u ∷ us else us) ≡ (if b then u.method ∷ map (λ u. u.method) us else map (λ u. u.method) us)
-on_step true u us = refl
-on_step false u us = refl
-
-on_cons : (u : Use) (us : List Use) (part : ℕ) → methods_on (u ∷ us) part ≡ (if (u.part == part) then u.method ∷ methods_on us part else methods_on us part)
-on_cons u us part = on_step (u.part == part) u (filter (λ v. v.part == part) us)
-
-of_step : (u : Use) (us : List Use) (part m : ℕ) → (Among (methods_on us part) m → (v : Use) × Among us v × (v.part ≡ part) × (v.method ≡ m))
-    → (b : Bool) → (u.part == part) ≡ b → Among (if b then u.method ∷ methods_on us part else methods_on us part) m
-    → (v : Use) × Among (u ∷ us) v × (v.part ≡ part) × (v.method ≡ m)
-of_step u us part m g true e (inl k) = (u, inl refl, eqb-true u.part part e, sym k)
-of_step u us part m g true e (inr k) = let p = g k in (p.0, inr p.1, p.2, p.3)
-of_step u us part m g false e k = let p = g k in (p.0, inr p.1, p.2, p.3)
-
-pub on_of : (us : List Use) (part m : ℕ) → Among (methods_on us part) m → (u : Use) × Among us u × (u.part ≡ part) × (u.method ≡ m)
-on_of [] part m h = absurd h
-on_of (u ∷ us) part m h = of_step u us part m (on_of us part m) (u.part == part) refl (subst (λ ms. Among ms m) (on_cons u us part) h)
-
-on_here : (b : Bool) (m : ℕ) (ms : List ℕ) → IsTrue b → Among (if b then m ∷ ms else ms) m
-on_here true m ms h = inl refl
-on_here false m ms h = cc
-
-on_there : (b : Bool) (x m : ℕ) (ms : List ℕ) → Among ms m → Among (if b then x ∷ ms else ms) m
-on_there true x m ms h = inr h
-on_there false x m ms h = h
-
-pub on_has : (us : List Use) (u : Use) → Among us u → Among (methods_on us u.part) u.method
-on_has [] u h = absurd h
-on_has (v ∷ us) u (inl h) = subst (λ w. Among (methods_on (v ∷ us) w.part) w.method) (sym h)
-    (subst (λ ms. Among ms v.method) (sym (on_cons v us v.part)) (on_here (v.part == v.part) v.method (methods_on us v.part) (eq-eqb v.part v.part refl)))
-on_has (v ∷ us) u (inr h) = subst (λ ms. Among ms u.method) (sym (on_cons v us u.part))
-    (on_there (v.part == u.part) v.method u.method (methods_on us u.part) (on_has us u h))
-
-if_append : (b : Bool) (m : ℕ) (xs ys : List ℕ) → (if b then m ∷ (xs ++ ys) else xs ++ ys) ≡ (if b then m ∷ xs else xs) ++ ys
-if_append true m xs ys = refl
-if_append false m xs ys = refl
-
-on_snoc : (us : List Use) (u : Use) (part : ℕ) → methods_on (us ++ u ∷ []) part ≡ methods_on us part ++ methods_on (u ∷ []) part
-on_snoc [] u part = refl
-on_snoc (v ∷ us) u part =
-    on_cons v (us ++ u ∷ []) part
-    ∙ (ap (λ ms. if (v.part == part) then v.method ∷ ms else ms) (on_snoc us u part)
-    ∙ (if_append (v.part == part) v.method (methods_on us part) (methods_on (u ∷ []) part)
-    ∙ ap (λ ms. ms ++ methods_on (u ∷ []) part) (sym (on_cons v us part))))
-
--- one method more
-pub grouped_more : (gs hs : List (List ℕ)) (us : List Use) (part m : ℕ) → part < length gs → AreGrouped gs us → hs ≡ added gs part m
-    → AreGrouped hs (us ++ (record { part = part; method = m }) ∷ [])
-grouped_more gs hs us part m l g is q = ap (λ z. methods_at z q) is ∙ (elim (cases_eq q part) [
-  | inl e ↦ subst (λ z. methods_at (added gs part m) z ≡ methods_on (us ++ u ∷ []) z) (sym e)
-      (get_or-set_same gs part (methods_at gs part ++ m ∷ []) [] l
-      ∙ (ap (λ ms. ms ++ m ∷ []) (g part) ∙ (ap (λ ms. methods_on us part ++ ms) (sym mine) ∙ sym (on_snoc us u part))))
-  | inr ne ↦ get_or-set_other gs part q (methods_at gs part ++ m ∷ []) [] ne
-      ∙ (g q ∙ (sym (nothing_more (methods_on us q)) ∙ (ap (λ ms. methods_on us q ++ ms) (sym (others q ne)) ∙ sym (on_snoc us u q))))
-]) where
-  u : Use
-  u = record { part = part; method = m }
-
-  yes_if : (b : Bool) → IsTrue b → (if b then m ∷ [] else []) ≡ m ∷ []
-  yes_if true h = refl
-  yes_if false h = cc
-
-  mine : methods_on (u ∷ []) part ≡ m ∷ []
-  mine = on_cons u [] part ∙ yes_if (part == part) (eq-eqb part part refl)
-
-  not_if : (b : Bool) → ¬ IsTrue b → (if b then m ∷ [] else []) ≡ []
-  not_if true h = absurd (h refl)
-  not_if false h = refl
-
-  others : (q : ℕ) → q ≢ part → methods_on (u ∷ []) q ≡ []
-  others q ne = on_cons u [] q ∙ not_if (part == q) (λ h. ne (sym (eqb-true part q h)))
-
-  nothing_more : (ms : List ℕ) → ms ++ [] ≡ ms
-  nothing_more [] = refl
-  nothing_more (x ∷ ms) = ap (λ z. x ∷ z) (nothing_more ms)
-
--- a part more without methods
-pub none_more : (gs : List (List ℕ)) → AreGrouped gs [] → AreGrouped (gs ++ [] ∷ []) []
-none_more [] h zero = refl
-none_more [] h (suc q) = refl
-none_more (g ∷ gs) h zero = h 0
-none_more (g ∷ gs) h (suc q) = none_more gs (λ p. h (suc p)) q
-
 -- ---- noted uses
 
-pub noted_again : (us : List Use) (part m : ℕ) → Among (methods_on us part) m → IsNoted us part m us
+pub noted_again : (us : List Use) (part m : ℕ) → Among (map target_of us) (record { part = part; method = m }) → IsNoted us part m us
 noted_again us part m h t = (
   λ k. inr k,
-  λ k. elim k [
-    | inl e ↦ let p = on_of us part m h in
-        let it : target_of p.0 ≡ t = (λ i. record { part = p.2 i; method = p.3 i }) ∙ sym e in
-        subst (Among (map target_of us)) it (among_map target_of us p.0 p.1)
-    | inr k ↦ k
-  ],
+  λ k. elim k [ inl e ↦ subst (Among (map target_of us)) (sym e) h | inr k ↦ k ],
 )
 
 map_snoc : (us : List Use) (u : Use) → map target_of (us ++ u ∷ []) ≡ map target_of us ++ target_of u ∷ []
@@ -213,47 +117,9 @@ same_named ks us cs s h = all_from (use_named ks) us (λ u k.
     let n : IsTrue (call_named ks p.0) = all_has (call_named ks) cs p.0 h p.1 in
     subst (λ t. IsTrue (names_method ks t.part t.method)) (sym p.2) n)
 
--- the methods by part are those of the part
-pub on_named : (ks : List Kind) (us : List Use) (part : ℕ) → IsTrue (list_all (use_named ks) us) → IsTrue (list_all (names_method ks part) (methods_on us part))
-on_named ks us part h = all_from (names_method ks part) (methods_on us part) (λ m k.
-    let p = on_of us part m k in
-    let n : IsTrue (use_named ks p.0) = all_has (use_named ks) us p.0 h p.1 in
-    subst (λ q. IsTrue (names_method ks part q)) p.3 (subst (λ q. IsTrue (names_method ks q p.0.method)) p.2 n))
-
 -- ---- uses that meet
 
 module _ (w : Relation) (ks : List Kind) where
-  pub meet_meets : (u v : Usage) → IsTrue (meet w ks u v) → Meets w ks (used u) (used v)
-  meet_meets u v h =
-      let p = any_of (λ y. list_any (λ m. related w (slice_get ks y.part) m y.method) (methods_on u.uses y.part)) v.uses h in
-      let y = p.0 in
-      let q = any_of (λ m. related w (slice_get ks y.part) m y.method) (methods_on u.uses y.part) p.2 in
-      let r = on_of u.uses y.part q.0 q.1 in
-      record {
-        first = target_of r.0;
-        second = target_of y;
-        in_first = among_map target_of u.uses r.0 r.1;
-        in_second = among_map target_of v.uses y p.1;
-        meet = and_from (r.0.part == y.part) (related w (slice_get ks r.0.part) r.0.method y.method) (eq-eqb r.0.part y.part r.2)
-            (subst (λ n. IsTrue (related w (slice_get ks n) r.0.method y.method)) (sym r.2)
-            (subst (λ m. IsTrue (related w (slice_get ks y.part) m y.method)) (sym r.3) q.2));
-      }
-
-  pub meets_meet : (u v : Usage) → Meets w ks (used u) (used v) → IsTrue (meet w ks u v)
-  meets_meet u v h =
-      let p = of_map target_of u.uses h.first h.in_first in
-      let q = of_map target_of v.uses h.second h.in_second in
-      let x = p.0 in
-      let y = q.0 in
-      let k : IsTrue (on_one_part w ks (target_of x) (target_of y)) =
-      subst (λ t. IsTrue (on_one_part w ks t (target_of y))) p.2 (subst (λ t. IsTrue (on_one_part w ks h.first t)) q.2 h.meet) in
-      let b = and_parts (x.part == y.part) (related w (slice_get ks x.part) x.method y.method) k in
-      let e : x.part ≡ y.part = eqb-true x.part y.part b.0 in
-      any_has (λ z. list_any (λ m. related w (slice_get ks z.part) m z.method) (methods_on u.uses z.part)) v.uses y q.1
-      (any_has (λ m. related w (slice_get ks y.part) m y.method) (methods_on u.uses y.part) x.method
-      (subst (λ n. Among (methods_on u.uses n) x.method) e (on_has u.uses x p.1))
-      (subst (λ n. IsTrue (related w (slice_get ks n) x.method y.method)) e b.1))
-
   pub calls_meets : (cs ds : List Call) → IsTrue (calls_meet w ks cs ds) → Meets w ks (map target cs) (map target ds)
   calls_meets cs ds h =
       let p = any_of (λ c. list_any (λ d. on_one_part w ks (target c) (target d)) ds) cs h in
@@ -421,11 +287,6 @@ pub among_at : {X : Type 0} (xs : List X) (k : ℕ) (x : X) → k < length xs �
 among_at [] k x l h = absurd (omega arith)
 among_at (y ∷ xs) zero x l h = inl h
 among_at (y ∷ xs) (suc k) x l h = inr (among_at xs k x (omega arith) h)
-
-pub among_equal : (ms : List ℕ) (k m d : ℕ) → k < length ms → IsTrue (get_or ms k d == m) → Among ms m
-among_equal [] k m d l h = absurd (omega arith)
-among_equal (x ∷ ms) zero m d l h = inl (sym (eqb-true x m h))
-among_equal (x ∷ ms) (suc k) m d l h = inr (among_equal ms k m d (omega arith) h)
 
 -- a call that names a method stands on a part
 pub named_part : (ks : List Kind) (part m : ℕ) → IsTrue (names_method ks part m) → part < length ks

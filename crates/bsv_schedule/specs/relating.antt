@@ -3,6 +3,6 @@ pub mod Relating
 pub mod Elements
 pub mod Relations
 pub mod Related
-pub mod Grouping
 pub mod Uses
+pub mod Users
 pub mod Marks

@@ -9,45 +9,7 @@ ghost use Rattle.bsv_schedule.specs.relating.Related as spec;
 ghost use Rattle.bsv_schedule.specs.relating.Uses as uses;
 
 use crate::relating::related::{Relation, related};
-use crate::relating::usage::Usage;
 use bsv_design::{Call, Design, NamedPart};
-
-// Whether one of these methods of the part and this method stand in the relation.
-fn some_related(
-    relation: Relation,
-    parts: &[NamedPart],
-    part: u32,
-    methods: &[u32],
-    method: u32,
-) -> bool
-    requires methods { IsTrue (list_all
-        (spec.names_method (map (λ p. p.kind) parts.now) part) methods.now) }
-    requires method { IsTrue (spec.names_method (map (λ p. p.kind) parts.now) part method) }
-    ensures { result ≡ list_any (λ m. spec.related relation
-        (slice_get (map (λ p. p.kind) parts.now) part) m method) methods.now }
-{
-    for first in methods {
-        if related(relation, parts, part, *first, method) {
-            return true;
-        }
-    }
-    false
-}
-
-/// Whether a use of the first and one of the second stand in the relation.
-pub(crate) fn meet(relation: Relation, parts: &[NamedPart], first: &Usage, second: &Usage) -> bool
-    requires first { IsTrue (uses.is_named (map (λ p. p.kind) parts.now) first.now) }
-    requires second { IsTrue (uses.is_named (map (λ p. p.kind) parts.now) second.now) }
-    ensures { result ≡ uses.meet relation (map (λ p. p.kind) parts.now) first.now second.now }
-{
-    for other in second.uses.as_slice() {
-        let methods = first.methods(other.part);
-        if some_related(relation, parts, other.part, methods, other.method) {
-            return true;
-        }
-    }
-    false
-}
 
 // Whether the call and one of the others stand in the relation.
 fn call_meets(relation: Relation, parts: &[NamedPart], call: &Call, others: &[Call]) -> bool

@@ -1,4 +1,4 @@
-ghost use Rattle.std.specs.Prelude.{◌≡◌, ◌<◌, ◌^◌, ◌↔◌, ◌++◌, ◌∷◌, []};
+ghost use Rattle.std.specs.Prelude.{◌≡◌, ◌<◌, ◌^◌, ◌↔◌, ◌++◌, ◌∷◌, [], All};
 ghost use Rattle.std.specs.Prelude.{ℕ, IsTrue, IfOk, OnOk, length, map};
 ghost use Rattle.std.specs.List.{list_all, list_any};
 ghost use Rattle.bsv_design.specs.scheme.Schemes.{design_scheme};
@@ -7,12 +7,13 @@ ghost use Rattle.bsv_graph.specs.Edges.{AllBelow};
 ghost use Rattle.bsv_schedule.specs.relating.Elements as elements;
 ghost use Rattle.bsv_schedule.specs.relating.Elements.{relating};
 ghost use Rattle.bsv_graph.specs.Table.{side_of, at, Adds};
+ghost use Rattle.bsv_schedule.specs.relating.Related.{names_method};
+ghost use Rattle.bsv_schedule.specs.relating.Users.{AreUsers, IsUserOf, MeetsUser};
 ghost use Rattle.bsv_schedule.specs.relating.Uses as spec;
 
-use crate::relating::meeting::meet;
-use crate::relating::related::Relation;
-use crate::relating::usage::Usage;
-use crate::relating::uses::usage_of;
+use crate::relating::related::{Relation, related};
+use crate::relating::usage::{Usages, Use, User};
+use crate::relating::uses::usages;
 use bsv_bits::OutOfMemory;
 use bsv_design::{Attribute, Design, Element, NamedPart, Pair, Role};
 use bsv_graph::{Edge, Table, marked_edges};
@@ -46,45 +47,51 @@ fn roles(alloc: Global, elements: &[Element]) -> Result<Items<Role>, AllocError>
     Ok(found)
 }
 
-// What each element uses.
-fn usages(
-    alloc: Global,
-    parts: &[NamedPart],
-    elements: &[Element],
-) -> Result<Vec<Usage>, AllocError>
-    requires { spec.CallsNamed (map (λ p. p.kind) parts.now) elements.now }
-    ensures { IfOk result (λ found. spec.AreUsages
-        (map (λ p. p.kind) parts.now) elements.now found.items) }
+// The pair is marked where it meets.
+fn mark_if(table: &mut Table, meets: bool, a: usize, b: usize)
+    requires row { a < side_of table.old }
+    requires column { b < side_of table.old }
+    ensures { Adds table.old table.new (λ x y. IsTrue meets × (x ≡ a) × (y ≡ b)) }
 {
-    let mut found = Vec::new(alloc);
-    for element in elements {
-        found.push(usage_of(alloc, parts, element.calls.as_slice())?)?;
+    if meets {
+        table.mark(a, b);
     }
-    Ok(found)
 }
 
-// Whether the elements of these positions meet so.
-fn meet_at(relation: Relation, parts: &[NamedPart], usages: &[Usage], a: usize, b: usize) -> bool
-    requires first { a < length usages.now }
-    requires second { b < length usages.now }
-    requires named { spec.AllNamed (map (λ p. p.kind) parts.now) usages.now }
-    ensures { result ≡ spec.meet_at relation (map (λ p. p.kind) parts.now) usages.now a b }
+// The element's pairs with those users of a part that its use of the part meets are marked.
+fn mark_use(
+    table: &mut Table,
+    relation: Relation,
+    parts: &[NamedPart],
+    a: usize,
+    own: Use,
+    users: &[User],
+)
+    requires row { a < side_of table.old }
+    requires own { IsTrue (names_method (map (λ p. p.kind) parts.now) own.part own.method) }
+    requires users { All
+        (IsUserOf (side_of table.old) (map (λ p. p.kind) parts.now) own.part) users.now }
+    ensures { Adds table.old table.new (λ x y. (x ≡ a)
+        × MeetsUser relation (map (λ p. p.kind) parts.now) own users.now y) }
 {
-    meet(relation, parts, &usages[a], &usages[b])
+    for user in users {
+        let meets = related(relation, parts, own.part, own.method, user.method);
+        mark_if(table, meets, a, user.element as usize);
+    }
 }
 
 // The pairs of the element `a` with those that it meets are marked.
-fn mark_row(table: &mut Table, relation: Relation, parts: &[NamedPart], usages: &[Usage], a: usize)
-    requires row { a < length usages.now }
-    requires side { side_of table.old ≡ length usages.now }
-    requires named { spec.AllNamed (map (λ p. p.kind) parts.now) usages.now }
-    ensures { Adds table.old table.new (λ x y. (x ≡ a)
-        × IsTrue (spec.meet_at relation (map (λ p. p.kind) parts.now) usages.now a y)) }
+fn mark_row(table: &mut Table, relation: Relation, parts: &[NamedPart], usages: &Usages, a: usize)
+    requires row { a < length usages.now.by_element.items }
+    requires side { side_of table.old ≡ length usages.now.by_element.items }
+    requires named { spec.AllNamed
+        (map (λ p. p.kind) parts.now) usages.now.by_element.items }
+    requires users { AreUsers usages.now.by_element.items usages.now.by_part.items }
+    ensures { Adds table.old table.new (λ x y. (x ≡ a) × spec.MeetAt
+        relation (map (λ p. p.kind) parts.now) usages.now.by_element.items a y) }
 {
-    for b in 0..usages.len() {
-        if meet_at(relation, parts, usages, a, b) {
-            table.mark(a, b);
-        }
+    for own in usages.by_element[a].as_slice() {
+        mark_use(table, relation, parts, a, *own, usages.users(own.part));
     }
 }
 
@@ -93,17 +100,22 @@ fn table_of(
     alloc: Global,
     relation: Relation,
     parts: &[NamedPart],
-    usages: &[Usage],
+    usages: &Usages,
 ) -> Result<Table, OutOfMemory>
-    requires few { length usages.now < 2 ^ 32 }
-    requires named { spec.AllNamed (map (λ p. p.kind) parts.now) usages.now }
-    ensures side { IfOk result (λ table. side_of table ≡ length usages.now) }
+    requires few { length usages.now.by_element.items < 2 ^ 32 }
+    requires named { spec.AllNamed
+        (map (λ p. p.kind) parts.now) usages.now.by_element.items }
+    requires users { AreUsers usages.now.by_element.items usages.now.by_part.items }
+    ensures side { IfOk result (λ table.
+        side_of table ≡ length usages.now.by_element.items) }
     ensures marked { IfOk result (λ table. (a b : ℕ)
-        → a < length usages.now → b < length usages.now → IsTrue (at table a b)
-        ↔ IsTrue (spec.meet_at relation (map (λ p. p.kind) parts.now) usages.now a b)) }
+        → a < length usages.now.by_element.items → b < length usages.now.by_element.items
+        → IsTrue (at table a b) ↔ spec.MeetAt
+        relation (map (λ p. p.kind) parts.now) usages.now.by_element.items a b) }
 {
-    let mut table = Table::new(alloc, usages.len())?;
-    for a in 0..usages.len() {
+    let count = usages.by_element.len();
+    let mut table = Table::new(alloc, count)?;
+    for a in 0..count {
         mark_row(&mut table, relation, parts, usages, a);
     }
     Ok(table)
@@ -186,8 +198,8 @@ impl Relations {
         let pairs = design.pairs.as_slice();
         let roles = roles(alloc, elements)?;
         let usages = usages(alloc, parts, elements)?;
-        let clashes = table_of(alloc, Relation::Clashes, parts, usages.as_slice())?;
-        let feeds = table_of(alloc, Relation::Feeds, parts, usages.as_slice())?;
+        let clashes = table_of(alloc, Relation::Clashes, parts, &usages)?;
+        let feeds = table_of(alloc, Relation::Feeds, parts, &usages)?;
         let preempts = preempts_of(alloc, roles.len(), pairs)?;
         let ordering = listed(alloc, true, pairs)?;
         let urging = listed(alloc, false, pairs)?;

@@ -1,32 +1,37 @@
 ghost use Rattle.std.specs.Prelude.{◌≡◌};
-ghost use Rattle.bsv_schedule.specs.relating.Grouping.{AreGrouped};
 
 use sqlite_items::Items;
 
-/// A method of a part.
+/// A method of a part, as an element uses it.
 #[derive(Clone, Copy)]
 pub(crate) struct Use {
     pub part: u32,
     pub method: u32,
 }
 
-/// The methods that an element uses, each once, and of each part those of it.
-#[derive(Drop)]
-pub(crate) struct Usage {
-    pub uses: Items<Use>,
-    pub found: Vec<Items<u32>>,
-    ghost grouped: { AreGrouped found.items uses },
+/// A method of one part, as this element uses it.
+#[derive(Clone, Copy)]
+pub(crate) struct User {
+    pub element: u32,
+    pub method: u32,
 }
 
-impl Usage {
-    ghost use Rattle.bsv_schedule.specs.relating.Grouping.{methods_on};
+/// What the elements use, each method once: of each element its uses, and of each part its users.
+#[derive(Drop)]
+pub(crate) struct Usages {
+    pub by_element: Vec<Items<Use>>,
+    pub by_part: Vec<Items<User>>,
+}
 
-    /// The methods of the part.
-    pub fn methods(&self, part: u32) -> &[u32]
-        ensures { result.now ≡ methods_on self.now.uses part }
+impl Usages {
+    ghost use Rattle.bsv_schedule.specs.relating.Users.{users_at};
+
+    /// The users of the part.
+    pub fn users(&self, part: u32) -> &[User]
+        ensures { result.now ≡ users_at self.now.by_part.items part }
     {
-        match self.found.get(part as usize) {
-            Some(methods) => methods.as_slice(),
+        match self.by_part.get(part as usize) {
+            Some(users) => users.as_slice(),
             None => &[],
         }
     }

@@ -1,15 +1,17 @@
-use Rattle.std.proofs.Common.{◌∙◌, subst, arith}
-use Rattle.std.proofs.lemmas.List.{get_or_read}
-use Rattle.bsv_schedule.specs.relating.Uses.{Among}
-use Rattle.bsv_schedule.proofs.UsesLemmas.{noted_again, noted_new, among_equal}
+use Rattle.std.proofs.Common.{refl, arith}
+use Rattle.bsv_schedule.proofs.UsersLemmas.{agree_more, added_others}
+use Rattle.bsv_schedule.proofs.UsesLemmas.{noted_new}
 use Rattle.bsv_schedule.proofs.relating.uses.note.Goals as goal
 
-pub returns-then-contains-clause-noted : goal.returns-then-contains-clause-noted
-returns-then-contains-clause-noted c =
-    let h = c.if-contains.ensures.cases in
-    let e = c.as_slice.ensures ∙ (get_or_read c.args.found.now.items _ _ (omega (arith, c.args.found.now.ok.0)) c.index.ensures _ ∙ c.requires.grouped c.args.part) in
-    noted_again c.args.uses.now c.args.part c.args.method
-    (subst (λ ms. Among ms c.args.method) e (among_equal c.as_slice.result.now h.0 c.args.method 0 h.1 (h.2 0)))
-
 pub returns-clause-noted : goal.returns-clause-noted
-returns-clause-noted c = noted_new _ _ _ _ c.in_ok-push.ensures.ok
+returns-clause-noted c = noted_new _ _ c.args.part c.args.method c.in_ok-push.ensures.ok
+
+pub returns-clause-agree : goal.returns-clause-agree
+returns-clause-agree c =
+    agree_more c.args.users.now.items c.add.new.users.items c.args.element c.args.part c.args.method c.args.uses.now c.push.new.self
+    (omega (arith, c.requires.part, c.args.users.now.ok.0)) c.in_ok-add.ensures c.requires.agree (noted_new _ _ c.args.part c.args.method c.in_ok-push.ensures.ok)
+
+pub returns-clause-others : goal.returns-clause-others
+returns-clause-others c =
+    added_others c.args.users.now.items c.add.new.users.items c.args.part (record { element = c.args.element; method = c.args.method })
+    (omega (arith, c.requires.part, c.args.users.now.ok.0)) c.in_ok-add.ensures c.args.element refl
