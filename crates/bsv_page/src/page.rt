@@ -57,6 +57,16 @@ impl<S: Sink + Drop> Page<S> {
         }
     }
 
+    /// Whether a put failed.
+    pub fn has_failed(&self) -> bool {
+        self.failed
+    }
+
+    /// The sink, as far as it was put to.
+    pub fn sink(&self) -> &S {
+        &self.sink
+    }
+
     /// Puts what waits, and tells whether all was put.
     pub fn end(&mut self) -> Result<(), Failed> {
         if self.failed {
