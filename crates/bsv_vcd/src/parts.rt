@@ -1,8 +1,8 @@
 use crate::header::put_code;
 use crate::signal::{Form, Shown, Signal};
-use bsv_bits::Name;
 use bsv_io::Sink;
 use bsv_page::Page;
+use bsv_tree::Tree;
 
 /// What a signal shows.
 #[derive(Clone, Copy, PartialEq, Eq)]
@@ -24,7 +24,7 @@ fn bits_of(number: u128, low: u32, width: u32) -> u128 {
 
 impl Part {
     /// What a signal shows of a word.
-    pub(crate) fn of(shown: Shown, signal: Signal<'_>) -> Part {
+    pub(crate) fn of(shown: Shown, signal: Signal) -> Part {
         match shown {
             Shown::Nothing => Part::Nothing,
             Shown::NoWord => Part::NoWord,
@@ -72,22 +72,18 @@ fn put_bits<O: Sink + Drop>(page: &mut Page<O>, part: Part, width: u32) {
     }
 }
 
-/// The label of a number: `?` where it is that of no label.
-fn label_of(labels: &[Name], number: u128) -> &[u8] {
-    match usize::try_from(number) {
-        Ok(place) => match labels.get(place) {
-            Some(label) => label.bytes(),
-            None => b"?",
-        },
-        Err(_) => b"?",
-    }
+/// The label of a number in the enum of a place: `?` where it is that of no label.
+fn label_of(tree: &Tree, number: u32, place: u128) -> Option<&[u8]> {
+    let definition = tree.typed.enums.get(number as usize)?;
+    let place = usize::try_from(place).ok()?;
+    Some(definition.labels.get(place)?.bytes())
 }
 
-/// Puts the label of bits: `-` where there are none.
-fn put_label<O: Sink + Drop>(page: &mut Page<O>, part: Part, labels: &[Name]) {
+/// Puts the label of bits: `-` where there are none, and `?` where they are that of no label.
+fn put_label<O: Sink + Drop>(page: &mut Page<O>, tree: &Tree, number: u32, part: Part) {
     page.text(b"s");
     page.text(match part {
-        Part::Bits(number) => label_of(labels, number),
+        Part::Bits(place) => label_of(tree, number, place).unwrap_or(b"?"),
         Part::Nothing | Part::NoWord => b"-",
     });
     page.text(b" ");
@@ -96,13 +92,14 @@ fn put_label<O: Sink + Drop>(page: &mut Page<O>, part: Part, labels: &[Name]) {
 /// Puts what a signal shows, that of the entry of a place.
 pub(crate) fn put_part<O: Sink + Drop>(
     page: &mut Page<O>,
+    tree: &Tree,
     place: usize,
-    signal: Signal<'_>,
+    signal: Signal,
     part: Part,
 ) {
     match signal.form {
         Form::Bits => put_bits(page, part, signal.width),
-        Form::Label(labels) => put_label(page, part, labels),
+        Form::Label(number) => put_label(page, tree, number, part),
     }
     put_code(page, place);
     page.text(b"\n");

@@ -1,18 +1,30 @@
-use bsv_bits::{Name, Word};
+use bsv_bits::{OutOfMemory, Word};
+use std::alloc::Global;
 
-/// The name of a signal or of a scope.
+/// The name of a signal or of a scope, by where it stands in the tree.
 #[derive(Clone, Copy)]
-pub(crate) struct Title<'a> {
-    pub(crate) text: &'a [u8],
-    /// A number that is put after it, as in `item_0`.
-    pub(crate) number: Option<u32>,
-}
-
-impl<'a> Title<'a> {
-    /// A name alone.
-    pub(crate) fn plain(text: &'a [u8]) -> Title<'a> {
-        Title { text, number: None }
-    }
+pub(crate) enum Title {
+    /// The top, by the place of its module.
+    Top(u32),
+    /// An instance, by its place in the tree.
+    Instance(u32),
+    /// A rule, by the place of its instance in the tree and its own there.
+    Rule(u32, u32),
+    /// A method of the module of a place.
+    Method(u32, u32),
+    /// An argument of a method: the place of the module, that of the method, and its own.
+    Argument(u32, u32, u32),
+    /// A field, by the place of its struct and its own.
+    Field(u32, u32),
+    Fired,
+    Stopped,
+    Blocked,
+    Result,
+    Count,
+    /// A place of a queue, from its front.
+    Item(u32),
+    Valid,
+    Value,
 }
 
 /// What a scope holds.
@@ -28,27 +40,27 @@ pub(crate) enum Scope {
 
 /// How bits are shown.
 #[derive(Clone, Copy)]
-pub(crate) enum Form<'a> {
+pub(crate) enum Form {
     Bits,
-    /// As the label that they number.
-    Label(&'a [Name]),
+    /// As the label that they number, of the enum of a place.
+    Label(u32),
 }
 
 /// Some bits of a word, which are shown as a signal.
 #[derive(Clone, Copy)]
-pub(crate) struct Signal<'a> {
-    pub(crate) title: Title<'a>,
+pub(crate) struct Signal {
+    pub(crate) title: Title,
     /// How many bits of the word are below them.
     pub(crate) low: u32,
     pub(crate) width: u32,
-    pub(crate) form: Form<'a>,
+    pub(crate) form: Form,
 }
 
 /// A line of the declarations.
 #[derive(Clone, Copy)]
-pub(crate) enum Entry<'a> {
-    Open(Scope, Title<'a>),
-    Signal(Signal<'a>),
+pub(crate) enum Entry {
+    Open(Scope, Title),
+    Signal(Signal),
     /// The innermost scope ends.
     Close,
 }
@@ -65,13 +77,6 @@ pub(crate) enum Source {
     Fired(u32),
     Stopped(u32),
     Blocked(u32),
-}
-
-impl Source {
-    /// Whether it stands between two clocks, and is no event of one.
-    pub(crate) fn is_state(self) -> bool {
-        matches!(self, Source::Register(_) | Source::Item(_, _))
-    }
 }
 
 /// What a place shows.
@@ -92,4 +97,61 @@ pub(crate) struct Slot {
     pub(crate) end: usize,
     /// What was put last.
     pub(crate) shown: Shown,
+}
+
+/// The signals of a design: the lines of their declarations, and the words that they show.
+#[derive(Drop)]
+pub(crate) struct Listing {
+    pub(crate) entries: Vec<Entry>,
+    /// Words that stand between two clocks.
+    pub(crate) states: Vec<Slot>,
+    /// Words that tell of a clock.
+    pub(crate) events: Vec<Slot>,
+}
+
+impl Listing {
+    /// No signal yet.
+    pub(crate) fn new(alloc: Global) -> Listing {
+        Listing {
+            entries: Vec::new(alloc),
+            states: Vec::new(alloc),
+            events: Vec::new(alloc),
+        }
+    }
+
+    /// Adds a line of the declarations.
+    fn add(&mut self, entry: Entry) -> Result<(), OutOfMemory> {
+        self.entries.push(entry)?;
+        Ok(())
+    }
+
+    /// Opens a scope.
+    pub(crate) fn open(&mut self, scope: Scope, title: Title) -> Result<(), OutOfMemory> {
+        self.add(Entry::Open(scope, title))
+    }
+
+    /// Closes the innermost scope.
+    pub(crate) fn close(&mut self) -> Result<(), OutOfMemory> {
+        self.add(Entry::Close)
+    }
+
+    /// Adds a signal.
+    pub(crate) fn signal(&mut self, signal: Signal) -> Result<(), OutOfMemory> {
+        self.add(Entry::Signal(signal))
+    }
+
+    /// Adds a word that is shown by the signals from a place on.
+    pub(crate) fn slot(&mut self, source: Source, start: usize) -> Result<(), OutOfMemory> {
+        let slot = Slot {
+            source,
+            start,
+            end: self.entries.len(),
+            shown: Shown::Nothing,
+        };
+        match source {
+            Source::Register(_) | Source::Item(_, _) => self.states.push(slot)?,
+            _ => self.events.push(slot)?,
+        }
+        Ok(())
+    }
 }

@@ -1,6 +1,9 @@
 use bsv_types::{Module, ModuleBranch, ModuleStmt, PartTy, Ty};
 use sqlite_items::Boxed;
 
+/// So deep statements in each other are looked into.
+const MOST_DEPTH: u32 = 256;
+
 /// The types of the declarations that were found.
 #[derive(Clone, Copy)]
 enum Found<'a> {
@@ -47,55 +50,78 @@ fn with_declaration<'a>(declared: &[u8], ty: &'a Ty, name: &[u8], found: Found<'
     }
 }
 
-/// What the declarations in a statement add.
+/// What the declarations in a statement add; in statements that are deeper than so many in each other none is looked for.
 #[cycle(declarations)]
-fn in_statement<'a>(statement: &'a ModuleStmt, name: &[u8], found: Found<'a>) -> Found<'a> {
+fn in_statement<'a>(
+    statement: &'a ModuleStmt,
+    name: &[u8],
+    found: Found<'a>,
+    depth: u32,
+) -> Found<'a> {
+    if depth == 0 {
+        return found;
+    }
     match statement {
         ModuleStmt::Instance(ty, declared, _) | ModuleStmt::Array(ty, declared, _) => {
             with_declaration(declared.bytes(), ty, name, found)
         }
-        ModuleStmt::Block(body) => in_statements(body.as_slice(), name, found),
+        ModuleStmt::Block(body) => in_statements(body.as_slice(), name, found, depth - 1),
         ModuleStmt::If(branches, last) => {
-            let found = in_branches(branches.as_slice(), name, found);
-            in_last(last, name, found)
+            let found = in_branches(branches.as_slice(), name, found, depth - 1);
+            in_last(last, name, found, depth - 1)
         }
-        ModuleStmt::For(_, body) => in_statement(body.get(), name, found),
+        ModuleStmt::For(_, body) => in_statement(body.get(), name, found, depth - 1),
         _ => found,
     }
 }
 
 /// What those in a list of statements add.
 #[cycle(declarations)]
-fn in_statements<'a>(statements: &'a [ModuleStmt], name: &[u8], found: Found<'a>) -> Found<'a> {
+fn in_statements<'a>(
+    statements: &'a [ModuleStmt],
+    name: &[u8],
+    found: Found<'a>,
+    depth: u32,
+) -> Found<'a> {
     let mut found = found;
     for statement in statements {
-        found = in_statement(statement, name, found);
+        found = in_statement(statement, name, found, depth);
     }
     found
 }
 
 /// What those in the arms of an `if` add.
 #[cycle(declarations)]
-fn in_branches<'a>(branches: &'a [ModuleBranch], name: &[u8], found: Found<'a>) -> Found<'a> {
+fn in_branches<'a>(
+    branches: &'a [ModuleBranch],
+    name: &[u8],
+    found: Found<'a>,
+    depth: u32,
+) -> Found<'a> {
     let mut found = found;
     for branch in branches {
-        found = in_statement(&branch.arm, name, found);
+        found = in_statement(&branch.arm, name, found, depth);
     }
     found
 }
 
 /// What those after the last `else` add.
 #[cycle(declarations)]
-fn in_last<'a>(last: &'a Option<Boxed<ModuleStmt>>, name: &[u8], found: Found<'a>) -> Found<'a> {
+fn in_last<'a>(
+    last: &'a Option<Boxed<ModuleStmt>>,
+    name: &[u8],
+    found: Found<'a>,
+    depth: u32,
+) -> Found<'a> {
     match last {
-        Some(arm) => in_statement(arm.get(), name, found),
+        Some(arm) => in_statement(arm.get(), name, found, depth),
         None => found,
     }
 }
 
 /// The type of what a register or a queue of the name holds, where the text of its module leaves no doubt.
 pub(crate) fn held_type<'a>(module: &'a Module, name: &[u8]) -> Option<&'a Ty> {
-    match in_statements(module.body.as_slice(), name, Found::Nothing) {
+    match in_statements(module.body.as_slice(), name, Found::Nothing, MOST_DEPTH) {
         Found::One(Ty::Part(PartTy::Reg | PartTy::Fifo | PartTy::Fifof, Some(held))) => {
             Some(held.get())
         }

@@ -1,142 +1,156 @@
-use crate::builder::Builder;
-use crate::signal::{Form, Scope, Shown, Signal, Slot, Source, Title};
+use crate::signal::{Form, Listing, Scope, Signal, Source, Title};
 use bsv_bits::OutOfMemory;
-use bsv_types::{Field, Ty, counted_width};
+use bsv_types::{Field, Ty, Typed, counted_width};
 
 /// So deep values in values are taken apart; what is deeper is shown as its bits.
 const MOST_DEPTH: u32 = 32;
 
-/// Some bits of a word that are a value of a type, where the type is known.
+/// Some bits of a word that are a value.
 #[derive(Clone, Copy)]
-struct Value<'a> {
-    title: Title<'a>,
-    ty: Option<&'a Ty>,
+struct Value {
+    title: Title,
     low: u32,
     width: u32,
 }
 
-impl<'a> Value<'a> {
-    /// The signal that shows its bits.
-    fn bits(self) -> Signal<'a> {
+impl Value {
+    /// The signal that shows it in this form.
+    fn signal(self, form: Form) -> Signal {
         Signal {
             title: self.title,
             low: self.low,
             width: self.width,
-            form: Form::Bits,
+            form,
         }
     }
 }
 
-impl<'a> Builder<'a> {
-    /// Adds the signals of a value.
-    #[cycle(values)]
-    fn value(&mut self, value: Value<'a>, depth: u32) -> Result<(), OutOfMemory> {
-        self.signal(value.bits())?;
-        if depth == 0 {
-            return Ok(());
-        }
-        match value.ty {
-            Some(Ty::Enum(number)) => self.labels(value, *number),
-            Some(Ty::Struct(number)) => self.fields(value, *number, depth - 1),
-            Some(Ty::Maybe(payload)) => self.maybe(value, payload.get(), depth - 1),
-            _ => Ok(()),
-        }
-    }
+/// The width of a type, or 0 where it has none.
+pub(crate) fn width_of(typed: &Typed, ty: &Ty) -> u32 {
+    counted_width(&typed.enums, &typed.structs, ty).unwrap_or(0)
+}
 
-    /// Adds the label of a value of an enum.
-    fn labels(&mut self, value: Value<'a>, number: u32) -> Result<(), OutOfMemory> {
-        let Some(definition) = self.typed.enums.get(number as usize) else {
-            return Ok(());
-        };
-        self.signal(Signal {
-            form: Form::Label(definition.labels.as_slice()),
-            ..value.bits()
-        })
+/// The uppermost bits of so many, where so many bits are below all of them.
+fn upper(title: Title, low: u32, bits: u32, width: u32) -> Value {
+    Value {
+        title,
+        low: low.saturating_add(bits.saturating_sub(width)),
+        width,
     }
+}
 
-    /// Adds the fields of a value of a struct, in a scope of their own.
-    #[cycle(values)]
-    fn fields(&mut self, value: Value<'a>, number: u32, depth: u32) -> Result<(), OutOfMemory> {
-        let Some(definition) = self.typed.structs.get(number as usize) else {
-            return Ok(());
-        };
-        self.open(Scope::Parts, value.title)?;
-        let mut above = value.width;
-        for field in definition.fields.as_slice() {
-            above = self.field(field, value.low, above, depth)?;
-        }
-        self.close()
+/// Adds the signals of a value of a type.
+#[cycle(values)]
+fn add_value(
+    typed: &Typed,
+    value: Value,
+    ty: &Ty,
+    depth: u32,
+    listing: &mut Listing,
+) -> Result<(), OutOfMemory> {
+    listing.signal(value.signal(Form::Bits))?;
+    if depth == 0 {
+        return Ok(());
     }
+    match ty {
+        Ty::Enum(number) => listing.signal(value.signal(Form::Label(*number))),
+        Ty::Struct(number) => add_struct(typed, value, *number, depth - 1, listing),
+        Ty::Maybe(payload) => add_maybe(typed, value, payload.get(), depth - 1, listing),
+        _ => Ok(()),
+    }
+}
 
-    /// Adds a field that is the uppermost one of so many bits, and gives how many are left below it.
-    #[cycle(values)]
-    fn field(
-        &mut self,
-        field: &'a Field,
-        low: u32,
-        bits: u32,
-        depth: u32,
-    ) -> Result<u32, OutOfMemory> {
-        let width = counted_width(&self.typed.enums, &self.typed.structs, &field.ty).unwrap_or(0);
-        let below = bits.saturating_sub(width);
-        self.value(
-            Value {
-                title: Title::plain(field.name.bytes()),
-                ty: Some(&field.ty),
-                low: low.saturating_add(below),
-                width,
-            },
-            depth,
-        )?;
-        Ok(below)
+/// Adds the fields of a value of a struct, in a scope of their own.
+#[cycle(values)]
+fn add_struct(
+    typed: &Typed,
+    value: Value,
+    number: u32,
+    depth: u32,
+    listing: &mut Listing,
+) -> Result<(), OutOfMemory> {
+    listing.open(Scope::Parts, value.title)?;
+    if let Some(definition) = typed.structs.get(number as usize) {
+        let fields = definition.fields.as_slice();
+        add_fields(typed, value, number, fields, depth, listing)?;
     }
+    listing.close()
+}
 
-    /// Adds the tag and the payload of a value of a Maybe, in a scope of their own.
-    #[cycle(values)]
-    fn maybe(&mut self, value: Value<'a>, payload: &'a Ty, depth: u32) -> Result<(), OutOfMemory> {
-        let below = value.width.saturating_sub(1);
-        self.open(Scope::Parts, value.title)?;
-        self.signal(Signal {
-            title: Title::plain(b"valid"),
-            low: value.low.saturating_add(below),
-            width: 1,
-            form: Form::Bits,
-        })?;
-        self.value(
-            Value {
-                title: Title::plain(b"value"),
-                ty: Some(payload),
-                low: value.low,
-                width: below,
-            },
-            depth,
-        )?;
-        self.close()
+/// Adds fields, the first of which has the uppermost bits.
+#[cycle(values)]
+fn add_fields(
+    typed: &Typed,
+    value: Value,
+    number: u32,
+    fields: &[Field],
+    depth: u32,
+    listing: &mut Listing,
+) -> Result<(), OutOfMemory> {
+    let mut bits = value.width;
+    let mut place = 0u32;
+    for field in fields {
+        let width = width_of(typed, &field.ty);
+        let own = upper(Title::Field(number, place), value.low, bits, width);
+        add_value(typed, own, &field.ty, depth, listing)?;
+        bits = bits.saturating_sub(width);
+        place = place.saturating_add(1);
     }
+    Ok(())
+}
 
-    /// Adds a word with the signals that show it.
-    pub(crate) fn word(
-        &mut self,
-        source: Source,
-        title: Title<'a>,
-        ty: Option<&'a Ty>,
-        width: u32,
-    ) -> Result<(), OutOfMemory> {
-        let start = self.entries.len();
-        self.value(
-            Value {
-                title,
-                ty,
-                low: 0,
-                width,
-            },
-            MOST_DEPTH,
-        )?;
-        self.slot(Slot {
-            source,
-            start,
-            end: self.entries.len(),
-            shown: Shown::Nothing,
-        })
-    }
+/// Adds the tag and the payload of a value of a Maybe, in a scope of their own.
+#[cycle(values)]
+fn add_maybe(
+    typed: &Typed,
+    value: Value,
+    payload: &Ty,
+    depth: u32,
+    listing: &mut Listing,
+) -> Result<(), OutOfMemory> {
+    let tag = upper(Title::Valid, value.low, value.width, 1);
+    let rest = Value {
+        title: Title::Value,
+        low: value.low,
+        width: value.width.saturating_sub(1),
+    };
+    listing.open(Scope::Parts, value.title)?;
+    listing.signal(tag.signal(Form::Bits))?;
+    add_value(typed, rest, payload, depth, listing)?;
+    listing.close()
+}
+
+/// Adds a word of a type.
+pub(crate) fn add_typed(
+    typed: &Typed,
+    source: Source,
+    title: Title,
+    ty: &Ty,
+    listing: &mut Listing,
+) -> Result<(), OutOfMemory> {
+    let start = listing.entries.len();
+    let value = Value {
+        title,
+        low: 0,
+        width: width_of(typed, ty),
+    };
+    add_value(typed, value, ty, MOST_DEPTH, listing)?;
+    listing.slot(source, start)
+}
+
+/// Adds a word of so many bits.
+pub(crate) fn add_bits(
+    source: Source,
+    title: Title,
+    width: u32,
+    listing: &mut Listing,
+) -> Result<(), OutOfMemory> {
+    let start = listing.entries.len();
+    let value = Value {
+        title,
+        low: 0,
+        width,
+    };
+    listing.signal(value.signal(Form::Bits))?;
+    listing.slot(source, start)
 }

@@ -3,7 +3,7 @@ use crate::stop::Stop;
 use bsv_flow::compile;
 use bsv_io::{Files, Sink};
 use bsv_page::Page;
-use bsv_waves::{Progress, waves};
+use bsv_waves::waves;
 use std::alloc::Global;
 use std::thread::Threads;
 
@@ -38,10 +38,10 @@ pub(crate) fn answer<R: Threads + Sync, F: Files, O: Sink + Drop, E: Sink>(
     files: &mut F,
     form: Form<'_>,
     page: &mut Page<O>,
-    progress: &mut Progress<'_, E>,
+    err: &mut E,
 ) -> Result<(), Stop> {
     match form {
-        Form::Waves(asked) => Ok(waves(rt, alloc, files, asked, page, progress)?),
+        Form::Waves(asked) => Ok(waves(rt, alloc, files, asked, page, err)?),
         Form::Graph(entry) => graph(rt, alloc, files, entry, page),
         Form::Why(entry) => why(rt, alloc, files, entry, page),
     }

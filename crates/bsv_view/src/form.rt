@@ -15,8 +15,8 @@ pub(crate) enum Form<'a> {
     Why(Entry<'a>),
 }
 
-/// A command line of the form `waves FILE TOP TRACE`.
-fn waves_of(words: &[String]) -> Option<Form<'_>> {
+/// A command line of the form `waves FILE TOP TRACE`, where it is watched or not.
+fn waves_of(words: &[String], is_watched: bool) -> Option<Form<'_>> {
     let [command, file, top, trace] = words else {
         return None;
     };
@@ -27,6 +27,7 @@ fn waves_of(words: &[String]) -> Option<Form<'_>> {
         file: file.as_str(),
         top: top.as_str(),
         trace: trace.as_str(),
+        is_watched,
     }))
 }
 
@@ -48,9 +49,9 @@ fn entry_of(words: &[String]) -> Option<Form<'_>> {
     None
 }
 
-/// The form that the words have, where they have one.
-pub(crate) fn form_of(words: &[String]) -> Option<Form<'_>> {
-    match waves_of(words) {
+/// The form that the words have, where they have one; a run is watched or not.
+pub(crate) fn form_of(words: &[String], is_watched: bool) -> Option<Form<'_>> {
+    match waves_of(words, is_watched) {
         Some(form) => Some(form),
         None => entry_of(words),
     }

@@ -5,7 +5,6 @@ use crate::status::Status;
 use crate::stop::Stop;
 use bsv_io::{Failed, Files, Sink};
 use bsv_page::Page;
-use bsv_waves::Progress;
 use std::alloc::Global;
 use std::thread::Threads;
 
@@ -25,8 +24,8 @@ fn status_of<O: Sink + Drop, E: Sink>(
 }
 
 /// Does all that the program does. `words` are those after the program's name, `files` are read, the output goes to
-/// the page, and a fault text of one line to `err`, with the number of clocks that are done before it where this is
-/// seen. The answer is the exit status.
+/// the page, and a fault text of one line to `err`, with the number of clocks that are done before it where that is
+/// watched. The answer is the exit status.
 pub fn view<R: Threads + Sync, F: Files, O: Sink + Drop, E: Sink>(
     rt: &R,
     alloc: Global,
@@ -34,12 +33,11 @@ pub fn view<R: Threads + Sync, F: Files, O: Sink + Drop, E: Sink>(
     files: &mut F,
     page: &mut Page<O>,
     err: &mut E,
-    is_seen: bool,
+    is_watched: bool,
 ) -> Status {
-    let Some(form) = form_of(words) else {
+    let Some(form) = form_of(words, is_watched) else {
         return tell_usage(err);
     };
-    let mut progress = Progress::new(err, is_seen);
-    let answer = answer(rt, alloc, files, form, page, &mut progress);
+    let answer = answer(rt, alloc, files, form, page, err);
     status_of(answer, page, err)
 }

@@ -14,5 +14,4 @@ mod run;
 mod whole;
 
 pub use fault::WavesFault;
-pub use progress::Progress;
 pub use whole::{Asked, waves};

@@ -31,7 +31,7 @@ fn view_really<R: Files + AllocGlobal + Threads + Sync>(
     out: Stdout,
     err: Stderr,
 ) -> Status {
-    let is_seen = err.is_terminal();
+    let is_watched = err.is_terminal();
     let mut files = DiskFiles::new(rt);
     let mut page = Page::new(StdSink::new(out));
     let mut err = StdSink::new(err);
@@ -42,7 +42,7 @@ fn view_really<R: Files + AllocGlobal + Threads + Sync>(
         &mut files,
         &mut page,
         &mut err,
-        is_seen,
+        is_watched,
     )
 }
 
