@@ -24,7 +24,7 @@ fn bits_of(number: u128, low: u32, width: u32) -> u128 {
 
 impl Part {
     /// What a signal shows of a word.
-    pub(crate) fn of(shown: Shown, signal: Signal) -> Part {
+    pub(crate) fn of(shown: &Shown, signal: Signal) -> Part {
         match shown {
             Shown::Nothing => Part::Nothing,
             Shown::NoWord => Part::NoWord,

@@ -108,8 +108,8 @@ fn put_signal<O: Sink + Drop>(
     tree: &Tree,
     entries: &[Entry],
     place: usize,
-    before: Shown,
-    after: Shown,
+    before: &Shown,
+    after: &Shown,
 ) {
     let Some(signal) = signal_at(entries, place) else {
         return;
@@ -126,11 +126,11 @@ fn put_word<O: Sink + Drop>(
     page: &mut Page<O>,
     tree: &Tree,
     entries: &[Entry],
-    slot: Slot,
-    after: Shown,
+    slot: &Slot,
+    after: &Shown,
 ) {
     for place in slot.start..slot.end {
-        put_signal(page, tree, entries, place, slot.shown, after);
+        put_signal(page, tree, entries, place, &slot.shown, after);
     }
 }
 
@@ -145,7 +145,7 @@ fn put_slot<O: Sink + Drop>(
 ) {
     if slot.shown != after {
         time.put(page);
-        put_word(page, tree, entries, *slot, after);
+        put_word(page, tree, entries, slot, &after);
         slot.shown = after;
     }
 }
