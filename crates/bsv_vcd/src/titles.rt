@@ -64,34 +64,46 @@ fn field_name(tree: &Tree, number: u32, field: u32) -> Option<&Name> {
     Some(&definition.fields.get(field as usize)?.name)
 }
 
-/// Puts what is in a name after its last dot.
-fn put_name<O: Sink + Drop>(page: &mut Page<O>, name: Option<&Name>) {
-    if let Some(name) = name {
-        page.text(last_name(name.bytes()));
+/// The name in the text that a title is, where it is one.
+fn name_of(tree: &Tree, title: Title) -> Option<&Name> {
+    match title {
+        Title::Top(module) => module_name(tree, module),
+        Title::Instance(place) => path_of(tree, place),
+        Title::Rule(instance, rule) => rule_name(tree, instance, rule),
+        Title::Method(module, method) => method_name(tree, module, method),
+        Title::Argument(module, method, argument) => argument_name(tree, module, method, argument),
+        Title::Field(number, field) => field_name(tree, number, field),
+        _ => None,
+    }
+}
+
+/// The word that a title is, where it is no name in the text.
+fn word_of(title: Title) -> &'static [u8] {
+    match title {
+        Title::Fired => b"fired",
+        Title::Stopped => b"stopped",
+        Title::Blocked => b"blocked",
+        Title::Result => b"result",
+        Title::Count => b"count",
+        Title::Item(_) => b"item_",
+        Title::Valid => b"valid",
+        Title::Value => b"value",
+        _ => b"",
+    }
+}
+
+/// The name or the word of a title: of a path what is after its last dot.
+fn text_of(tree: &Tree, title: Title) -> &[u8] {
+    match name_of(tree, title) {
+        Some(name) => last_name(name.bytes()),
+        None => word_of(title),
     }
 }
 
 /// Puts the name of a signal or a scope.
 pub(crate) fn put_title<O: Sink + Drop>(page: &mut Page<O>, tree: &Tree, title: Title) {
-    match title {
-        Title::Top(module) => put_name(page, module_name(tree, module)),
-        Title::Instance(place) => put_name(page, path_of(tree, place)),
-        Title::Rule(instance, rule) => put_name(page, rule_name(tree, instance, rule)),
-        Title::Method(module, method) => put_name(page, method_name(tree, module, method)),
-        Title::Argument(module, method, argument) => {
-            put_name(page, argument_name(tree, module, method, argument));
-        }
-        Title::Field(number, field) => put_name(page, field_name(tree, number, field)),
-        Title::Fired => page.text(b"fired"),
-        Title::Stopped => page.text(b"stopped"),
-        Title::Blocked => page.text(b"blocked"),
-        Title::Result => page.text(b"result"),
-        Title::Count => page.text(b"count"),
-        Title::Item(number) => {
-            page.text(b"item_");
-            page.number(u64::from(number));
-        }
-        Title::Valid => page.text(b"valid"),
-        Title::Value => page.text(b"value"),
+    page.text(text_of(tree, title));
+    if let Title::Item(number) = title {
+        page.number(u64::from(number));
     }
 }
