@@ -52,12 +52,7 @@ fn put_bounds<O: Sink + Drop>(page: &mut Page<O>, width: u32) {
 }
 
 /// Puts the declaration of bits.
-fn put_bits_line<O: Sink + Drop>(
-    page: &mut Page<O>,
-    tree: &Tree,
-    place: usize,
-    signal: Signal,
-) {
+fn put_bits_line<O: Sink + Drop>(page: &mut Page<O>, tree: &Tree, place: usize, signal: Signal) {
     page.text(b"$var wire ");
     page.number(u64::from(signal.width));
     page.text(b" ");
