@@ -1,0 +1,101 @@
+use bsv_bits::{Name, OutOfMemory};
+use bsv_flow::{CompileFault, Refusal};
+use bsv_io::{Files, Sink};
+use bsv_marks::{PlaceFault, Source, put_place, read_source};
+use bsv_page::Page;
+use std::alloc::Global;
+
+/// A fault at a place: what it is, the file, the line and the column.
+#[derive(Clone, Copy)]
+pub(crate) struct Placed<'a> {
+    fault: PlaceFault,
+    file: &'a Name,
+    line: u64,
+    column: u64,
+}
+
+fn placed(fault: PlaceFault, file: &Name, line: u64, column: u64) -> Option<Placed<'_>> {
+    Some(Placed {
+        fault,
+        file,
+        line,
+        column,
+    })
+}
+
+/// The place of a refusal of the text, if it is one.
+fn of_text(refusal: &Refusal) -> Option<Placed<'_>> {
+    match refusal {
+        Refusal::BadByte(file, line, column) => placed(PlaceFault::BadByte, file, *line, *column),
+        Refusal::OpenComment(file, line, column) => {
+            placed(PlaceFault::OpenComment, file, *line, *column)
+        }
+        Refusal::BadLiteral(file, line, column) => {
+            placed(PlaceFault::BadLiteral, file, *line, *column)
+        }
+        Refusal::TooLong(file, line, column) => placed(PlaceFault::TooLong, file, *line, *column),
+        Refusal::Syntax(file, line, column) => placed(PlaceFault::Syntax, file, *line, *column),
+        Refusal::TooDeep(file, line, column) => placed(PlaceFault::TooDeep, file, *line, *column),
+        _ => None,
+    }
+}
+
+/// The place of a refusal of names and types, if it is one.
+fn of_types(refusal: &Refusal) -> Option<Placed<'_>> {
+    match refusal {
+        Refusal::UnknownName(file, line, column) => {
+            placed(PlaceFault::UnknownName, file, *line, *column)
+        }
+        Refusal::TwiceDefined(file, line, column) => {
+            placed(PlaceFault::TwiceDefined, file, *line, *column)
+        }
+        Refusal::TypeFault(file, line, column) => {
+            placed(PlaceFault::TypeFault, file, *line, *column)
+        }
+        Refusal::WidthFault(file, line, column) => {
+            placed(PlaceFault::WidthFault, file, *line, *column)
+        }
+        Refusal::BadAttribute(file, line, column) => {
+            placed(PlaceFault::BadAttribute, file, *line, *column)
+        }
+        _ => None,
+    }
+}
+
+/// The place of a refusal, where it has one.
+pub(crate) fn place_of(refusal: &Refusal) -> Option<Placed<'_>> {
+    match of_text(refusal) {
+        Some(placed) => Some(placed),
+        None => of_types(refusal),
+    }
+}
+
+/// Tells of a place in a source.
+fn put_source<O: Sink + Drop>(
+    alloc: Global,
+    page: &mut Page<O>,
+    bytes: &[u8],
+    placed: Placed,
+) -> Result<(), OutOfMemory> {
+    let source = Source::new(alloc, placed.file.bytes(), bytes)?;
+    put_place(
+        page,
+        source.text(),
+        placed.fault,
+        placed.line,
+        placed.column,
+    );
+    Ok(())
+}
+
+/// Tells the cause of a refusal of 1 to 11.
+pub(crate) fn put_place_cause<F: Files, O: Sink + Drop>(
+    alloc: Global,
+    files: &mut F,
+    placed: Placed,
+    page: &mut Page<O>,
+) -> Result<(), CompileFault> {
+    let bytes = read_source(alloc, files, placed.file.bytes())?;
+    put_source(alloc, page, bytes.as_slice(), placed)?;
+    Ok(())
+}
