@@ -1,7 +1,7 @@
 use crate::lines::put_marked;
 use crate::makes::Make;
 use crate::modules::{ModulePlace, module_in};
-use crate::text::{Source, Text};
+use crate::text::{Source, Text, piece};
 use bsv_io::Sink;
 use bsv_lex::TokenKind;
 use bsv_page::Page;
@@ -12,7 +12,10 @@ const DEEPEST: usize = 70;
 /// A name without the number that tells it from others of its name, as `step` of `step_1`.
 fn base_of(name: &[u8]) -> &[u8] {
     let mut rest = name;
-    while let [front @ .., b'0'..=b'9'] = rest {
+    for _ in 0..name.len() {
+        let [front @ .., b'0'..=b'9'] = rest else {
+            break;
+        };
         rest = front;
     }
     match rest {
@@ -133,8 +136,7 @@ fn has_word(text: &[u8], name: &[u8]) -> bool {
         if front == name {
             return true;
         }
-        let (_, after) = rest.split_at(front.len());
-        rest = after;
+        rest = piece(rest, front.len(), rest.len());
     }
     false
 }

@@ -80,6 +80,39 @@ fn fit_within(text: Text, from: usize, to: usize, stands: [Stands; 3]) -> bool {
     false
 }
 
+/// Puts the first of the causes whose patterns fit, with the first token at the place. The answer is whether one did.
+pub(crate) fn put_first<O: Sink + Drop>(
+    page: &mut Page<O>,
+    text: Text,
+    at: usize,
+    table: &[Usual],
+) -> bool {
+    for usual in table {
+        if fit(text, at, usual.stands) {
+            put_cause(page, usual.cause);
+            return true;
+        }
+    }
+    false
+}
+
+/// Puts the first of the causes whose patterns fit somewhere from a place on, up to another place. The answer is whether
+/// one did.
+pub(crate) fn put_first_within<O: Sink + Drop>(
+    page: &mut Page<O>,
+    text: Text,
+    places: (usize, usize),
+    table: &[Usual],
+) -> bool {
+    for usual in table {
+        if fit_within(text, places.0, places.1, usual.stands) {
+            put_cause(page, usual.cause);
+            return true;
+        }
+    }
+    false
+}
+
 /// Puts the causes whose patterns fit somewhere from a place on, up to another place. The answer is whether one did.
 pub(crate) fn put_fitting_within<O: Sink + Drop>(
     page: &mut Page<O>,

@@ -1,4 +1,4 @@
-use crate::patterns::{Stands, Usual, put_cause, put_fitting, put_fitting_within};
+use crate::patterns::{Stands, Usual, put_cause, put_first, put_first_within, put_fitting_within};
 use crate::text::Text;
 use Stands::{Any, Lower, Number, Upper, Word};
 use bsv_io::Sink;
@@ -63,27 +63,31 @@ const BY_FRONT: [Usual; 13] = [
 const COMPUTED: &str =
     "an index is an Integer: for a bit that is computed write `(x >> k)[0]`, for a place of an array a loop that compares";
 
-/// The usual causes of a type fault, by what stands somewhere in a statement.
-const WITHIN: [Usual; 16] = [
+/// The usual causes of a type fault, by what stands somewhere in a statement: the first that fits is told.
+const WITHIN: [Usual; 19] = [
     Usual {
         stands: [Word("let"), Lower, Word("<-")],
         cause: "`<-` takes what an ActionValue method gives; of a value method write `=`",
     },
     Usual {
         stands: [Word("{"), Number, Word(",")],
-        cause: "a number in `{ }` needs a size, as `1'b0`",
+        cause: SIZE,
+    },
+    Usual {
+        stands: [Word(","), Number, Word(",")],
+        cause: SIZE,
     },
     Usual {
         stands: [Word(","), Number, Word("}")],
-        cause: "a number in `{ }` needs a size, as `1'b0`",
+        cause: SIZE,
+    },
+    Usual {
+        stands: [Word(")"), Lower, Word("[")],
+        cause: "an array has instances, as `Reg#(Bit#(8)) a[4];`, and no values",
     },
     Usual {
         stands: [Lower, Word("["), Lower],
         cause: COMPUTED,
-    },
-    Usual {
-        stands: [Lower, Word("["), Any],
-        cause: "a bit of an Int or a UInt is taken by `pack(u)[3]`, and one bit of a register is not written alone",
     },
     Usual {
         stands: [Word("!"), Lower, Any],
@@ -91,27 +95,27 @@ const WITHIN: [Usual; 16] = [
     },
     Usual {
         stands: [Lower, Word("&"), Any],
-        cause: "`&` is of words: join truths by `&&`",
+        cause: TRUTHS,
     },
     Usual {
         stands: [Number, Word("&"), Any],
-        cause: "`&` is of words: join truths by `&&`",
+        cause: TRUTHS,
     },
     Usual {
         stands: [Word("mkFIFO"), Word("("), Any],
         cause: "mkFIFO takes no argument: a depth is given to mkSizedFIFO",
     },
     Usual {
-        stands: [Word("<-"), Word("mkFIFO"), Any],
+        stands: [Word("<-"), Word("mkFIFO"), Word(";")],
         cause: "mkFIFO makes a FIFO, without notFull and notEmpty: mkFIFOF makes a FIFOF",
     },
     Usual {
         stands: [Word("."), Word("notFull"), Any],
-        cause: "a FIFO has no notFull and notEmpty: a FIFOF has",
+        cause: QUEUE,
     },
     Usual {
         stands: [Word("."), Word("notEmpty"), Any],
-        cause: "a FIFO has no notFull and notEmpty: a FIFOF has",
+        cause: QUEUE,
     },
     Usual {
         stands: [Word("enq"), Word("("), Word(")")],
@@ -129,21 +133,38 @@ const WITHIN: [Usual; 16] = [
         stands: [Number, Word("<<"), Any],
         cause: "a shift on the left of a comparison has no type: put it on the right",
     },
+    Usual {
+        stands: [Word("."), Lower, Word(";")],
+        cause: "a value method is no statement, and an ActionValue method is called by `let v <- p.m;` alone",
+    },
+    Usual {
+        stands: [Lower, Word("["), Number],
+        cause: "a bit of an Int or a UInt is taken by `pack(u)[3]`, and one bit of a register is not written alone",
+    },
 ];
 
+const SIZE: &str = "a number in `{ }` needs a size, as `1'b0`";
+
+const TRUTHS: &str = "`&` is of words: join truths by `&&`";
+
+const QUEUE: &str = "a FIFO has no notFull and notEmpty: a FIFOF has";
 /// The usual causes of a write and of a declaration of another type.
-const VALUES: [Usual; 3] = [
+const VALUES: [Usual; 4] = [
+    Usual {
+        stands: [Upper, Lower, Word("<-")],
+        cause: "the type lacks its argument, as `Reg#(Bool)`, or the maker makes another interface or takes other arguments",
+    },
+    Usual {
+        stands: [Word("<-"), Any, Any],
+        cause: "the maker makes another interface, or takes other arguments",
+    },
     Usual {
         stands: [Word("<="), Any, Any],
         cause: "both sides of `<=` have one type: zeroExtend or truncate another width, pack and unpack between Bit, UInt, Int, Bool and labels",
     },
     Usual {
         stands: [Word("="), Any, Any],
-        cause: "both sides of `=` have one type: zeroExtend or truncate another width, pack and unpack between Bit, UInt, Int, Bool and labels",
-    },
-    Usual {
-        stands: [Word("<-"), Any, Any],
-        cause: "the maker makes another interface, or takes other arguments",
+        cause: "both sides of `=` have one type, as of `<=`; and a variable of the module is not assigned in its rules",
     },
 ];
 
@@ -161,12 +182,12 @@ pub(crate) fn statement_end(text: Text, from: usize) -> usize {
 /// Puts the usual causes of a type fault in what begins at a token.
 pub(crate) fn put_type_fault<O: Sink + Drop>(page: &mut Page<O>, text: Text, at: usize) {
     let places = (at, statement_end(text, at));
-    let front = put_fitting(page, text, at, &BY_FRONT);
-    let within = put_fitting_within(page, text, places, &WITHIN);
-    if front || within {
+    let front = put_first(page, text, at, &BY_FRONT);
+    let within = put_first_within(page, text, places, &WITHIN);
+    if front {
         return;
     }
-    if !put_fitting_within(page, text, places, &VALUES) {
+    if !put_first_within(page, text, places, &VALUES) && !within {
         put_cause(
             page,
             "a call has another number of arguments, a value method is a statement, or an action is in an expression",
@@ -177,8 +198,8 @@ pub(crate) fn put_type_fault<O: Sink + Drop>(page: &mut Page<O>, text: Text, at:
 /// The usual causes of a fault of widths, by what stands somewhere in a statement.
 const WIDTHS: [Usual; 4] = [
     Usual {
-        stands: [Word("#"), Word("("), Number],
-        cause: "a width is 1 to 128",
+        stands: [Word("#"), Word("("), Word("0")],
+        cause: "a width is 1 or more",
     },
     Usual {
         stands: [Word("["), Number, Word(":")],

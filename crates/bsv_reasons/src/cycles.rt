@@ -13,7 +13,7 @@ use std::alloc::Global;
 fn put_step<O: Sink + Drop>(page: &mut Page<O>, facts: Facts, edges: Edges, a: u32, b: u32) {
     if let Some(edge) = facts.edge(edges, a, b) {
         put_before(page, facts, a, b);
-        put_edge(page, facts, edge, a, b);
+        put_edge(page, facts, edges, edge, a, b);
         page.text(b"\n");
     }
 }

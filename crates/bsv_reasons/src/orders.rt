@@ -16,7 +16,7 @@ fn put_pair<O: Sink + Drop>(
     match facts.edge(edges, a, b) {
         Some(edge) => {
             put_before(page, facts, a, b);
-            put_edge(page, facts, edge, a, b);
+            put_edge(page, facts, edges, edge, a, b);
             page.text(b"\n");
         }
         None => {

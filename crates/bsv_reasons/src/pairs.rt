@@ -1,6 +1,6 @@
 use crate::meeting::{Meeting, calls_of, relation_of, sees};
-use crate::names::{method_name, part_at, part_of, position_of};
-use crate::phrases::{put_deed, put_method, put_relation};
+use crate::names::{part_at, part_of, position_of};
+use crate::phrases::{put_deed, put_done, put_method, put_relation};
 use bsv_design::{Call, Design};
 use bsv_io::Sink;
 use bsv_page::Page;
@@ -94,8 +94,9 @@ pub fn put_two_calls<O: Sink + Drop>(
         return;
     };
     put_deed(page, design, element, part, first);
-    page.text(b", and then again it ");
-    page.texts(&[b"calls ", method_name(design, part, second), b".\n"]);
+    page.text(b" and ");
+    put_done(page, design, part, second);
+    page.text(b".\n");
     put_count(page, design, element, part, first);
     if first != second {
         put_count(page, design, element, part, second);

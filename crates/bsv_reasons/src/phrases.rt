@@ -1,4 +1,4 @@
-use crate::facts::{Edge, Facts};
+use crate::facts::{Edge, Edges, Facts};
 use crate::meeting::{Meeting, Question, meeting};
 use crate::names::{attribute_word, element_name, method_name, part_path};
 use bsv_design::Design;
@@ -45,6 +45,18 @@ pub(crate) fn put_method<O: Sink + Drop>(
     ]);
 }
 
+/// What a call does with its part, as `writes it (x._write)`.
+pub(crate) fn put_done<O: Sink + Drop>(
+    page: &mut Page<O>,
+    design: &Design,
+    part: u32,
+    method: u32,
+) {
+    page.texts(&[deed(method_name(design, part, method)), b" ("]);
+    put_method(page, design, part, method);
+    page.text(b")");
+}
+
 /// What an element does with a part, as `start writes it (x._write)`.
 pub(crate) fn put_deed<O: Sink + Drop>(
     page: &mut Page<O>,
@@ -53,10 +65,8 @@ pub(crate) fn put_deed<O: Sink + Drop>(
     part: u32,
     method: u32,
 ) {
-    let name = method_name(design, part, method);
-    page.texts(&[element_name(design, element), b" ", deed(name), b" ("]);
-    put_method(page, design, part, method);
-    page.text(b")");
+    page.texts(&[element_name(design, element), b" "]);
+    put_done(page, design, part, method);
 }
 
 /// What two elements do with the part on which their calls meet.
@@ -121,17 +131,20 @@ pub(crate) fn fed_through(facts: Facts, a: u32, b: u32) -> &[u8] {
     }
 }
 
-/// Why there is an edge from the first element to the second.
+/// Why there is an edge of these from the first element to the second.
 pub(crate) fn put_edge<O: Sink + Drop>(
     page: &mut Page<O>,
     facts: Facts,
+    edges: Edges,
     edge: Edge,
     a: u32,
     b: u32,
 ) {
     match edge {
         Edge::Feeds => {
-            page.text(b"hard, ");
+            if !matches!(edges, Edges::Urgency(_)) {
+                page.text(b"hard, ");
+            }
             put_feed(page, facts, a, b);
         }
         Edge::Value => {

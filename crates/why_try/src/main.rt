@@ -39,10 +39,10 @@ fn tell<R: Files + AllocGlobal + Threads + Sync>(
     file: &str,
     top: &str,
     refusal: &Refusal,
-    err: Stderr,
+    out: Stdout,
 ) -> u8 {
     let mut files = DiskFiles::new(rt);
-    let mut page = Page::new(StdSink::new(err));
+    let mut page = Page::new(StdSink::new(out));
     let told = cause(rt, rt.alloc(), &mut files, file, top, refusal, &mut page);
     if told.is_err() {
         page.text(b"the cause could not be told\n");
@@ -57,7 +57,7 @@ fn run<R: Files + AllocGlobal + Threads + Sync>(
     rt: &R,
     words: &[String],
     out: Stdout,
-    line: Stderr,
+    again: Stdout,
     err: Stderr,
 ) -> u8 {
     let [form, file, top] = words else {
@@ -72,11 +72,11 @@ fn run<R: Files + AllocGlobal + Threads + Sync>(
             0
         }
         Err(CompileFault::Refused(refusal)) => {
-            let mut sink = StdSink::new(line);
+            let mut sink = StdSink::new(err);
             if refusal.put(&mut sink).is_err() {
                 return 4;
             }
-            tell(rt, file.as_str(), top.as_str(), &refusal, err)
+            tell(rt, file.as_str(), top.as_str(), &refusal, again)
         }
         Err(CompileFault::ReadFault(_)) => 3,
         Err(CompileFault::OutOfMemory) => 5,
@@ -89,7 +89,7 @@ fn main(rt: HostRuntime) -> ExitCode {
         Err(_) => return ExitCode::from(9),
     };
     let thread = Builder::new().stack_size(STACK).spawn(&rt, move || {
-        run(&rt, words.as_slice(), rt.stdout(), rt.stderr(), rt.stderr())
+        run(&rt, words.as_slice(), rt.stdout(), rt.stdout(), rt.stderr())
     });
     let status = match thread {
         Ok(thread) => thread.join(&rt),
