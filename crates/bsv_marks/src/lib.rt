@@ -2,37 +2,30 @@
 //! make which.
 //!
 //! Modules in reading order: `text` (a source with its tokens), `reading` (the source of a file), `lines` (a line of a
-//! source with a mark under a place), `patterns` (what stands at a place), `syntax`, `typing` and `attributes` (the usual
-//! causes of a refusal by what stands at its place), `places` (what is told of a refusal with a place), `modules` (the
-//! text of a module), `makes` (which modules make which), `chains` (the modules from the top to one of them), `statics`
-//! (what in a module's text may not be static), `statements` (its statements, one by one), `names` (the rules, methods and
-//! instances of a name), `limits` (what is counted).
+//! source with a mark under a place), `tables` (usual causes by the tokens that stand somewhere), `usual` (these causes),
+//! `places` (what is told of a refusal with a place), `makes` (which modules make which, and the chain to one of them),
+//! `statements` (the statements of a module, one by one), `reads` (what the body of a module reads), `named` (where names
+//! are given and asked for).
 #![tactic(auto)]
 
-mod attributes;
-mod chains;
-mod limits;
 mod lines;
 mod makes;
-mod modules;
-mod names;
-mod patterns;
+mod named;
 mod places;
 mod reading;
+mod reads;
 mod statements;
-mod statics;
-mod syntax;
+mod tables;
 mod text;
-mod typing;
+mod usual;
 
-pub use chains::{put_chain, put_no_module, put_ring};
-pub use limits::put_limit;
 pub use lines::put_marked;
-pub use makes::{Make, makes_of};
-pub use modules::{ModulePlace, module_in};
-pub use names::{put_name_taken, put_no_rule};
-pub use places::{PlaceFault, put_place};
+pub use makes::{Make, makes_of, put_chain};
+pub use named::{put_limit, put_name_taken, put_no_module, put_no_rule};
+pub use places::put_place;
 pub use reading::read_source;
-pub use statements::{Extent, blanked, bodies_of, statements_of};
-pub use statics::{put_body_suspects, put_reads, put_suspects};
-pub use text::{Source, Text};
+pub use reads::put_reads;
+pub use statements::{ModulePlace, blanked, bodies_of, module_in, statements_of};
+pub use tables::put_suspects;
+pub use text::{Extent, Source, Text};
+pub use usual::{LOOPS, STATICS};

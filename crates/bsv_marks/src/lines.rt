@@ -13,42 +13,32 @@ pub(crate) fn byte_of(bytes: &[u8], line: u64, column: u64) -> usize {
         if at_line == line && at_column == column {
             return at;
         }
+        at_column = at_column.wrapping_add(1);
         if *byte == b'\n' {
             at_line = at_line.wrapping_add(1);
             at_column = 1;
-        } else {
-            at_column = at_column.wrapping_add(1);
         }
     }
     bytes.len()
 }
 
-/// The line of a byte, counted from 1.
-pub(crate) fn line_of(bytes: &[u8], at: usize) -> u64 {
+/// The line of a byte, counted from 1, and where it begins.
+pub(crate) fn line_of(bytes: &[u8], at: usize) -> (u64, usize) {
     let mut line = 1u64;
-    for byte in piece(bytes, 0, at) {
-        if *byte == b'\n' {
-            line = line.wrapping_add(1);
-        }
-    }
-    line
-}
-
-/// Where the line of a byte begins.
-fn line_start(bytes: &[u8], at: usize) -> usize {
     let mut start = 0;
     for (place, byte) in piece(bytes, 0, at).iter().enumerate() {
         if *byte == b'\n' {
+            line = line.wrapping_add(1);
             start = place.wrapping_add(1);
         }
     }
-    start
+    (line, start)
 }
 
-/// Where the line of a byte ends, without its line's end.
-fn line_end(bytes: &[u8], at: usize) -> usize {
+/// How many bytes come before the end of a line.
+fn line_len(bytes: &[u8]) -> usize {
     for (place, byte) in bytes.iter().enumerate() {
-        if place >= at && (*byte == b'\n' || *byte == b'\r') {
+        if *byte == b'\n' || *byte == b'\r' {
             return place;
         }
     }
@@ -69,13 +59,12 @@ fn put_under<O: Sink + Drop>(page: &mut Page<O>, text: &[u8]) {
 /// The line of a byte of a source, with its number, and a mark under the byte.
 pub fn put_marked<O: Sink + Drop>(page: &mut Page<O>, text: Text, at: usize) {
     let bytes = text.bytes;
-    let start = line_start(bytes, at).max(at.saturating_sub(SHOWN));
-    let end = line_end(bytes, at).min(at.saturating_add(SHOWN));
+    let (line, start) = line_of(bytes, at);
+    let front = piece(bytes, start.max(at.saturating_sub(SHOWN)), at);
+    let after = piece(bytes, at, at.saturating_add(SHOWN));
     page.texts(&[text.file, b", line "]);
-    page.number(line_of(bytes, at));
-    page.text(b":\n  ");
-    page.text(piece(bytes, start, end.max(at)));
-    page.text(b"\n  ");
-    put_under(page, piece(bytes, start, at));
+    page.number(line);
+    page.texts(&[b":\n  ", front, piece(after, 0, line_len(after)), b"\n  "]);
+    put_under(page, front);
     page.text(b"^\n");
 }

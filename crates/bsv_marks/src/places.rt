@@ -1,78 +1,104 @@
-use crate::attributes::{put_bad_attribute, put_twice, put_unknown};
 use crate::lines::{byte_of, put_marked};
-use crate::patterns::put_cause;
-use crate::syntax::{put_bad_byte, put_syntax};
-use crate::text::Text;
-use crate::typing::{put_type_fault, put_width_fault};
+use crate::tables::{cut, put_usual};
+use crate::text::{Extent, Text, piece};
+use crate::usual;
 use bsv_io::Sink;
 use bsv_page::Page;
 
-/// What is refused at a place.
-#[derive(Clone, Copy, Debug, PartialEq, Eq)]
-pub enum PlaceFault {
-    BadByte,
-    OpenComment,
-    BadLiteral,
-    TooLong,
-    Syntax,
-    TooDeep,
-    UnknownName,
-    TwiceDefined,
-    TypeFault,
-    WidthFault,
-    BadAttribute,
-}
-
-/// The causes of a fault in a token.
-fn put_in_token<O: Sink + Drop>(page: &mut Page<O>, text: Text, byte: usize, fault: PlaceFault) {
-    match fault {
-        PlaceFault::BadByte => match text.bytes.get(byte) {
-            Some(byte) => put_bad_byte(page, *byte),
-            None => {}
-        },
-        PlaceFault::OpenComment => put_cause(
-            page,
-            "the comment that begins here is not closed by `*/`; comments do not nest, and `/*/` does not close itself",
-        ),
-        PlaceFault::BadLiteral => put_cause(
-            page,
-            "a number is below 2^128, its size is 1 to 128 and its value fits the size, without x and z; a text is closed in its line",
-        ),
-        _ => put_cause(page, "a name and a number have at most 255 bytes"),
+/// The usual causes of a refusal of this number.
+fn table_of(number: u32) -> &'static [u8] {
+    match number {
+        1 => usual::BYTE,
+        2 => usual::COMMENT,
+        3 => usual::LITERAL,
+        4 => usual::LONG,
+        5 => usual::SYNTAX,
+        6 => usual::DEEP,
+        7 => usual::UNKNOWN,
+        8 => usual::TWICE,
+        9 => usual::TYPES,
+        10 => usual::WIDTHS,
+        _ => usual::ATTRIBUTES,
     }
 }
 
-/// The causes of a fault by what stands at the place.
-fn put_by_token<O: Sink + Drop>(page: &mut Page<O>, text: Text, at: usize, fault: PlaceFault) {
-    match fault {
-        PlaceFault::Syntax => put_syntax(page, text, at),
-        PlaceFault::TooDeep => put_cause(
-            page,
-            "it is the 65th bracket that is open at once (`begin` and `case` count): a variable or a function for the inner part, or a bracket that is not closed",
-        ),
-        PlaceFault::UnknownName => put_unknown(page, text, at),
-        PlaceFault::TwiceDefined => put_twice(page, text, at),
-        PlaceFault::TypeFault => put_type_fault(page, text, at),
-        PlaceFault::WidthFault => put_width_fault(page, text, at),
-        _ => put_bad_attribute(page, text, at),
+/// The tokens of the statement that begins at a byte, or at the next token, at most 200 of them.
+fn statement_at(text: Text, byte: usize) -> Extent {
+    let mut from = text.tokens.len();
+    for (at, token) in text.tokens.iter().enumerate() {
+        if token.start as usize >= byte {
+            from = at;
+            break;
+        }
+    }
+    let to = from.saturating_add(200).min(text.tokens.len());
+    Extent {
+        from,
+        to: text.find(Extent { from, to }, b";"),
     }
 }
 
-/// Puts the line of a place with a mark under it, and the usual causes of its fault.
+/// Puts what is usual of a byte that begins no token. The answer is whether there is something.
+fn put_byte<O: Sink + Drop>(page: &mut Page<O>, byte: &[u8]) -> bool {
+    let mut rest = usual::BYTES;
+    for _ in 0..usual::BYTES.len() {
+        let (line, after) = cut(rest, b'\n');
+        let (other, cause) = cut(line, b'|');
+        if other == byte {
+            page.texts(&[b"- ", cause, b"\n"]);
+            return true;
+        }
+        rest = after;
+    }
+    false
+}
+
+/// The name that is defined from a place on: that in front of one of these, outside of brackets.
+fn defined_at(text: Text, extent: Extent) -> usize {
+    let mut depth = 0i64;
+    for at in extent.from..extent.to {
+        match text.word(at) {
+            b"(" | b"(*" => depth = depth.wrapping_add(1),
+            b")" | b"*)" => depth = depth.wrapping_sub(1),
+            _ => {}
+        }
+        let after = text.word(at.wrapping_add(1));
+        let is_name = matches!(text.class(at), b"NAME" | b"TYPE");
+        let ends = matches!(after, b"<-" | b"=" | b";" | b"," | b"}" | b"(" | b"[");
+        if depth == 0 && is_name && ends {
+            return at;
+        }
+    }
+    extent.to.wrapping_sub(1)
+}
+
+/// Puts where a name that is defined again stands first.
+fn put_first<O: Sink + Drop>(page: &mut Page<O>, text: Text, extent: Extent) {
+    let at = defined_at(text, extent);
+    let name = text.word(at);
+    let first = text.find(Extent { from: 0, to: at }, name);
+    if first < at {
+        page.texts(&[b"The name ", name, b" stands in front of it already:\n"]);
+        put_marked(page, text, text.start(first));
+    }
+}
+
+/// Puts the line of a place with a mark under it, and the usual causes of the refusal of this number, 1 to 11.
 pub fn put_place<O: Sink + Drop>(
     page: &mut Page<O>,
     text: Text,
-    fault: PlaceFault,
+    number: u32,
     line: u64,
     column: u64,
 ) {
     let byte = byte_of(text.bytes, line, column);
+    let extent = statement_at(text, byte);
     put_marked(page, text, byte);
-    match fault {
-        PlaceFault::BadByte
-        | PlaceFault::OpenComment
-        | PlaceFault::BadLiteral
-        | PlaceFault::TooLong => put_in_token(page, text, byte, fault),
-        _ => put_by_token(page, text, text.token_at(byte), fault),
+    if number == 1 && put_byte(page, piece(text.bytes, byte, byte.saturating_add(1))) {
+        return;
     }
+    if number == 8 {
+        put_first(page, text, extent);
+    }
+    put_usual(page, text, extent, table_of(number));
 }

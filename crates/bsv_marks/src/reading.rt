@@ -1,4 +1,4 @@
-ghost use Rattle.std.specs.Prelude.{◌<◌, length, IsSome, OnOk, IfOk, ◌≤◌};
+ghost use Rattle.std.specs.Prelude.{◌≡◌, ◌<◌, length, IsSome};
 
 use bsv_bits::{Name, OutOfMemory};
 use bsv_io::{Failed, Files};
@@ -33,7 +33,7 @@ fn read_current<F: Files>(alloc: Global, files: &mut F) -> Result<Vec<u8>, Alloc
 {
     let mut buffer = [0u8; 4096];
     let mut source = Vec::new(alloc);
-    for _ in 0..MAX_PIECES {
+    for _turn in 0..MAX_PIECES {
         if read_more(files, &mut source, &mut buffer)? == 0 {
             return Ok(source);
         }

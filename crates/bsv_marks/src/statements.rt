@@ -1,13 +1,40 @@
-use crate::modules::ModulePlace;
-use crate::text::Text;
+use crate::text::{Extent, Source, Text};
 use bsv_bits::OutOfMemory;
 use std::alloc::Global;
 
-/// Some tokens of a source: those from a place on, up to and without another.
+/// Where a module stands: the number of its source, the source, and its tokens from its name to its end.
 #[derive(Clone, Copy)]
-pub struct Extent {
-    pub from: usize,
-    pub to: usize,
+pub struct ModulePlace<'a> {
+    pub number: usize,
+    pub text: Text<'a>,
+    pub extent: Extent,
+}
+
+/// The tokens of the module of a name, from its name on.
+fn module_at(text: Text, name: &[u8]) -> Option<Extent> {
+    for at in 1..text.tokens.len() {
+        if text.is(at, name) && text.is(at.wrapping_sub(1), b"module") {
+            let to = text.tokens.len();
+            let to = text.find(Extent { from: at, to }, b"endmodule");
+            return Some(Extent { from: at, to });
+        }
+    }
+    None
+}
+
+/// Where the module of a name stands.
+pub fn module_in<'a>(sources: &'a [Source<'_>], name: &[u8]) -> Option<ModulePlace<'a>> {
+    for (number, source) in sources.iter().enumerate() {
+        let text = source.text();
+        if let Some(extent) = module_at(text, name) {
+            return Some(ModulePlace {
+                number,
+                text,
+                extent,
+            });
+        }
+    }
+    None
 }
 
 /// What a token adds to how deep what comes after it is.
@@ -19,64 +46,44 @@ fn deeper(word: &[u8]) -> i64 {
     }
 }
 
-/// The place after the head of a rule or a method, where statements come after it; none where a value does.
-fn body_start(text: Text, from: usize, to: usize) -> Option<usize> {
+/// The first token with the end of a head after it, a `;` or a `=` outside of brackets.
+fn head_end(text: Text, extent: Extent) -> usize {
     let mut depth = 0i64;
-    for at in from..to {
-        let word = text.word(at);
-        depth = depth.wrapping_add(deeper(word));
-        if depth == 0 && word == b"=".as_slice() {
-            return None;
-        }
-        if depth == 0 && word == b";".as_slice() {
-            return Some(at.wrapping_add(1));
-        }
-    }
-    None
-}
-
-/// The first place from one on that has the word.
-pub(crate) fn place_of(text: Text, from: usize, to: usize, word: &[u8]) -> usize {
-    for at in from..to {
-        if text.is(at, word) {
+    for at in extent.from..extent.to {
+        depth = depth.wrapping_add(deeper(text.word(at)));
+        if depth == 0 && matches!(text.word(at), b";" | b"=") {
             return at;
         }
     }
-    to
+    extent.to
 }
 
-/// The statements of the rule or the method that begins at a place.
+/// The statements of the rule or the method that begins at a place, if one does; of a method with a value what comes up to
+/// its `;`.
 pub(crate) fn body_at(text: Text, at: usize, to: usize) -> Option<Extent> {
     let end: &[u8] = match text.word(at) {
         b"rule" => b"endrule",
         b"method" => b"endmethod",
         _ => return None,
     };
-    let from = body_start(text, at, to)?;
+    let head = head_end(text, Extent { from: at, to });
+    let from = head.wrapping_add(1);
+    let end: &[u8] = if text.is(head, b"=") { b";" } else { end };
     Some(Extent {
         from,
-        to: place_of(text, from, to, end),
+        to: text.find(Extent { from, to }, end),
     })
 }
 
 /// The statements of each rule and method of a module, in the order of the text.
-pub fn bodies_of(
-    alloc: Global,
-    text: Text,
-    module: ModulePlace,
-) -> Result<Vec<Extent>, OutOfMemory> {
+pub fn bodies_of(alloc: Global, place: ModulePlace) -> Result<Vec<Extent>, OutOfMemory> {
     let mut bodies = Vec::new(alloc);
-    for at in module.name..module.end {
-        if let Some(body) = body_at(text, at, module.end) {
+    for at in place.extent.from..place.extent.to {
+        if let Some(body) = body_at(place.text, at, place.extent.to) {
             bodies.push(body)?;
         }
     }
     Ok(bodies)
-}
-
-/// Whether a statement ends with this token, where nothing is open after it.
-fn ends(text: Text, at: usize) -> bool {
-    matches!(text.word(at), b";" | b"end" | b"endcase") && !text.is(at.wrapping_add(1), b"else")
 }
 
 /// The statements of a body, one by one.
@@ -85,9 +92,10 @@ pub fn statements_of(alloc: Global, text: Text, body: Extent) -> Result<Vec<Exte
     let mut depth = 0i64;
     let mut from = body.from;
     for at in body.from..body.to {
-        depth = depth.wrapping_add(deeper(text.word(at)));
-        if depth == 0 && ends(text, at) {
-            let to = at.wrapping_add(1);
+        let to = at.wrapping_add(1);
+        let word = text.word(at);
+        depth = depth.wrapping_add(deeper(word));
+        if depth == 0 && matches!(word, b";" | b"end" | b"endcase") && !text.is(to, b"else") {
             statements.push(Extent { from, to })?;
             from = to;
         }

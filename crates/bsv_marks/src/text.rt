@@ -14,6 +14,13 @@ pub struct Text<'a> {
     pub tokens: &'a [Token],
 }
 
+/// Some tokens of a source: those from a place on, up to and without another.
+#[derive(Clone, Copy)]
+pub struct Extent {
+    pub from: usize,
+    pub to: usize,
+}
+
 /// A source whose tokens are kept.
 #[derive(Drop)]
 pub struct Source<'a> {
@@ -71,17 +78,22 @@ impl<'a> Text<'a> {
         self.word(at) == word
     }
 
-    /// What the token at a place is; nothing where there is none.
-    pub fn kind(self, at: usize) -> Option<TokenKind> {
-        match self.tokens.get(at) {
-            Some(token) => Some(token.kind),
-            None => None,
+    /// What the token at a place is, in the words of the tables of usual causes.
+    pub(crate) fn class(self, at: usize) -> &'static [u8] {
+        let Some(token) = self.tokens.get(at) else {
+            return b"NOTHING";
+        };
+        match token.kind {
+            TokenKind::Lower => b"NAME",
+            TokenKind::Upper => b"TYPE",
+            TokenKind::Number => b"NUMBER",
+            TokenKind::Text => b"TEXT",
+            TokenKind::Symbol => b"SYMBOL",
+            TokenKind::Keyword => match terminal_of(token.kind, self.word(at)) {
+                Terminal::Reserved => b"RESERVED",
+                _ => b"KEYWORD",
+            },
         }
-    }
-
-    /// What the token at a place is to the grammar.
-    pub fn terminal(self, at: usize) -> Option<Terminal> {
-        Some(terminal_of(self.kind(at)?, self.word(at)))
     }
 
     /// The byte at which the token at a place begins; the end of the source where there is none.
@@ -92,13 +104,21 @@ impl<'a> Text<'a> {
         }
     }
 
-    /// The place of the first token that begins at this byte or after it.
-    pub fn token_at(self, byte: usize) -> usize {
-        for (at, token) in self.tokens.iter().enumerate() {
-            if token.start as usize >= byte {
+    /// All tokens.
+    pub fn whole(self) -> Extent {
+        Extent {
+            from: 0,
+            to: self.tokens.len(),
+        }
+    }
+
+    /// The first place among some tokens that has the word; the end of them where none has.
+    pub(crate) fn find(self, extent: Extent, word: &[u8]) -> usize {
+        for at in extent.from..extent.to {
+            if self.word(at) == word {
                 return at;
             }
         }
-        self.tokens.len()
+        extent.to
     }
 }

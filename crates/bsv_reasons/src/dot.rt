@@ -80,7 +80,7 @@ fn put_elements<O: Sink + Drop>(page: &mut Page<O>, facts: Facts, schedule: &Sch
     }
 }
 
-/// A stop, labelled by the two calls that clash.
+/// A stop, labelled by the two calls that clash, that of the stopper first.
 fn put_stop<O: Sink + Drop>(
     page: &mut Page<O>,
     facts: Facts,
@@ -92,14 +92,19 @@ fn put_stop<O: Sink + Drop>(
         page,
         stopper,
         stopped,
-        b"color=red, fontcolor=red, constraint=false, label=\"",
+        b"color=red, fontcolor=red, constraint=false, label=\" ",
     );
     let (earlier, later) = in_order(execution, stopper, stopped);
     match meeting(facts.design, Question::Clashes, earlier, later) {
         Some(found) => {
-            put_method(page, facts.design, found.part, found.first);
+            let (first, second) = if earlier == stopper {
+                (found.first, found.second)
+            } else {
+                (found.second, found.first)
+            };
+            put_method(page, facts.design, found.part, first);
             page.text(b", ");
-            put_method(page, facts.design, found.part, found.second);
+            put_method(page, facts.design, found.part, second);
         }
         None => page.text(b"preempts"),
     }
@@ -147,7 +152,7 @@ fn put_origin<O: Sink + Drop>(page: &mut Page<O>, facts: Facts, edge: Edge, a: u
 
 /// The arrows of the urgency order from one element to another.
 fn put_urgent<O: Sink + Drop>(page: &mut Page<O>, facts: Facts, next: bool, a: u32, b: u32) {
-    let form = b"color=blue, fontcolor=blue, constraint=false, label=\"";
+    let form = b"color=blue, fontcolor=blue, constraint=false, label=\" ";
     match facts.edge(Edges::Urgency(usize::MAX), a, b) {
         Some(edge) => {
             put_arrow(page, a, b, form);

@@ -1,8 +1,10 @@
 use crate::facts::Facts;
+use crate::meeting::{Question, meeting};
 use crate::names::element_name;
 use crate::phrases::put_clash;
 use bsv_io::Sink;
 use bsv_page::Page;
+use bsv_prim::Rel;
 use sqlite_items::Items;
 
 /// The earlier and the later of two elements in the order.
@@ -18,14 +20,20 @@ pub(crate) fn in_order(order: &[u32], a: u32, b: u32) -> (u32, u32) {
     (a, b)
 }
 
+/// Whether the calls of two elements conflict, whichever comes first.
+fn conflict(facts: Facts, a: u32, b: u32) -> bool {
+    match meeting(facts.design, Question::Clashes, a, b) {
+        Some(found) => matches!(found.relation, Rel::C),
+        None => false,
+    }
+}
+
 /// Why the earlier of two elements and the later one are not to fire in one clock.
-pub(crate) fn put_no_pair<O: Sink + Drop>(
-    page: &mut Page<O>,
-    facts: Facts,
-    earlier: u32,
-    later: u32,
-) {
+fn put_no_pair<O: Sink + Drop>(page: &mut Page<O>, facts: Facts, earlier: u32, later: u32) {
     put_clash(page, facts, earlier, later);
+    if conflict(facts, earlier, later) {
+        return;
+    }
     page.texts(&[
         b"; ",
         element_name(facts.design, earlier),

@@ -28,45 +28,56 @@ fn sources_of(alloc: Global, loaded: &Loaded) -> Result<Vec<Source<'_>>, OutOfMe
 struct Hand<'a> {
     loaded: &'a Loaded,
     sources: &'a [Source<'a>],
-    makes: &'a [Make],
+    makes: &'a [Make<'a>],
     file: &'a str,
     top: &'a str,
 }
 
-impl<'a> Hand<'a> {
-    /// The module of a name, as it is looked at for the cause of a refusal.
-    fn ground(self, place: ModulePlace, refusal: &'a Refusal) -> Option<Ground<'a>> {
-        Some(Ground {
-            loaded: self.loaded,
-            file: self.file,
-            top: self.top,
-            text: self.sources.get(place.source)?.text(),
-            place,
-            refusal,
-        })
-    }
+/// Tells what some tokens may have to do with the refusal.
+fn put_extent<O: Sink + Drop>(page: &mut Page<O>, ground: Ground, extent: Extent) {
+    let table = match ground.refusal {
+        Refusal::Loop(_) => LOOPS,
+        _ => STATICS,
+    };
+    put_suspects(page, ground.place.text, extent, table);
 }
 
 /// Tells where in a module the cause is.
 fn put_statement<O: Sink + Drop>(
     alloc: Global,
     page: &mut Page<O>,
-    hand: Hand,
+    makes: &[Make],
     ground: Ground,
 ) -> Result<(), OutOfMemory> {
-    let text = ground.text;
+    let place = ground.place;
     if let Some(extent) = narrowed(alloc, ground)? {
-        page.text(b"Without this statement, and those after it, it is not refused so:\n");
-        put_marked(page, text, text.start(extent.from));
-        page.text(b"What in it has to be static:\n");
-        put_suspects(page, text, extent);
+        page.text(b"The cause is in what begins here:\n");
+        put_marked(page, place.text, place.text.start(extent.from));
+        put_extent(page, ground, extent);
         return Ok(());
     }
-    if !put_reads(page, text, hand.makes, ground.place) {
-        page.text(b"It is in no rule alone. What in the module has to be static:\n");
-        put_body_suspects(page, text, ground.place);
+    let is_static = matches!(ground.refusal, Refusal::StaticFault(_));
+    if !is_static || !put_reads(page, place, makes) {
+        page.text(
+            b"The cause is in the body of the module, in a condition, or in a method that gives a value:\n",
+        );
+        put_extent(page, ground, place.extent);
     }
     Ok(())
+}
+
+/// Puts the way from the top to a module.
+fn put_way<O: Sink + Drop>(
+    alloc: Global,
+    page: &mut Page<O>,
+    hand: Hand,
+    module: &[u8],
+) -> Result<(), OutOfMemory> {
+    if hand.top.as_bytes() == module {
+        page.texts(&[module, b" is the top.\n"]);
+        return Ok(());
+    }
+    put_chain(alloc, page, hand.makes, hand.top.as_bytes(), module)
 }
 
 /// Tells of a module in whose text something is refused.
@@ -77,21 +88,33 @@ fn put_in_module<O: Sink + Drop>(
     module: &[u8],
     refusal: &Refusal,
 ) -> Result<(), OutOfMemory> {
-    put_chain(
-        alloc,
-        page,
-        hand.sources,
-        hand.makes,
-        hand.top.as_bytes(),
-        module,
-    )?;
+    put_way(alloc, page, hand, module)?;
     let Some(place) = module_in(hand.sources, module) else {
         return Ok(());
     };
-    match hand.ground(place, refusal) {
-        Some(ground) => put_statement(alloc, page, hand, ground),
-        None => Ok(()),
-    }
+    let ground = Ground {
+        loaded: hand.loaded,
+        file: hand.file,
+        top: hand.top,
+        place,
+        refusal,
+    };
+    put_statement(alloc, page, hand.makes, ground)
+}
+
+/// Tells of a module that is made inside itself.
+fn put_ring<O: Sink + Drop>(
+    alloc: Global,
+    page: &mut Page<O>,
+    hand: Hand,
+    module: &[u8],
+) -> Result<(), OutOfMemory> {
+    put_way(alloc, page, hand, module)?;
+    put_chain(alloc, page, hand.makes, module, module)?;
+    page.text(
+        b"- a loop over an array makes as many instances; an `if` that ends it does not help\n",
+    );
+    Ok(())
 }
 
 /// Tells of a refusal of building.
@@ -101,18 +124,13 @@ fn put_refused<O: Sink + Drop>(
     hand: Hand,
     refusal: &Refusal,
 ) -> Result<(), OutOfMemory> {
-    let top = hand.top.as_bytes();
     match refusal {
-        Refusal::NoSuchModule(_) => put_no_module(page, hand.sources, top),
         Refusal::StaticFault(name) | Refusal::Loop(name) => {
             return put_in_module(alloc, page, hand, name.bytes(), refusal);
         }
-        Refusal::Recursion(name) => {
-            return put_ring(alloc, page, hand.sources, hand.makes, top, name.bytes());
-        }
-        Refusal::NameTaken(path) => {
-            put_name_taken(page, hand.sources, hand.makes, top, path.bytes())
-        }
+        Refusal::Recursion(name) => return put_ring(alloc, page, hand, name.bytes()),
+        Refusal::NoSuchModule(_) => put_no_module(page, hand.sources, hand.top.as_bytes()),
+        Refusal::NameTaken(path) => put_name_taken(page, hand.sources, path.bytes()),
         Refusal::Limit(kind, _) => put_limit(page, hand.sources, kind.bytes()),
         Refusal::NoSuchRule(word, name) => {
             put_no_rule(page, hand.sources, word.bytes(), name.bytes())

@@ -1,7 +1,7 @@
 use bsv_bits::{Name, OutOfMemory};
 use bsv_flow::{CompileFault, Loaded, Refusal, load, tree, typed};
 use bsv_io::SureFiles;
-use bsv_marks::{Extent, ModulePlace, Text, blanked, bodies_of, statements_of};
+use bsv_marks::{Extent, ModulePlace, blanked, bodies_of, statements_of};
 use std::alloc::Global;
 
 /// How many bodies of a module are tried at most, and how many statements of a body.
@@ -13,8 +13,7 @@ pub(crate) struct Ground<'a> {
     pub loaded: &'a Loaded,
     pub file: &'a str,
     pub top: &'a str,
-    pub text: Text<'a>,
-    pub place: ModulePlace,
+    pub place: ModulePlace<'a>,
     pub refusal: &'a Refusal,
 }
 
@@ -71,7 +70,7 @@ fn copied(
 fn files_with(alloc: Global, ground: Ground, bytes: &[u8]) -> Result<SureFiles, OutOfMemory> {
     let mut files = Vec::new(alloc);
     for (number, name) in ground.loaded.files.as_slice().iter().enumerate() {
-        let changed = if number == ground.place.source {
+        let changed = if number == ground.place.number {
             Some(bytes)
         } else {
             None
@@ -95,7 +94,7 @@ fn answer_without(
     ground: Ground,
     extents: &[Extent],
 ) -> Result<Answer, OutOfMemory> {
-    let bytes = blanked(alloc, ground.text, extents)?;
+    let bytes = blanked(alloc, ground.place.text, extents)?;
     let mut files = files_with(alloc, ground, bytes.as_slice())?;
     match build(alloc, &mut files, ground.file, ground.top) {
         Ok(()) => Ok(Answer::Other),
@@ -159,7 +158,7 @@ fn statement_of(
 /// The statement in which the cause of the refusal is, or else the body, where either can be told: what is left out is
 /// built again.
 pub(crate) fn narrowed(alloc: Global, ground: Ground) -> Result<Option<Extent>, OutOfMemory> {
-    let bodies = bodies_of(alloc, ground.text, ground.place)?;
+    let bodies = bodies_of(alloc, ground.place)?;
     let mut left_out = Vec::new(alloc);
     if bodies.len() > MOST {
         return Ok(None);
@@ -167,7 +166,7 @@ pub(crate) fn narrowed(alloc: Global, ground: Ground) -> Result<Option<Extent>, 
     let Some(body) = body_of(alloc, ground, bodies.as_slice(), &mut left_out)? else {
         return Ok(None);
     };
-    let statements = statements_of(alloc, ground.text, body)?;
+    let statements = statements_of(alloc, ground.place.text, body)?;
     if statements.len() > MOST {
         return Ok(Some(body));
     }

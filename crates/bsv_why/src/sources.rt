@@ -1,22 +1,22 @@
 use bsv_bits::{Name, OutOfMemory};
 use bsv_flow::{CompileFault, Refusal};
 use bsv_io::{Files, Sink};
-use bsv_marks::{PlaceFault, Source, put_place, read_source};
+use bsv_marks::{Source, put_place, read_source};
 use bsv_page::Page;
 use std::alloc::Global;
 
-/// A fault at a place: what it is, the file, the line and the column.
+/// A refusal with a place: its number, the file, the line and the column.
 #[derive(Clone, Copy)]
 pub(crate) struct Placed<'a> {
-    fault: PlaceFault,
+    number: u32,
     file: &'a Name,
     line: u64,
     column: u64,
 }
 
-fn placed(fault: PlaceFault, file: &Name, line: u64, column: u64) -> Option<Placed<'_>> {
+fn placed(number: u32, file: &Name, line: u64, column: u64) -> Option<Placed<'_>> {
     Some(Placed {
-        fault,
+        number,
         file,
         line,
         column,
@@ -26,16 +26,12 @@ fn placed(fault: PlaceFault, file: &Name, line: u64, column: u64) -> Option<Plac
 /// The place of a refusal of the text, if it is one.
 fn of_text(refusal: &Refusal) -> Option<Placed<'_>> {
     match refusal {
-        Refusal::BadByte(file, line, column) => placed(PlaceFault::BadByte, file, *line, *column),
-        Refusal::OpenComment(file, line, column) => {
-            placed(PlaceFault::OpenComment, file, *line, *column)
-        }
-        Refusal::BadLiteral(file, line, column) => {
-            placed(PlaceFault::BadLiteral, file, *line, *column)
-        }
-        Refusal::TooLong(file, line, column) => placed(PlaceFault::TooLong, file, *line, *column),
-        Refusal::Syntax(file, line, column) => placed(PlaceFault::Syntax, file, *line, *column),
-        Refusal::TooDeep(file, line, column) => placed(PlaceFault::TooDeep, file, *line, *column),
+        Refusal::BadByte(file, line, column) => placed(1, file, *line, *column),
+        Refusal::OpenComment(file, line, column) => { placed(2, file, *line, *column) }
+        Refusal::BadLiteral(file, line, column) => { placed(3, file, *line, *column) }
+        Refusal::TooLong(file, line, column) => placed(4, file, *line, *column),
+        Refusal::Syntax(file, line, column) => placed(5, file, *line, *column),
+        Refusal::TooDeep(file, line, column) => placed(6, file, *line, *column),
         _ => None,
     }
 }
@@ -43,21 +39,11 @@ fn of_text(refusal: &Refusal) -> Option<Placed<'_>> {
 /// The place of a refusal of names and types, if it is one.
 fn of_types(refusal: &Refusal) -> Option<Placed<'_>> {
     match refusal {
-        Refusal::UnknownName(file, line, column) => {
-            placed(PlaceFault::UnknownName, file, *line, *column)
-        }
-        Refusal::TwiceDefined(file, line, column) => {
-            placed(PlaceFault::TwiceDefined, file, *line, *column)
-        }
-        Refusal::TypeFault(file, line, column) => {
-            placed(PlaceFault::TypeFault, file, *line, *column)
-        }
-        Refusal::WidthFault(file, line, column) => {
-            placed(PlaceFault::WidthFault, file, *line, *column)
-        }
-        Refusal::BadAttribute(file, line, column) => {
-            placed(PlaceFault::BadAttribute, file, *line, *column)
-        }
+        Refusal::UnknownName(file, line, column) => { placed(7, file, *line, *column) }
+        Refusal::TwiceDefined(file, line, column) => { placed(8, file, *line, *column) }
+        Refusal::TypeFault(file, line, column) => { placed(9, file, *line, *column) }
+        Refusal::WidthFault(file, line, column) => { placed(10, file, *line, *column) }
+        Refusal::BadAttribute(file, line, column) => { placed(11, file, *line, *column) }
         _ => None,
     }
 }
@@ -81,7 +67,7 @@ fn put_source<O: Sink + Drop>(
     put_place(
         page,
         source.text(),
-        placed.fault,
+        placed.number,
         placed.line,
         placed.column,
     );

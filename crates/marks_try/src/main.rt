@@ -4,9 +4,9 @@
 use bsv_bits::OutOfMemory;
 use bsv_io::{DiskFiles, StdSink};
 use bsv_marks::{
-    PlaceFault, Source, blanked, bodies_of, makes_of, module_in, put_body_suspects, put_chain,
-    put_limit, put_marked, put_name_taken, put_no_module, put_no_rule, put_place, put_reads,
-    put_ring, put_suspects, read_source, statements_of,
+    STATICS, Source, blanked, bodies_of, makes_of, module_in, put_chain, put_limit, put_marked,
+    put_name_taken, put_no_module, put_no_rule, put_place, put_reads, put_suspects, read_source,
+    statements_of,
 };
 use bsv_page::Page;
 use std::io::{self, Stdout};
@@ -28,61 +28,25 @@ fn told<R: Files + AllocGlobal>(rt: &R, words: &[String], out: Stdout) -> Result
     let source = Source::new(rt.alloc(), file.as_str().as_bytes(), bytes.as_slice())?;
     let line = line.as_str().parse::<u64>().ok().unwrap_or(1);
     let column = column.as_str().parse::<u64>().ok().unwrap_or(1);
-    put_place(&mut page, source.text(), PlaceFault::Syntax, line, column);
-    put_place(
-        &mut page,
-        source.text(),
-        PlaceFault::TypeFault,
-        line,
-        column,
-    );
-    put_place(
-        &mut page,
-        source.text(),
-        PlaceFault::UnknownName,
-        line,
-        column,
-    );
-    put_place(
-        &mut page,
-        source.text(),
-        PlaceFault::TwiceDefined,
-        line,
-        column,
-    );
+    for number in 1..12 {
+        put_place(&mut page, source.text(), number, line, column);
+    }
     let sources = [source];
     let makes = makes_of(rt.alloc(), &sources)?;
-    put_chain(
-        rt.alloc(),
-        &mut page,
-        &sources,
-        makes.as_slice(),
-        b"mkTop",
-        b"mkLeaf",
-    )?;
-    put_ring(
-        rt.alloc(),
-        &mut page,
-        &sources,
-        makes.as_slice(),
-        b"mkTop",
-        b"mkLeaf",
-    )?;
+    put_chain(rt.alloc(), &mut page, makes.as_slice(), b"mkTop", b"mkReg")?;
     put_no_module(&mut page, &sources, b"mkX");
-    put_name_taken(&mut page, &sources, makes.as_slice(), b"mkTop", b"a.b_1");
+    put_name_taken(&mut page, &sources, b"a.x_1");
     put_no_rule(&mut page, &sources, b"descending_urgency", b"x");
     put_limit(&mut page, &sources, b"depth");
+    put_limit(&mut page, &sources, b"elements");
     if let Some(place) = module_in(&sources, b"mkTop") {
-        let [source] = &sources;
-        let text = source.text();
-        put_reads(&mut page, text, makes.as_slice(), place);
-        put_body_suspects(&mut page, text, place);
-        for body in &bodies_of(rt.alloc(), text, place)? {
-            put_marked(&mut page, text, text.start(body.from));
-            let extents = statements_of(rt.alloc(), text, *body)?;
-            let blank = blanked(rt.alloc(), text, extents.as_slice())?;
+        put_reads(&mut page, place, makes.as_slice());
+        for body in &bodies_of(rt.alloc(), place)? {
+            put_marked(&mut page, place.text, place.text.start(body.from));
+            let extents = statements_of(rt.alloc(), place.text, *body)?;
+            let blank = blanked(rt.alloc(), place.text, extents.as_slice())?;
             page.text(blank.as_slice());
-            put_suspects(&mut page, text, *body);
+            put_suspects(&mut page, place.text, *body, STATICS);
         }
     }
     let _ = page.end();
