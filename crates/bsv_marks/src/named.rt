@@ -1,7 +1,8 @@
 use crate::lines::put_marked;
 use crate::statements::module_in;
-use crate::tables::{cut, put_places};
+use crate::tables::{cut, fits_some, put_places};
 use crate::text::{Source, Text, piece};
+use crate::usual::LIMITS;
 use bsv_ast::is_word;
 use bsv_io::Sink;
 use bsv_page::Page;
@@ -17,16 +18,15 @@ fn base_of(name: &[u8]) -> &[u8] {
     name
 }
 
+/// What stands around a name that is given to a rule, an instance or a method.
+const GIVEN: &[u8] = b"rule NAME\n_ NAME <-\n_ NAME [\n) NAME (\nTYPE NAME (";
+
 /// Puts where a source gives a name to a rule, a method or an instance.
 fn put_givers<O: Sink + Drop>(page: &mut Page<O>, text: Text, name: &[u8]) {
+    let base = base_of(name);
     for at in 1..text.tokens.len() {
-        let before = text.word(at.wrapping_sub(1));
-        let after = text.word(at.wrapping_add(1));
-        let of_method = text.is(at.wrapping_sub(2), b"method") || before == b")".as_slice();
-        let gives = before == b"rule".as_slice()
-            || matches!(after, b"<-" | b"[")
-            || of_method && after == b"(".as_slice();
-        if gives && (text.is(at, name) || text.is(at, base_of(name))) {
+        let word = text.word(at);
+        if (word == name || word == base) && fits_some(text, at.wrapping_sub(1), GIVEN) {
             put_marked(page, text, text.start(at));
         }
     }
@@ -122,10 +122,10 @@ pub fn put_no_module<O: Sink + Drop>(page: &mut Page<O>, sources: &[Source], top
     }
 }
 
-/// Puts what passes a limit, and what in the sources may be its cause.
-pub fn put_limit<O: Sink + Drop>(page: &mut Page<O>, sources: &[Source], kind: &[u8]) {
-    let mut rest = crate::usual::LIMITS;
-    for _ in 0..crate::usual::LIMITS.len() {
+/// Puts what a table of limits has of what is counted.
+fn put_limits<O: Sink + Drop>(page: &mut Page<O>, sources: &[Source], kind: &[u8], table: &[u8]) {
+    let mut rest = table;
+    for _ in 0..table.len() {
         let (line, after) = cut(rest, b'\n');
         let (word, more) = cut(line, b'|');
         let (words, cause) = cut(more, b'|');
@@ -134,6 +134,11 @@ pub fn put_limit<O: Sink + Drop>(page: &mut Page<O>, sources: &[Source], kind: &
             put_counted(page, sources, words, cause);
         }
     }
+}
+
+/// Puts what passes a limit, and what in the sources may be its cause.
+pub fn put_limit<O: Sink + Drop>(page: &mut Page<O>, sources: &[Source], kind: &[u8]) {
+    put_limits(page, sources, kind, LIMITS);
 }
 
 /// Puts what passes a limit, and the places that have the words.

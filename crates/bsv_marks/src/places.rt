@@ -1,5 +1,6 @@
 use crate::lines::{byte_of, put_marked};
-use crate::tables::{cut, put_usual};
+use crate::statements::deeper;
+use crate::tables::{cut, fits_some, put_usual};
 use crate::text::{Extent, Text, piece};
 use crate::usual;
 use bsv_io::Sink;
@@ -39,9 +40,9 @@ fn statement_at(text: Text, byte: usize) -> Extent {
 }
 
 /// Puts what is usual of a byte that begins no token. The answer is whether there is something.
-fn put_byte<O: Sink + Drop>(page: &mut Page<O>, byte: &[u8]) -> bool {
-    let mut rest = usual::BYTES;
-    for _ in 0..usual::BYTES.len() {
+fn put_byte<O: Sink + Drop>(page: &mut Page<O>, byte: &[u8], table: &[u8]) -> bool {
+    let mut rest = table;
+    for _ in 0..table.len() {
         let (line, after) = cut(rest, b'\n');
         let (other, cause) = cut(line, b'|');
         if other == byte {
@@ -53,19 +54,16 @@ fn put_byte<O: Sink + Drop>(page: &mut Page<O>, byte: &[u8]) -> bool {
     false
 }
 
-/// The name that is defined from a place on: that in front of one of these, outside of brackets.
+/// What a name that is defined has after it.
+const DEFINED: &[u8] =
+    b"NAME <-\nNAME =\nNAME ;\nNAME ,\nNAME }\nNAME (\nNAME [\nTYPE ;\nTYPE ,\nTYPE }\nTYPE =";
+
+/// The name that is defined from a place on, outside of brackets.
 fn defined_at(text: Text, extent: Extent) -> usize {
     let mut depth = 0i64;
     for at in extent.from..extent.to {
-        match text.word(at) {
-            b"(" | b"(*" => depth = depth.wrapping_add(1),
-            b")" | b"*)" => depth = depth.wrapping_sub(1),
-            _ => {}
-        }
-        let after = text.word(at.wrapping_add(1));
-        let is_name = matches!(text.class(at), b"NAME" | b"TYPE");
-        let ends = matches!(after, b"<-" | b"=" | b";" | b"," | b"}" | b"(" | b"[");
-        if depth == 0 && is_name && ends {
+        depth = depth.wrapping_add(deeper(text.word(at)));
+        if depth == 0 && fits_some(text, at, DEFINED) {
             return at;
         }
     }
@@ -83,6 +81,11 @@ fn put_first<O: Sink + Drop>(page: &mut Page<O>, text: Text, extent: Extent) {
     }
 }
 
+/// The byte at a place, as a text.
+fn byte_at(bytes: &[u8], at: usize) -> &[u8] {
+    piece(bytes, at, at.saturating_add(1))
+}
+
 /// Puts the line of a place with a mark under it, and the usual causes of the refusal of this number, 1 to 11.
 pub fn put_place<O: Sink + Drop>(
     page: &mut Page<O>,
@@ -94,7 +97,7 @@ pub fn put_place<O: Sink + Drop>(
     let byte = byte_of(text.bytes, line, column);
     let extent = statement_at(text, byte);
     put_marked(page, text, byte);
-    if number == 1 && put_byte(page, piece(text.bytes, byte, byte.saturating_add(1))) {
+    if number == 1 && put_byte(page, byte_at(text.bytes, byte), usual::BYTES) {
         return;
     }
     if number == 8 {

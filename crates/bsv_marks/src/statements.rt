@@ -38,7 +38,7 @@ pub fn module_in<'a>(sources: &'a [Source<'_>], name: &[u8]) -> Option<ModulePla
 }
 
 /// What a token adds to how deep what comes after it is.
-fn deeper(word: &[u8]) -> i64 {
+pub(crate) fn deeper(word: &[u8]) -> i64 {
     match word {
         b"(" | b"[" | b"{" | b"(*" | b"begin" | b"case" => 1,
         b")" | b"]" | b"}" | b"*)" | b"end" | b"endcase" => -1,

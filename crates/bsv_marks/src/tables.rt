@@ -44,6 +44,19 @@ pub(crate) fn fits(text: Text, at: usize, words: &[u8]) -> bool {
     true
 }
 
+/// Whether the tokens from a place on are as a line says.
+pub(crate) fn fits_some(text: Text, at: usize, lines: &[u8]) -> bool {
+    let mut rest = lines;
+    for _ in 0..lines.len() {
+        let (line, after) = cut(rest, b'\n');
+        if !line.is_empty() && fits(text, at, line) {
+            return true;
+        }
+        rest = after;
+    }
+    false
+}
+
 /// The first of some tokens from which on they are as the words say.
 pub(crate) fn first_fit(text: Text, extent: Extent, words: &[u8]) -> Option<usize> {
     for at in extent.from..extent.to {

@@ -1,34 +1,36 @@
 use crate::facts::{Edge, Edges, Facts};
 use crate::meeting::{Meeting, Question, meeting};
-use crate::names::{attribute_word, element_name, method_name, part_path};
-use bsv_design::Design;
+use crate::names::{attribute_word, element_name, method_name, part_at, part_path};
+use bsv_design::{Design, Kind};
 use bsv_io::Sink;
 use bsv_page::Page;
 use bsv_prim::Rel;
 
-/// What a call of each method does with its part.
-const DEEDS: [(&str, &str); 11] = [
-    ("_read", "reads it"),
-    ("_write", "writes it"),
-    ("wset", "sets it"),
-    ("wget", "looks at it"),
-    ("send", "sends it"),
-    ("enq", "puts an item into it"),
-    ("deq", "takes its front"),
-    ("first", "looks at its front"),
-    ("notFull", "asks whether it is not full"),
-    ("notEmpty", "asks whether it is not empty"),
-    ("clear", "clears it"),
-];
-
-/// What a call of the method does with its part.
-fn deed(method: &[u8]) -> &'static [u8] {
-    for (name, deed) in &DEEDS {
-        if name.as_bytes() == method {
-            return deed.as_bytes();
-        }
+/// What a call of a method of a queue does with it.
+fn queue_deed(method: u32) -> &'static [u8] {
+    match method {
+        0 => b"puts an item into it",
+        1 => b"takes its front",
+        2 => b"looks at its front",
+        3 => b"asks whether it is not full",
+        4 => b"asks whether it is not empty",
+        _ => b"clears it",
     }
-    b"calls it"
+}
+
+/// What a call of a method does with its part.
+fn deed(kind: &Kind, method: u32) -> &'static [u8] {
+    let first = method == 0;
+    match kind {
+        Kind::Reg(_) | Kind::RegU(_) if first => b"reads it",
+        Kind::Reg(_) | Kind::RegU(_) => b"writes it",
+        Kind::Wire(_) | Kind::DWire(_) if first => b"writes it",
+        Kind::RWire(_) if first => b"sets it",
+        Kind::RWire(_) => b"looks at it",
+        Kind::Pulse(_) if first => b"sends it",
+        Kind::Wire(_) | Kind::DWire(_) | Kind::Pulse(_) => b"reads it",
+        Kind::Plain(_) | Kind::Pipeline(_) | Kind::Bypass(_) => queue_deed(method),
+    }
 }
 
 /// A method of a part, as `x._write`.
@@ -52,7 +54,9 @@ pub(crate) fn put_done<O: Sink + Drop>(
     part: u32,
     method: u32,
 ) {
-    page.texts(&[deed(method_name(design, part, method)), b" ("]);
+    if let Some(named) = part_at(design, part) {
+        page.texts(&[deed(&named.kind, method), b" ("]);
+    }
     put_method(page, design, part, method);
     page.text(b")");
 }
