@@ -73,14 +73,18 @@ fn has_word(text: &[u8], name: &[u8]) -> bool {
     false
 }
 
-/// Puts the attributes of a source that name the name, and the rules of this source.
+/// Puts the attributes of a source that name the name, and the rules of its modules.
 fn put_asked<O: Sink + Drop>(page: &mut Page<O>, text: Text, attribute: &[u8], name: &[u8]) {
-    for at in 2..text.tokens.len() {
+    let mut module: &[u8] = b"";
+    for at in 1..text.tokens.len() {
         if text.is(at.wrapping_sub(2), attribute) && has_word(text.word(at), name) {
             put_marked(page, text, text.start(at));
         }
+        if text.is(at.wrapping_sub(1), b"module") {
+            module = text.word(at);
+        }
         if text.is(at.wrapping_sub(1), b"rule") {
-            page.texts(&[b"  there is a rule ", text.word(at), b"\n"]);
+            page.texts(&[b"  ", module, b" has the rule ", text.word(at), b"\n"]);
         }
     }
 }
@@ -143,7 +147,9 @@ pub fn put_limit<O: Sink + Drop>(page: &mut Page<O>, sources: &[Source], kind: &
 
 /// Puts what passes a limit, and the places that have the words.
 fn put_counted<O: Sink + Drop>(page: &mut Page<O>, sources: &[Source], words: &[u8], cause: &[u8]) {
-    page.texts(&[b"- ", cause, b"\n"]);
+    if !cause.is_empty() {
+        page.texts(&[b"- ", cause, b"\n"]);
+    }
     for source in sources {
         let text = source.text();
         if words != b"_".as_slice() {

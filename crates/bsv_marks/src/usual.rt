@@ -179,7 +179,7 @@ packages|_|more packages are imported: fewer and larger ones
 elements|rule NAME|the rules of all instances and the methods of the top are more: one rule with a loop in it, in place of a loop of rules
 instances|<- NAME|the registers, wires and queues of all instances are more: wider registers, fewer wires
 depth|mkSizedFIFO (|a queue is to be deeper: two queues, and a rule from the one to the other
-depth|mkSizedFIFOF (|a queue is to be deeper: two queues, and a rule from the one to the other
+depth|mkSizedFIFOF (|
 weight|for (|what is carried out weighs more: loops with fewer turns, a function that does less at each call, a register in place of what every rule works out
 calls|function TYPE|calls of functions and methods stand deeper in each other: a loop in place of a chain of functions
 modules|module NAME|modules stand deeper in each other: fewer levels

@@ -1,5 +1,5 @@
 use crate::facts::{Edge, Edges, Facts};
-use crate::meeting::{Question, meeting};
+use crate::meeting::{Question, first_meeting};
 use crate::names::{attribute_word, element_name};
 use crate::phrases::{fed_through, put_method};
 use crate::stops::in_order;
@@ -95,7 +95,7 @@ fn put_stop<O: Sink + Drop>(
         b"color=red, fontcolor=red, constraint=false, label=\" ",
     );
     let (earlier, later) = in_order(execution, stopper, stopped);
-    match meeting(facts.design, Question::Clashes, earlier, later) {
+    match first_meeting(facts.design, Question::Clashes, earlier, later) {
         Some(found) => {
             let (first, second) = if earlier == stopper {
                 (found.first, found.second)

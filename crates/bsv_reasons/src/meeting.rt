@@ -80,7 +80,12 @@ pub(crate) fn calls_of(design: &Design, element: u32) -> &[Call] {
 }
 
 /// The first call of the one element, and the first of the other, that are as it is asked.
-pub(crate) fn meeting(design: &Design, question: Question, a: u32, b: u32) -> Option<Meeting> {
+pub(crate) fn first_meeting(
+    design: &Design,
+    question: Question,
+    a: u32,
+    b: u32,
+) -> Option<Meeting> {
     let others = calls_of(design, b);
     for call in calls_of(design, a) {
         let found = meeting_of(design, question, call, others);

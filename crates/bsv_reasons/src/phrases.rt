@@ -1,5 +1,5 @@
 use crate::facts::{Edge, Edges, Facts};
-use crate::meeting::{Meeting, Question, meeting};
+use crate::meeting::{Meeting, Question, first_meeting};
 use crate::names::{attribute_word, element_name, method_name, part_at, part_path};
 use bsv_design::{Design, Kind};
 use bsv_io::Sink;
@@ -105,7 +105,7 @@ pub(crate) fn put_relation<O: Sink + Drop>(page: &mut Page<O>, design: &Design, 
 /// Why the first of two elements may not come before the second; nothing where it may.
 pub(crate) fn put_clash<O: Sink + Drop>(page: &mut Page<O>, facts: Facts, a: u32, b: u32) {
     let design = facts.design;
-    if let Some(found) = meeting(design, Question::Clashes, a, b) {
+    if let Some(found) = first_meeting(design, Question::Clashes, a, b) {
         page.text(b"both call ");
         put_deeds(page, design, a, b, found);
         page.text(b"; ");
@@ -116,7 +116,7 @@ pub(crate) fn put_clash<O: Sink + Drop>(page: &mut Page<O>, facts: Facts, a: u32
 /// What the second of two elements sees of the first.
 fn put_feed<O: Sink + Drop>(page: &mut Page<O>, facts: Facts, a: u32, b: u32) {
     let design = facts.design;
-    if let Some(found) = meeting(design, Question::Feeds, a, b) {
+    if let Some(found) = first_meeting(design, Question::Feeds, a, b) {
         page.texts(&[
             element_name(design, b),
             b" sees in the same clock what ",
@@ -129,7 +129,7 @@ fn put_feed<O: Sink + Drop>(page: &mut Page<O>, facts: Facts, a: u32, b: u32) {
 
 /// The part through which the first element feeds the second.
 pub(crate) fn fed_through(facts: Facts, a: u32, b: u32) -> &[u8] {
-    match meeting(facts.design, Question::Feeds, a, b) {
+    match first_meeting(facts.design, Question::Feeds, a, b) {
         Some(found) => part_path(facts.design, found.part),
         None => b"",
     }

@@ -1,5 +1,5 @@
 use crate::facts::Facts;
-use crate::meeting::{Question, meeting};
+use crate::meeting::{Question, first_meeting};
 use crate::names::element_name;
 use crate::phrases::put_clash;
 use bsv_io::Sink;
@@ -22,7 +22,7 @@ pub(crate) fn in_order(order: &[u32], a: u32, b: u32) -> (u32, u32) {
 
 /// Whether the calls of two elements conflict, whichever comes first.
 fn conflict(facts: Facts, a: u32, b: u32) -> bool {
-    match meeting(facts.design, Question::Clashes, a, b) {
+    match first_meeting(facts.design, Question::Clashes, a, b) {
         Some(found) => matches!(found.relation, Rel::C),
         None => false,
     }
@@ -62,7 +62,7 @@ pub(crate) fn put_stop<O: Sink + Drop>(
         b": ",
     ]);
     if facts.preempts(stopper, stopped) {
-        page.text(b"`preempts` has it so. ");
+        page.text(b"attribute preempts; ");
     }
     let (earlier, later) = in_order(execution, stopper, stopped);
     if facts.goes(earlier, later) {

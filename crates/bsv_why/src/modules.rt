@@ -3,8 +3,8 @@ use bsv_bits::OutOfMemory;
 use bsv_flow::{CompileFault, Loaded, Refusal, load};
 use bsv_io::{Files, Sink};
 use bsv_marks::{
-    Make, ModulePlace, Source, makes_of, module_in, put_body_suspects, put_chain, put_limit,
-    put_marked, put_name_taken, put_no_module, put_no_rule, put_reads, put_ring, put_suspects,
+    Extent, LOOPS, Make, STATICS, Source, makes_of, module_in, put_chain, put_limit, put_marked,
+    put_name_taken, put_no_module, put_no_rule, put_reads, put_suspects,
 };
 use bsv_page::Page;
 use std::alloc::Global;

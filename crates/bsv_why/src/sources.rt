@@ -14,7 +14,7 @@ pub(crate) struct Placed<'a> {
     column: u64,
 }
 
-fn placed(number: u32, file: &Name, line: u64, column: u64) -> Option<Placed<'_>> {
+fn at_place(number: u32, file: &Name, line: u64, column: u64) -> Option<Placed<'_>> {
     Some(Placed {
         number,
         file,
@@ -26,12 +26,12 @@ fn placed(number: u32, file: &Name, line: u64, column: u64) -> Option<Placed<'_>
 /// The place of a refusal of the text, if it is one.
 fn of_text(refusal: &Refusal) -> Option<Placed<'_>> {
     match refusal {
-        Refusal::BadByte(file, line, column) => placed(1, file, *line, *column),
-        Refusal::OpenComment(file, line, column) => { placed(2, file, *line, *column) }
-        Refusal::BadLiteral(file, line, column) => { placed(3, file, *line, *column) }
-        Refusal::TooLong(file, line, column) => placed(4, file, *line, *column),
-        Refusal::Syntax(file, line, column) => placed(5, file, *line, *column),
-        Refusal::TooDeep(file, line, column) => placed(6, file, *line, *column),
+        Refusal::BadByte(file, line, column) => at_place(1, file, *line, *column),
+        Refusal::OpenComment(file, line, column) => { at_place(2, file, *line, *column) }
+        Refusal::BadLiteral(file, line, column) => { at_place(3, file, *line, *column) }
+        Refusal::TooLong(file, line, column) => at_place(4, file, *line, *column),
+        Refusal::Syntax(file, line, column) => at_place(5, file, *line, *column),
+        Refusal::TooDeep(file, line, column) => at_place(6, file, *line, *column),
         _ => None,
     }
 }
@@ -39,11 +39,11 @@ fn of_text(refusal: &Refusal) -> Option<Placed<'_>> {
 /// The place of a refusal of names and types, if it is one.
 fn of_types(refusal: &Refusal) -> Option<Placed<'_>> {
     match refusal {
-        Refusal::UnknownName(file, line, column) => { placed(7, file, *line, *column) }
-        Refusal::TwiceDefined(file, line, column) => { placed(8, file, *line, *column) }
-        Refusal::TypeFault(file, line, column) => { placed(9, file, *line, *column) }
-        Refusal::WidthFault(file, line, column) => { placed(10, file, *line, *column) }
-        Refusal::BadAttribute(file, line, column) => { placed(11, file, *line, *column) }
+        Refusal::UnknownName(file, line, column) => { at_place(7, file, *line, *column) }
+        Refusal::TwiceDefined(file, line, column) => { at_place(8, file, *line, *column) }
+        Refusal::TypeFault(file, line, column) => { at_place(9, file, *line, *column) }
+        Refusal::WidthFault(file, line, column) => { at_place(10, file, *line, *column) }
+        Refusal::BadAttribute(file, line, column) => { at_place(11, file, *line, *column) }
         _ => None,
     }
 }
