@@ -183,10 +183,8 @@ fn put_urgent_row<O: Sink + Drop>(page: &mut Page<O>, facts: Facts, a: u32, afte
 }
 
 fn put_urgency<O: Sink + Drop>(page: &mut Page<O>, facts: Facts, order: &[u32]) {
-    let mut rest = order;
-    while let [a, after @ ..] = rest {
-        put_urgent_row(page, facts, *a, after);
-        rest = after;
+    for (place, a) in order.iter().enumerate() {
+        put_urgent_row(page, facts, *a, &order[place + 1..]);
     }
 }
 

@@ -57,11 +57,9 @@ pub(crate) fn put_execution<O: Sink + Drop>(page: &mut Page<O>, facts: Facts, or
     page.text(b"execution order:");
     put_names(page, facts.design, order);
     page.text(b"\n");
-    let mut rest = order;
-    while let [a, after @ ..] = rest {
-        put_row(page, facts, Edges::Execution, *a, after);
-        put_row_left_out(page, facts, *a, after);
-        rest = after;
+    for (place, a) in order.iter().enumerate() {
+        put_row(page, facts, Edges::Execution, *a, &order[place + 1..]);
+        put_row_left_out(page, facts, *a, &order[place + 1..]);
     }
 }
 
@@ -70,9 +68,13 @@ pub(crate) fn put_urgency<O: Sink + Drop>(page: &mut Page<O>, facts: Facts, orde
     page.text(b"urgency order:");
     put_names(page, facts.design, order);
     page.text(b"\n");
-    let mut rest = order;
-    while let [a, after @ ..] = rest {
-        put_row(page, facts, Edges::Urgency(usize::MAX), *a, after);
-        rest = after;
+    for (place, a) in order.iter().enumerate() {
+        put_row(
+            page,
+            facts,
+            Edges::Urgency(usize::MAX),
+            *a,
+            &order[place + 1..],
+        );
     }
 }
