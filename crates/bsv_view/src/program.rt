@@ -1,25 +1,61 @@
 use crate::answer::answer;
 use crate::faults::{tell_stop, tell_usage};
-use crate::form::form_of;
+use crate::form::{Entry, Form, form_of};
 use crate::status::Status;
 use crate::stop::Stop;
+use bsv_flow::Refusal;
 use bsv_io::{Failed, Files, Sink};
 use bsv_page::Page;
+use bsv_why::cause;
 use std::alloc::Global;
 use std::thread::Threads;
 
-/// The status of an answer, whose text is put to its end. Where that fails, nothing is put as a fault text.
-fn status_of<O: Sink + Drop, E: Sink>(
-    answer: Result<(), Stop>,
+/// Puts the text to its end, and answers the status; it is a write fault where that fails.
+fn ended<O: Sink + Drop>(page: &mut Page<O>, status: Status) -> Status {
+    match page.end() {
+        Ok(()) => status,
+        Err(Failed) => Status::WriteFault,
+    }
+}
+
+/// Puts the cause of a refusal, whose line was told before.
+fn tell_cause<R: Threads + Sync, F: Files, O: Sink + Drop>(
+    rt: &R,
+    alloc: Global,
+    files: &mut F,
+    entry: Entry<'_>,
+    refusal: &Refusal,
+    page: &mut Page<O>,
+) -> Status {
+    if cause(rt, alloc, files, entry.file, entry.top, refusal, page).is_err() {
+        page.text(b"the cause could not be told\n");
+    }
+    ended(page, Status::Refused)
+}
+
+/// Tells why words that have a form are not done, after the text that was put up to there; and of a refused design,
+/// where it is asked why, the cause.
+fn stopped<R: Threads + Sync, F: Files, O: Sink + Drop, E: Sink>(
+    rt: &R,
+    alloc: Global,
+    files: &mut F,
+    form: Form<'_>,
+    stop: &Stop,
     page: &mut Page<O>,
     err: &mut E,
 ) -> Status {
     if let Err(Failed) = page.end() {
         return Status::WriteFault;
     }
-    match answer {
-        Ok(()) => Status::Done,
-        Err(stop) => tell_stop(err, &stop),
+    let status = tell_stop(err, stop);
+    match form {
+        Form::Why(entry) => match stop {
+            Stop::Refused(refusal) if status == Status::Refused => {
+                tell_cause(rt, alloc, files, entry, refusal, page)
+            }
+            _ => status,
+        },
+        _ => status,
     }
 }
 
@@ -38,6 +74,8 @@ pub fn view<R: Threads + Sync, F: Files, O: Sink + Drop, E: Sink>(
     let Some(form) = form_of(words, is_watched) else {
         return tell_usage(err);
     };
-    let answer = answer(rt, alloc, files, form, page, err);
-    status_of(answer, page, err)
+    match answer(rt, alloc, files, form, page, err) {
+        Ok(()) => ended(page, Status::Done),
+        Err(stop) => stopped(rt, alloc, files, form, &stop, page, err),
+    }
 }
