@@ -64,3 +64,11 @@ kept_count count t = min (if is_listed t.plan then count / 2 else count) (room_l
 -- a sink that never fails tells the number of its bytes, and is seen as that
 abbrev pub sure_writing : ℕ → Writing
 sure_writing taken = record { bytes = None; taken = Some taken; faults = 0 }
+
+-- a sink that grows, and fails where there is no memory
+pub record GrowTarget : Type 0 where
+  pub bytes : List ℕ
+  pub faults : ℕ
+
+abbrev pub grow_writing : GrowTarget → Writing
+grow_writing t = record { bytes = Some t.bytes; taken = None; faults = t.faults }

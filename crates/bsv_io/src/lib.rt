@@ -2,11 +2,12 @@
 //!
 //! Modules in reading order: `failed` (the one error), `files` (sources, chosen by name and read
 //! piece by piece), `sink` (where bytes are put), `put_buffer` (bytes that wait to be put in one
-//! call), `text` (texts, constants and numbers after those that wait). For tests and for texts
-//! that the program makes itself: `calls` (calls that fail by their numbers), `progress` (where a
-//! source stands), `contents` (files in memory, and how a piece of one is given), `mem_files`,
-//! `sure_files`, `mem_sink`, `sure_sink`. The trusted edge, which passes calls on to the runtime:
-//! `open_files`, `disk_files`, `std_sink`.
+//! call), `text` (texts, constants and numbers after those that wait), `gate` (where the workers of
+//! a parallel call pass). For tests and for texts that the program makes itself: `calls` (calls
+//! that fail by their numbers), `progress` (where a source stands), `contents` (files in memory,
+//! and how a piece of one is given), `mem_files`, `sure_files`, `mem_sink`, `sure_sink`,
+//! `grow_sink`. The trusted edge, which passes calls on to the runtime: `open_files`,
+//! `disk_files`, `std_sink`.
 #![tactic(auto)]
 
 mod calls;
@@ -14,6 +15,8 @@ mod contents;
 mod disk_files;
 mod failed;
 mod files;
+mod gate;
+mod grow_sink;
 mod mem_files;
 mod mem_sink;
 mod open_files;
@@ -28,6 +31,8 @@ mod text;
 pub use disk_files::DiskFiles;
 pub use failed::Failed;
 pub use files::Files;
+pub use gate::{Gate, NoGate};
+pub use grow_sink::GrowSink;
 pub use mem_files::MemFiles;
 pub use mem_sink::MemSink;
 pub use open_files::OpenFiles;

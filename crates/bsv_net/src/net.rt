@@ -12,7 +12,7 @@ use bsv_bits::{OutOfMemory, Word};
 use bsv_design::{between, extended, joined, picked, sign_extended, sliced, word_at};
 use bsv_prim::RegisterInfo;
 use sqlite_items::Items;
-use std::alloc::Global;
+use std::alloc::{AllocError, Global};
 
 /// A net in order: each node uses earlier nodes alone, operands have the widths that their operators need, there is
 /// one next word for each register, and what tells of firing and readiness has one bit.
@@ -58,6 +58,28 @@ fn node_word(registers: &[Word], inputs: &[Word], words: &[Word], node: NetNode)
     }
 }
 
+/// Equal nodes of the calls of an element.
+fn copy_of(alloc: Global, sites: &[Site]) -> Result<Items<Site>, AllocError>
+    ensures { IfOk result (λ copy. copy ≡ sites.now) }
+{
+    let mut copy = Items::new(alloc);
+    for site in sites {
+        copy.push(site.copy(alloc)?)?;
+    }
+    Ok(copy)
+}
+
+/// Equal nodes of the calls of elements.
+fn copies_of(alloc: Global, sites: &[Items<Site>]) -> Result<Items<Items<Site>>, AllocError>
+    ensures { IfOk result (λ copies. copies ≡ sites.now) }
+{
+    let mut copies = Items::new(alloc);
+    for calls in sites {
+        copies.push(copy_of(alloc, calls.as_slice())?)?;
+    }
+    Ok(copies)
+}
+
 impl Net {
     ghost use Rattle.bsv_net.specs.AtHand as hand;
 
@@ -79,6 +101,22 @@ impl Net {
             results: net_data.results,
             sites: net_data.sites,
         }))
+    }
+
+    /// An equal net.
+    pub fn copy(&self, alloc: Global) -> Result<Net, OutOfMemory>
+        ensures { IfOk result (λ net. hand.net_data net ≡ hand.net_data self.now) }
+    {
+        Ok(Net {
+            inputs: Items::from_slice(alloc, self.inputs.as_slice())?,
+            registers: Items::from_slice(alloc, self.registers.as_slice())?,
+            nodes: Items::from_slice(alloc, self.nodes.as_slice())?,
+            nexts: Items::from_slice(alloc, self.nexts.as_slice())?,
+            fires: Items::from_slice(alloc, self.fires.as_slice())?,
+            readies: Items::from_slice(alloc, self.readies.as_slice())?,
+            results: Items::from_slice(alloc, self.results.as_slice())?,
+            sites: copies_of(alloc, self.sites.as_slice())?,
+        })
     }
 
     /// Gives each node its word in a clock in which registers and inputs have these words.

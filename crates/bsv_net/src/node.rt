@@ -1,5 +1,8 @@
+ghost use Rattle.std.specs.Prelude.{◌≡◌, IfOk};
+
 use bsv_bits::{Operator, Word};
 use sqlite_items::Items;
+use std::alloc::{AllocError, Global};
 
 /// A word, computed of the registers, the inputs and the words before it. A number names a node by its place.
 #[derive(Clone, Copy, Debug, PartialEq, Eq)]
@@ -28,4 +31,16 @@ pub struct Site {
     pub taken: u32,
     /// Those of its arguments.
     pub args: Items<u32>,
+}
+
+impl Site {
+    /// Equal nodes of a call.
+    pub(crate) fn copy(&self, alloc: Global) -> Result<Site, AllocError>
+        ensures { IfOk result (λ site. site ≡ self.now) }
+    {
+        Ok(Site {
+            taken: self.taken,
+            args: Items::from_slice(alloc, self.args.as_slice())?,
+        })
+    }
 }

@@ -40,3 +40,24 @@ fn a_next_word_of_another_width(rt: HostRuntime) -> Result<(), Fail> {
     assert!(rt; Net::new(alloc, net_data(alloc, &nodes, 1)?)?.is_none());
     Ok(())
 }
+
+/// Threads may share what workers share.
+fn is_shared<T: Sync>(_value: &T) {}
+
+#[test]
+fn a_copy_of_a_net(rt: HostRuntime) -> Result<(), Fail> {
+    let alloc = rt.alloc();
+    let nodes = [NetNode::Register(0), NetNode::Slice(0, 2, 0)];
+    let found = Net::new(alloc, net_data(alloc, &nodes, 0)?)?;
+    assert!(rt; found.is_some());
+    if let Some(net) = found {
+        let copy = net.copy(alloc)?;
+        is_shared(&net);
+        assert_eq!(rt; copy.inputs.as_slice(), [4].as_slice());
+        assert_eq!(rt; copy.registers.as_slice(), net.registers.as_slice());
+        assert_eq!(rt; copy.nodes.as_slice(), nodes.as_slice());
+        assert_eq!(rt; copy.nexts.as_slice(), [0].as_slice());
+        assert!(rt; copy.sites.is_empty());
+    }
+    Ok(())
+}

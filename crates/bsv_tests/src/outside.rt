@@ -3,7 +3,8 @@ ghost use Rattle.bsv_io.specs.Faults.{MayFault};
 
 use bsv_bits::{Name, OutOfMemory};
 use bsv_io::{
-    DiskFiles, Failed, Files, MemFiles, MemSink, PutBuffer, Sink, StdSink, SureFiles, SureSink,
+    DiskFiles, Failed, Files, GrowSink, MemFiles, MemSink, PutBuffer, Sink, StdSink, SureFiles,
+    SureSink,
 };
 use std::alloc::Global;
 use std::io::{ErrorKind, Write};
@@ -158,6 +159,15 @@ fn sinks_that_never_fail(rt: HostRuntime) {
     let mut sink = SureSink::new();
     assert_eq!(rt; put_three(&mut sink), *b"+++");
     assert_eq!(rt; sink.taken(), 8);
+}
+
+#[test]
+fn sinks_that_grow(rt: HostRuntime) -> Result<(), Fail> {
+    let mut sink = GrowSink::new(rt.alloc());
+    assert_eq!(rt; put_three(&mut sink), *b"+++");
+    let bytes = sink.bytes();
+    assert_eq!(rt; bytes.as_slice(), b"abcdefgh".as_slice());
+    Ok(())
 }
 
 /// A writer that takes one byte at each second call and is interrupted at the others.
