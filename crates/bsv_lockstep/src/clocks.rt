@@ -66,16 +66,10 @@ impl Run {
         })
     }
 
-    /// The words of all nodes of a net in the clock of this number; `before` is what the registers show before it.
-    fn words(
-        &self,
-        alloc: Global,
-        design: &Design,
-        net: &Net,
-        before: &[Option<Word>],
-        number: u64,
-    ) -> Result<Vec<Word>> {
-        let registers = filled(alloc, net.registers.as_slice(), before)?;
+    /// The words of all nodes of a net in the clock of this number, from the state before it.
+    fn words(&self, alloc: Global, design: &Design, net: &Net, number: u64) -> Result<Vec<Word>> {
+        let before = shown(alloc, design, &self.state)?;
+        let registers = filled(alloc, net.registers.as_slice(), &before)?;
         let inputs = inputs(alloc, design, &self.requests, number)?;
         evaluated(alloc, net, &registers, &inputs)
     }
@@ -116,18 +110,17 @@ impl Run {
         if line(design, text, &mut self.requests).is_err() {
             bail!("a line of the trace asks for nothing");
         }
-        let before = shown(alloc, design, &self.state)?;
-        let words = self.words(alloc, design, net, &before, number)?;
-        let shared_words = self.words(alloc, design, &compiled.net, &before, number)?;
+        let words = self.words(alloc, design, net, number)?;
+        let shared_words = self.words(alloc, design, &compiled.net, number)?;
         self.run_clock(alloc, compiled)?;
-        let after = shown(alloc, design, &self.state)?;
-        if !agrees(design, net, &words, &self.fired, &after) {
+        let behind = shown(alloc, design, &self.state)?;
+        if !agrees(design, net, &words, &self.fired, &behind) {
             return Ok(Some(Engine::Net));
         }
-        if !agrees(design, &compiled.net, &shared_words, &self.fired, &after) {
+        if !agrees(design, &compiled.net, &shared_words, &self.fired, &behind) {
             return Ok(Some(Engine::SharedNet));
         }
-        if !simulator_agrees(self.sim.registers(), &self.told, &self.fired, &after) {
+        if !simulator_agrees(self.sim.registers(), &self.told, &self.fired, &behind) {
             return Ok(Some(Engine::Simulator));
         }
         Ok(None)
