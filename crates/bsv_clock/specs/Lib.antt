@@ -1,6 +1,7 @@
 pub mod Looks
 pub mod Clocks
 pub mod Grounds
+pub mod Subjects
 pub mod Steadiness
 pub mod Settling
 pub mod Feeding

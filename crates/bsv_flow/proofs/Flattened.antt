@@ -13,6 +13,7 @@ use Rattle.bsv_design.specs.parts.Kinds.{kind_table}
 use Rattle.bsv_design.specs.parts.MethodNames.{method_names}
 use Rattle.bsv_design.specs.scheme.Relations.{KeepsTheRule}
 use Rattle.bsv_design.specs.scheme.Schemes.{Outline, outline, design_scheme, AreAlike}
+use Rattle.bsv_clock.specs.Subjects.{element_name, outline_name}
 use Rattle.bsv_tree.specs.meaning.Schemes.{tree_scheme}
 use Rattle.bsv_design.specs.scheme.Seen.{design_data}
 use Rattle.bsv_tree.specs.tree.Elements.{parts_among}
@@ -25,7 +26,7 @@ use Rattle.bsv_guard.proofs.Keeps.{sound_keeps}
 use Rattle.bsv_guard.proofs.Transport.{sound_alike}
 use Rattle.bsv_flow.specs.declared.refusal.Refusal.{Refusal}
 use Rattle.bsv_flow.specs.declared.refusal.Refusal.TheVariants as refusal
-use Rattle.bsv_flow.specs.Breaches.{outline_name, element_name, part_path, method_name, told_in, TellsBreach}
+use Rattle.bsv_flow.specs.Breaches.{part_path, method_name, told_in, TellsBreach}
 
 abbrev pub name_of : Option Element → List ℕ
 name_of None = []

@@ -9,6 +9,7 @@ use Rattle.bsv_design.specs.declared.schedule.Schedule.{Schedule}
 use Rattle.bsv_design.specs.declared.attributes.Attribute.TheVariants as attribute
 use Rattle.bsv_design.specs.declared.attributes.Pair.{Pair}
 use Rattle.bsv_design.specs.scheme.Relations.{KeepsTheRule}
+use Rattle.bsv_clock.specs.Subjects.{Subject, element_name}
 use Rattle.bsv_tree.specs.meaning.Schemes.{tree_scheme}
 use Rattle.bsv_tree.specs.tree.Elements.{parts_among}
 use Rattle.bsv_design.specs.scheme.Traces.{Site}
@@ -34,8 +35,8 @@ use Rattle.bsv_attr.specs.Asserting.{IsAccepted, IsAnswer}
 use Rattle.bsv_attr.proofs.Answering as marks
 use Rattle.bsv_flow.specs.declared.refusal.Refusal.{Refusal}
 use Rattle.bsv_flow.specs.declared.refusal.Refusal.TheVariants as refusal
-use Rattle.bsv_flow.specs.Breaches.{element_name, part_path, method_name, TellsBreach}
-use Rattle.bsv_flow.specs.Schedulings.{Subject, subject, related, IsOrdered, IsScheduled, order_told, urgency_told, pair_told, implicit_told, stopper_told, IsUnexecuted, IsUnurged, IsUnasserted, Unscheduled}
+use Rattle.bsv_flow.specs.Breaches.{part_path, method_name, TellsBreach}
+use Rattle.bsv_flow.specs.Schedulings.{subject, related, IsOrdered, IsScheduled, order_told, urgency_told, pair_told, implicit_told, stopper_told, IsUnexecuted, IsUnurged, IsUnasserted, Unscheduled}
 use Rattle.bsv_flow.proofs.FirstBreaches as first
 use Rattle.bsv_flow.proofs.FirstBreaches.{FirstBreachOf, tree_decides}
 

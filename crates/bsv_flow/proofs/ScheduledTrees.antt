@@ -48,6 +48,7 @@ use Rattle.bsv_schedule.proofs.OrderLaws.{ordering_before, urging_stands}
 use Rattle.bsv_schedule.proofs.RelationsLemmas.{agrees_design, pairs_are}
 use Rattle.bsv_clock.specs.Grounds.{IsScheduleOf, KeepsRules}
 use Rattle.bsv_clock.proofs.Belonging as belonging
+use Rattle.bsv_clock.specs.Subjects.{design_subject, element_name, outline_name}
 use Rattle.bsv_net.specs.declared.net.Net.{Net}
 use Rattle.bsv_net.specs.ShowsByNet.{NetCarries}
 use Rattle.bsv_net.proofs.Hardware.{net_carried_to}
@@ -60,8 +61,8 @@ use Rattle.bsv_flow.specs.declared.refusal.CompileFault.TheVariants as fault
 use Rattle.bsv_flow.specs.declared.refusal.Refusal.{Refusal}
 use Rattle.bsv_flow.specs.declared.refusal.Refusal.TheVariants as refusal
 use Rattle.bsv_flow.specs.Attributes.{attribute_word}
-use Rattle.bsv_flow.specs.Breaches.{element_name, outline_name, or_no_name}
-use Rattle.bsv_flow.specs.Schedulings.{subject, design_subject, related, IsOrdered, IsScheduled, order_told, urgency_told, pair_told, demand_name, call_name, names_in, implicit_told, stopper_told, condition_at, call_of, call_at, call_text, texts_in, IsUnexecuted, IsUnurged, IsUnasserted, Unscheduled, IsCompiledOf, IsVerilogOf}
+use Rattle.bsv_flow.specs.Breaches.{or_no_name}
+use Rattle.bsv_flow.specs.Schedulings.{subject, related, IsOrdered, IsScheduled, order_told, urgency_told, pair_told, demand_name, call_name, names_in, implicit_told, stopper_told, condition_at, call_of, call_at, call_text, texts_in, IsUnexecuted, IsUnurged, IsUnasserted, Unscheduled, IsCompiledOf, IsVerilogOf}
 use Rattle.bsv_design.proofs.Elements.{length-filled}
 
 -- ---- names of conditions and calls

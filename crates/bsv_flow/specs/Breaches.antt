@@ -4,7 +4,8 @@ use Rattle.bsv_design.specs.declared.design.NamedPart.{NamedPart}
 use Rattle.bsv_design.specs.design.Designs.{DesignData}
 use Rattle.bsv_design.specs.parts.MethodNames.{method_names}
 use Rattle.bsv_design.specs.scheme.Relations.{IsFirstBreach}
-use Rattle.bsv_design.specs.scheme.Schemes.{Scheme, Outline, design_scheme}
+use Rattle.bsv_design.specs.scheme.Schemes.{design_scheme}
+use Rattle.bsv_clock.specs.Subjects.{element_name}
 use Rattle.bsv_tree.specs.meaning.Schemes.{tree_scheme}
 use Rattle.bsv_tree.specs.tree.Elements.{parts_among}
 use Rattle.bsv_design.specs.scheme.Traces.{Site}
@@ -16,14 +17,6 @@ use Rattle.bsv_flow.specs.declared.refusal.Refusal.TheVariants as refusal
 abbrev pub or_no_name : Option (List ℕ) → List ℕ
 or_no_name None = []
 or_no_name (Some name) = name
-
-abbrev pub outline_name : Option Outline → List ℕ
-outline_name None = []
-outline_name (Some o) = o.name
-
--- the name of an element, by its position
-abbrev pub element_name : Scheme → ℕ → List ℕ
-element_name S n = outline_name (slice_get S.elements n)
 
 abbrev pub path_of : Option NamedPart → List ℕ
 path_of None = []

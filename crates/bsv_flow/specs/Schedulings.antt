@@ -1,7 +1,6 @@
 -- What scheduling answers of a tree: its schedule, or the first refusal after building (Hoe and Arvind 2004; Bluespec
 -- reference guide, "Scheduling attributes").
 use Rattle.std.specs.Prelude.{◌≡◌, ℕ, false, List, [], ◌++◌, map, slice_get, Option, Some, None}
-use Rattle.bsv_design.specs.declared.design.Design.{Design}
 use Rattle.bsv_design.specs.declared.design.NamedPart.{NamedPart}
 use Rattle.bsv_design.specs.declared.element.Call.{Call}
 use Rattle.bsv_design.specs.declared.element.Condition.{Condition}
@@ -10,7 +9,8 @@ use Rattle.bsv_design.specs.declared.schedule.Schedule.{Schedule}
 use Rattle.bsv_design.specs.declared.attributes.Pair.{Pair}
 use Rattle.bsv_design.specs.design.Guards.{needs_of}
 use Rattle.bsv_design.specs.scheme.Relations.{KeepsTheRule, sites_of}
-use Rattle.bsv_design.specs.scheme.Schemes.{Scheme, AreAlike, design_scheme, kinds_of}
+use Rattle.bsv_design.specs.scheme.Schemes.{AreAlike, design_scheme, kinds_of}
+use Rattle.bsv_clock.specs.Subjects.{Subject, element_name}
 use Rattle.bsv_tree.specs.meaning.Schemes.{tree_scheme}
 use Rattle.bsv_design.specs.scheme.Seen.{design_data}
 use Rattle.bsv_tree.specs.tree.Elements.{parts_among}
@@ -47,19 +47,11 @@ use Rattle.bsv_flow.specs.declared.refusal.Refusal.TheVariants as refusal
 use Rattle.bsv_flow.specs.declared.scheduling.Compiled.{Compiled}
 use Rattle.bsv_flow.specs.Attributes.{attribute_word}
 use Rattle.bsv_flow.specs.Clocked.{IsWellClocked}
-use Rattle.bsv_flow.specs.Breaches.{element_name, part_path, method_name, or_no_name, TellsBreach}
+use Rattle.bsv_flow.specs.Breaches.{part_path, method_name, or_no_name, TellsBreach}
 
--- what is scheduled: a scheme, whose parts have these paths
-pub record Subject : Type 0 where
-  pub scheme : Scheme
-  pub parts : List NamedPart
-
+-- what of a tree is scheduled
 abbrev pub subject : TreeData → Subject
 subject h = record { scheme = tree_scheme h; parts = parts_among h.instances }
-
--- the same of a design
-abbrev pub design_subject : Design → Subject
-design_subject d = record { scheme = design_scheme (design_data d); parts = d.parts }
 
 abbrev pub related : Subject → Relating
 related s = relating s.scheme

@@ -1,6 +1,7 @@
 ghost use Rattle.std.specs.Prelude.{◌≡◌};
 ghost use Rattle.bsv_design.specs.scheme.Schemes.{design_scheme};
 ghost use Rattle.bsv_design.specs.scheme.Seen.{design_data};
+ghost use Rattle.bsv_clock.specs.Subjects.{element_name};
 ghost use Rattle.bsv_flow.specs.Attributes.{attribute_word};
 ghost use Rattle.bsv_flow.specs.Breaches as breaches;
 
@@ -21,7 +22,7 @@ pub(crate) fn attribute_word(attribute: Attribute) -> &'static str
 /// The name of an element, by its position.
 #[tactic(auto, using(crate::proofs::Flattened::names_same), unfolding(bsv_design::specs::scheme::Schemes::design_scheme))]
 pub(crate) fn element_name(design: &Design, position: u32) -> &[u8]
-    ensures { result.now ≡ breaches.element_name (design_scheme (design_data design.now)) position }
+    ensures { result.now ≡ element_name (design_scheme (design_data design.now)) position }
 {
     match design.elements.get(position as usize) {
         Some(element) => element.name.bytes(),

@@ -2,6 +2,7 @@ ghost use Rattle.std.specs.Prelude.{◌≡◌, ◌⊎◌, ℕ, false, List, Some
 ghost use Rattle.bsv_attr.specs.Asserting.{IsAccepted};
 ghost use Rattle.bsv_attr.specs.Obeying.{Obeys};
 ghost use Rattle.bsv_clock.specs.Grounds.{IsScheduleOf, KeepsRules};
+ghost use Rattle.bsv_clock.specs.Subjects.{design_subject, element_name};
 ghost use Rattle.bsv_design.specs.design.Guards.{needs_of};
 ghost use Rattle.bsv_design.specs.scheme.Schemes.{design_scheme, kinds_of};
 ghost use Rattle.bsv_tree.specs.meaning.Schemes.{tree_scheme};
@@ -25,7 +26,6 @@ ghost use Rattle.bsv_flow.specs.Schedulings.{
   IsUnurged,
   IsUnasserted,
   Unscheduled,
-  design_subject,
   related,
   subject,
 };
@@ -63,7 +63,7 @@ pub struct Compiled {
 /// The name of an element.
 fn named(alloc: Global, design: &Design, position: u32) -> Result<Name, OutOfMemory>
     ensures { IfOk result (λ name.
-        name ≡ breaches.element_name (design_scheme (design_data design.now)) position) }
+        name ≡ element_name (design_scheme (design_data design.now)) position) }
 {
     Name::new(alloc, element_name(design, position))
 }

@@ -17,9 +17,9 @@ use Rattle.bsv_io.specs.Writing.{Writing, appended, AppendsPrefix}
 use Rattle.bsv_trace.specs.Texts.{clock_text, opening_text}
 use Rattle.bsv_clock.specs.Runs.{Row, Continues, Runs}
 use Rattle.bsv_clock.proofs.HappenAlike.{happens_to}
+use Rattle.bsv_clock.specs.Subjects.{Subject, design_subject, outline_name}
 use Rattle.bsv_guard.proofs.Alike.{alike_back}
-use Rattle.bsv_flow.specs.Breaches.{outline_name}
-use Rattle.bsv_flow.specs.Schedulings.{Subject, design_subject, subject}
+use Rattle.bsv_flow.specs.Schedulings.{subject}
 use Rattle.bsv_top.specs.Reports.{report, clocks_text}
 use Rattle.bsv_top.specs.Interrupted.{IsInterrupted, IsReportTo}
 use Rattle.bsv_top.specs.Running.{IsStarted, IsDone, IsFaulty}

@@ -9,8 +9,9 @@ use Rattle.bsv_clock.specs.Runs.{Row, Runs, TellRunsAlike}
 use Rattle.bsv_clock.proofs.Clocks.{clock_fed}
 use Rattle.bsv_clock.proofs.OneRun.{same_runs}
 use Rattle.bsv_clock.proofs.Steadily.{steady_scheme}
+use Rattle.bsv_clock.specs.Subjects.{Subject}
 use Rattle.bsv_flow.specs.Compilings.{IsPlanned}
-use Rattle.bsv_flow.specs.Schedulings.{Subject, subject}
+use Rattle.bsv_flow.specs.Schedulings.{subject}
 use Rattle.bsv_flow.proofs.Planned.{one_tree_planned, one_made_planned}
 use Rattle.bsv_flow.proofs.Trees as trees
 use Rattle.bsv_top.specs.declared.status.Status.{Status}

@@ -26,7 +26,7 @@ use Rattle.bsv_flow.specs.declared.refusal.CompileFault.TheVariants as fault
 use Rattle.bsv_flow.specs.declared.refusal.Refusal.{Refusal}
 use Rattle.bsv_flow.specs.Buildings.{Rejects}
 use Rattle.bsv_flow.specs.Compilings.{IsCompiled, IsPlanned}
-use Rattle.bsv_flow.specs.Schedulings.{Subject, design_subject, subject}
+use Rattle.bsv_flow.specs.Schedulings.{subject}
 use Rattle.bsv_flow.proofs.Planned.{compiled_planned}
 use Rattle.bsv_guard.proofs.Alike.{alike_back}
 use Rattle.bsv_top.specs.declared.stop.Stop.{Stop}
@@ -45,6 +45,7 @@ use Rattle.bsv_top.specs.declared.clocks.Run.{Run}
 use Rattle.bsv_top.specs.declared.scheduled.ScheduledDesign.{ScheduledDesign}
 use Rattle.bsv_sim.specs.Simulation.{IsClockOf, registers_of}
 use Rattle.bsv_clock.specs.Shows.{Shows}
+use Rattle.bsv_clock.specs.Subjects.{Subject, design_subject}
 use Rattle.bsv_trace.specs.Shown.{ShowParts}
 use Rattle.bsv_top.proofs.Grounds as grounds
 use Rattle.bsv_top.proofs.Happening.{some_run}

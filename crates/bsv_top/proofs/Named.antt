@@ -10,7 +10,7 @@ use Rattle.bsv_design.specs.scheme.Schemes.{Asking, Outline, design_scheme, kind
 use Rattle.bsv_design.specs.scheme.Seen.{design_data}
 use Rattle.bsv_trace.specs.Lines.{AsksFor}
 use Rattle.bsv_trace.specs.Texts.{clock_text, name_at}
-use Rattle.bsv_flow.specs.Breaches.{element_name, outline_name}
+use Rattle.bsv_clock.specs.Subjects.{element_name, outline_name}
 
 texts_same : (es : List Element) (n : ℕ) → name_at es n ≡ outline_name (slice_get (map outline es) n)
 texts_same [] n = refl

@@ -18,16 +18,16 @@ use Rattle.bsv_clock.specs.Runs.{AllFit, Row, Runs, TellRunsAlike}
 use Rattle.bsv_clock.proofs.Clocks.{clock_fed}
 use Rattle.bsv_clock.proofs.OneRun.{same_runs}
 use Rattle.bsv_clock.proofs.Steadily.{steady_scheme}
+use Rattle.bsv_clock.specs.Subjects.{Subject, element_name}
 use Rattle.bsv_vtext.specs.Signals.{VModuleData}
 use Rattle.bsv_vtext.specs.VText.{vtext}
 use Rattle.bsv_flow.specs.declared.loading.Loaded.{Loaded}
 use Rattle.bsv_flow.specs.declared.refusal.Refusal.{Refusal}
-use Rattle.bsv_flow.specs.Breaches.{element_name}
 use Rattle.bsv_flow.specs.Buildings.{IsBuilt, Rejects}
 use Rattle.bsv_flow.specs.Clocked.{IsWellClocked}
 use Rattle.bsv_flow.specs.Compilings.{IsPlanned}
 use Rattle.bsv_flow.specs.Refusals.{refusal_line}
-use Rattle.bsv_flow.specs.Schedulings.{IsVerilogOf, Subject, subject}
+use Rattle.bsv_flow.specs.Schedulings.{IsVerilogOf, subject}
 use Rattle.bsv_flow.proofs.Planned.{one_tree_planned, one_made_planned}
 use Rattle.bsv_flow.proofs.Trees as trees
 use Rattle.bsv_top.specs.declared.form.Product.TheVariants as product

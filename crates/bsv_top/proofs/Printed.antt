@@ -8,7 +8,7 @@ use Rattle.std.specs.Prelude.{slice_get}
 use Rattle.bsv_trace.specs.Texts.{name_at, schedule_text}
 use Rattle.bsv_vtext.specs.AtHand as hand
 use Rattle.bsv_flow.specs.declared.scheduling.Compiled.{Compiled}
-use Rattle.bsv_flow.specs.Breaches.{element_name, outline_name}
+use Rattle.bsv_clock.specs.Subjects.{element_name, outline_name}
 use Rattle.bsv_flow.specs.Compilings.{IsCompiled, IsPlanned}
 use Rattle.bsv_flow.proofs.Planned.{compiled_planned}
 use Rattle.bsv_top.specs.declared.form.Product.{Product}

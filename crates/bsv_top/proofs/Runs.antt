@@ -8,8 +8,7 @@ use Rattle.bsv_io.specs.Writing.{Writing, appended, AppendsPrefix}
 use Rattle.bsv_io.proofs.Appended.{AppendsPrefix-more, appended-append, prefix_after}
 use Rattle.bsv_trace.specs.Texts.{clock_text, opening_text}
 use Rattle.bsv_clock.specs.Runs.{Row, Continues}
-use Rattle.bsv_flow.specs.Breaches.{element_name}
-use Rattle.bsv_flow.specs.Schedulings.{Subject}
+use Rattle.bsv_clock.specs.Subjects.{Subject, element_name}
 use Rattle.bsv_top.specs.Reports.{report, clocks_text, state_after}
 
 -- ---- runs

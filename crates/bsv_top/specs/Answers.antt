@@ -8,11 +8,11 @@ use Rattle.bsv_tree.specs.meaning.Schemes.{tree_scheme}
 use Rattle.bsv_tree.specs.tree.Trees.{TreeData}
 use Rattle.bsv_trace.specs.Texts.{line_feed, schedule_text}
 use Rattle.bsv_clock.specs.Runs.{Row, Runs}
+use Rattle.bsv_clock.specs.Subjects.{element_name}
 use Rattle.bsv_vtext.specs.Signals.{VModuleData}
 use Rattle.bsv_vtext.specs.VText.{vtext}
 use Rattle.bsv_flow.specs.declared.loading.Loaded.{Loaded}
 use Rattle.bsv_flow.specs.declared.refusal.Refusal.{Refusal}
-use Rattle.bsv_flow.specs.Breaches.{element_name}
 use Rattle.bsv_flow.specs.Buildings.{IsProgram, IsBuilt, Rejects}
 use Rattle.bsv_flow.specs.Clocked.{IsWellClocked}
 use Rattle.bsv_flow.specs.Compilings.{IsPlanned}

@@ -5,7 +5,7 @@ use Rattle.bsv_design.specs.scheme.Schemes.{Asking}
 use Rattle.bsv_io.specs.Reading.{Current}
 use Rattle.bsv_io.specs.Writing.{Writing, appended}
 use Rattle.bsv_clock.specs.Runs.{Row, Runs}
-use Rattle.bsv_flow.specs.Schedulings.{Subject}
+use Rattle.bsv_clock.specs.Subjects.{Subject}
 use Rattle.bsv_top.specs.Reading.{HasNoFeed}
 use Rattle.bsv_top.specs.Reports.{report}
 use Rattle.bsv_top.specs.Traces.{AreAsked, bytes_in, lines_of}

@@ -8,10 +8,10 @@ use Rattle.bsv_design.specs.declared.design.NamedPart.{NamedPart}
 use Rattle.bsv_design.specs.scheme.Schemes.{Scheme, Asking}
 use Rattle.bsv_design.specs.scheme.States.{opening}
 use Rattle.bsv_clock.specs.Runs.{Row}
+use Rattle.bsv_clock.specs.Subjects.{Subject}
 use Rattle.bsv_io.specs.InMemory.{contents_of}
 use Rattle.bsv_trace.specs.Lines.{methods_among, nothing_of}
 use Rattle.bsv_trace.specs.Texts.{line_feed}
-use Rattle.bsv_flow.specs.Schedulings.{Subject}
 use Rattle.bsv_top.specs.Reports.{state_after}
 
 -- ---- words

@@ -4,8 +4,7 @@ use Rattle.bsv_prim.specs.declared.part.Part.{Part}
 use Rattle.bsv_design.specs.scheme.States.{opening}
 use Rattle.bsv_trace.specs.Texts.{opening_text, clock_text}
 use Rattle.bsv_clock.specs.Runs.{Row}
-use Rattle.bsv_flow.specs.Breaches.{element_name}
-use Rattle.bsv_flow.specs.Schedulings.{Subject}
+use Rattle.bsv_clock.specs.Subjects.{Subject, element_name}
 
 -- the clocks of a run, numbered on from a number
 abbrev pub clocks_text : Subject → ℕ → List Row → List ℕ

@@ -12,11 +12,10 @@ use Rattle.bsv_trace.specs.Texts.{clock_text}
 use Rattle.bsv_clock.specs.Events.{Happens}
 use Rattle.bsv_clock.specs.Runs.{Row, Runs}
 use Rattle.bsv_clock.specs.Shows.{Shows}
+use Rattle.bsv_clock.specs.Subjects.{Subject, design_subject, element_name}
 use Rattle.bsv_sim.specs.Simulation.{IsSimulated, net_of, registers_of}
 use Rattle.bsv_design.specs.scheme.Rooms.{HasRoom}
 use Rattle.bsv_flow.specs.declared.scheduling.Compiled.{Compiled}
-use Rattle.bsv_flow.specs.Breaches.{element_name}
-use Rattle.bsv_flow.specs.Schedulings.{Subject, design_subject}
 use Rattle.bsv_top.specs.declared.lines.Lines.{Lines}
 use Rattle.bsv_top.specs.declared.clocks.Run.{Run}
 use Rattle.bsv_top.specs.declared.scheduled.ScheduledDesign.{ScheduledDesign}
