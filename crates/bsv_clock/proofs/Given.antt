@@ -3,7 +3,7 @@ use Rattle.std.proofs.Common.{◌≡◌, ◌∙◌, ℕ, Bool, true, false, cond
 use Rattle.std.specs.Prelude.{slice_get}
 use Rattle.std.specs.List.{AllByRecursion}
 use Rattle.std.proofs.lemmas.Bool.{and_parts}
-use Rattle.bsv_lemmas.proofs.Places.{all_from}
+use Rattle.bsv_lemmas.proofs.Places.{all_at, all_from}
 use Rattle.bsv_prim.specs.Calls as prim
 use Rattle.bsv_prim.specs.Calls.{IsOrderly, IsReady}
 use Rattle.bsv_prim.specs.Table.{Call}
@@ -29,7 +29,7 @@ use Rattle.bsv_clock.specs.Grounds.{Fit, IsLawful}
 use Rattle.bsv_clock.specs.Looks.{calls_in_turn, look_after}
 use Rattle.bsv_clock.specs.Settling.{Doing, IsSettled, decide, deed, deeds, end_of, fired_in, is_stopped, look_of}
 use Rattle.bsv_clock.specs.Steadiness.{GoInOrder}
-use Rattle.bsv_clock.proofs.CallLists.{all_append, all_map, all_at, seen_on}
+use Rattle.bsv_clock.proofs.CallLists.{all_append, all_map, seen_on}
 use Rattle.bsv_clock.proofs.InTurn.{laws, turns, one_fits, run_fits, run_orderly}
 use Rattle.bsv_clock.proofs.Steadily.{emptied_fits, fits, looked_at}
 use Rattle.bsv_guard.proofs.Turns.{all_on, fits_at}

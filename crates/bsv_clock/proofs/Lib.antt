@@ -1,4 +1,5 @@
 pub mod Propositions
+pub mod Requests
 pub mod Belonging
 pub mod Sites
 pub mod CallLists

@@ -20,7 +20,7 @@ use Rattle.bsv_clock.proofs.Members.{found, is_found, some_passes, none_passes}
 
 -- ---- what a list picks
 
-picked : (P : ℕ → Type 0) (us xs : List ℕ) (n : ℕ) → Picks P us xs → In xs n → P n
+pub picked : (P : ℕ → Type 0) (us xs : List ℕ) (n : ℕ) → Picks P us xs → In xs n → P n
 picked P [] xs n h i = absurd (subst (λ (ys : List ℕ). In ys n) h i)
 picked P (u ∷ us) xs n (inl h) i = of (subst (λ (ys : List ℕ). In ys n) h.1.1 i) (picked P us h.1.0 n h.1.2)
   where
