@@ -9,3 +9,5 @@ pub mod Hardware
 pub mod Numbers
 pub mod ShownRegisters
 pub mod WidthsFit
+pub mod RegisterWidths
+pub mod Starts
