@@ -24,11 +24,13 @@ use Rattle.bsv_graph.specs.Edges.{numbers_below}
 use Rattle.bsv_design.proofs.Elements.{length-words}
 use Rattle.bsv_clock.specs.Shows.{Shows, cells_in, cells_of, input_widths_of}
 use Rattle.bsv_clock.specs.Clocks.{is_asked}
+use Rattle.bsv_clock.proofs.Requests.{rule_is}
 use Rattle.bsv_net.specs.declared.node.NetNode.{NetNode}
 use Rattle.bsv_net.specs.declared.node.NetNode.TheVariants as net
 use Rattle.bsv_net.specs.Placing.{node_at}
 use Rattle.bsv_net.specs.Unasked.{Arguments, inputs_with, inputs_with_from}
 use Rattle.bsv_net.proofs.Grows.{Grows, kept}
+use Rattle.bsv_net.proofs.Starts.{long_cells}
 use Rattle.bsv_fire.specs.Nets as nets
 use Rattle.bsv_ports.specs.Starts.{first_nodes}
 use Rattle.bsv_fire.specs.Grounds.{Ground}
@@ -100,9 +102,6 @@ long_inputs q xs n (o ∷ os) long =
     (long_inputs q xs (n + 1) os (λ j p there. ap (λ k. length (xs k)) (omega arith) ∙ long (suc j) p there))
     (ap (λ k. length (xs k)) (omega arith) ∙ long 0 o refl)
 
-long_cells : (k : Kind) → length (cells_in k) ≡ (kind_table k).registers
-long_cells k = length-map (numbers_below (kind_table k).registers) _ ∙ count_below (kind_table k).registers
-
 -- the registers of a part are among all of them
 pub registers_within : (ks : List Kind) (i : ℕ) (k : Kind) → slice_get ks i ≡ Some k → registers_before ks i + (kind_table k).registers ≤ length (cells_of ks)
 unfolding registers_before cells_of
@@ -127,12 +126,6 @@ has_no_arguments b right n e there rule = of e.role refl rule
     of role.Value h g = absurd (let f : ⊥ = cc in f)
     of role.Action h g = absurd (let f : ⊥ = cc in f)
     of role.ActionValue h g = absurd (let f : ⊥ = cc in f)
-
-rule_is : (r : Role) → is_rule r ≡ true → r ≡ role.Rule
-rule_is role.Rule h = refl
-rule_is role.Value h = absurd (let f : ⊥ = cc in f)
-rule_is role.Action h = absurd (let f : ⊥ = cc in f)
-rule_is role.ActionValue h = absurd (let f : ⊥ = cc in f)
 
 is_rule_again : (r : Role) → r ≡ role.Rule → is_rule r ≡ true
 is_rule_again r h = ap is_rule h

@@ -1,36 +1,19 @@
 -- What is known of a design, its schedule and its requests where a clock is run.
-use Rattle.std.proofs.Common.{◌≡◌, ℕ, ◌<◌, ◌≤◌, List, [], ◌∷◌, subst, length}
+use Rattle.std.proofs.Common.{◌≡◌, ℕ, ◌<◌, ◌≤◌, List, subst, length}
 use Rattle.std.specs.List.{AllByRecursion}
-use Rattle.std.proofs.Math.Nat.{ℕ_set}
-use Rattle.std.proofs.Math.Bridge.{le_prop}
-use Rattle.std.proofs.Math.Logic.{∥∥₁_elim}
 use Rattle.std.proofs.lemmas.List.{length-map}
-use Rattle.bsv_bits.specs.Words.{Bits}
 use Rattle.bsv_prim.specs.declared.part.Part.{Part}
 use Rattle.bsv_design.specs.declared.design.Design.{Design}
-use Rattle.bsv_design.specs.declared.element.Port.{Port}
 use Rattle.bsv_design.specs.declared.schedule.Schedule.{Schedule}
-use Rattle.bsv_design.specs.design.Designs.{IsDesign}
 use Rattle.bsv_design.specs.scheme.Schemes.{Asking, design_scheme, kinds_of, outline}
 use Rattle.bsv_design.specs.scheme.Seen.{design_data}
-use Rattle.bsv_design.specs.scheme.States.{AreWordsOf, AskingFits, FitsKinds}
+use Rattle.bsv_design.specs.scheme.States.{AskingFits, FitsKinds}
 use Rattle.bsv_graph.specs.Orders.{IsOrderOf}
-use Rattle.bsv_guard.specs.Fitting.{RequestFits}
-use Rattle.bsv_guard.proofs.DesignFits.{request_fits}
 use Rattle.bsv_clock.specs.Grounds.{Fit, IsScheduleOf}
 use Rattle.bsv_clock.proofs.Members.{once_long}
+use Rattle.bsv_clock.proofs.Requests.{requests_fit}
 use Rattle.bsv_clock.proofs.Stopping.{execution_order, urgency_order}
 use Rattle.bsv_serial.proofs.Placed.{all_below}
-
-pub words_prop : (ps : List Port) (ws : List Bits) → IsProp (AreWordsOf ps ws)
-words_prop [] [] = hlevel
-words_prop [] (w ∷ ws) = hlevel
-words_prop (p ∷ ps) [] = hlevel
-words_prop (p ∷ ps) (w ∷ ws) = hlevel (le_prop, ℕ_set, words_prop ps ws)
-
-pub requests_fit : (d : Design) (q : Asking) → AskingFits d.elements q → (n : ℕ) → RequestFits (design_scheme (design_data d)) q n
-requests_fit d q asking n =
-    ∥∥₁_elim d.right (words_prop _ _) (λ (right : IsDesign (design_data d)). request_fits (design_data d) right q asking n)
 
 pub fits_together : (d : Design) (q : Asking) (s : List Part) → AskingFits d.elements q → FitsKinds (kinds_of (design_data d)) s → Fit (design_scheme (design_data d)) q s
 unfolding design_scheme

@@ -35,6 +35,7 @@ use Rattle.bsv_guard.proofs.Whole.{named_in}
 use Rattle.bsv_clock.specs.Grounds.{IsLawful}
 use Rattle.bsv_clock.proofs.Belonging.{lawful_design}
 use Rattle.bsv_clock.proofs.CallLists.{all_map}
+use Rattle.bsv_clock.proofs.Requests.{words_prop}
 use Rattle.bsv_clock.proofs.Steadily.{looks_decide}
 use Rattle.bsv_serial.specs.declared.calls_made.MadeCall.{MadeCall}
 use Rattle.bsv_serial.specs.Applying.{AllCanTake, CanTake, all_after, behind}
@@ -51,7 +52,6 @@ use Rattle.bsv_serial.proofs.Joining.{length-sites, made_on, sites_on}
 use Rattle.bsv_serial.proofs.LookingSoFar.{orderly_applied}
 use Rattle.bsv_serial.proofs.ReadyHere.{calls_here, given_here, outline_there, ready_here, use_of, value_here}
 use Rattle.bsv_serial.proofs.Tagged.{added_all, added_on, as_calls_on}
-use Rattle.bsv_serial.proofs.ClockGround.{words_prop}
 
 -- ---- lists
 

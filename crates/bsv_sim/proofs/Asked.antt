@@ -3,8 +3,6 @@ use Rattle.std.proofs.Common.{◌≡◌, ◌∙◌, ℕ, zero, suc, ◌+◌, ◌
 use Rattle.std.specs.Prelude.{slice_get, unwrap_or}
 use Rattle.std.proofs.Math.Bool.{Bool-set}
 use Rattle.std.proofs.Math.Logic.{∥∥₁_elim}
-use Rattle.std.proofs.Math.Nat.{ℕ_set}
-use Rattle.std.proofs.Math.Bridge.{le_prop}
 use Rattle.bsv_lemmas.proofs.Places.{item_there, mapped_at}
 use Rattle.bsv_bits.specs.Words.{Bits, bit, zero_word}
 use Rattle.bsv_design.specs.declared.design.Design.{Design}
@@ -17,22 +15,12 @@ use Rattle.bsv_design.specs.design.Roles.{is_rule}
 use Rattle.bsv_design.specs.scheme.Schemes.{Scheme, Outline, Asking, design_scheme, filled, given, if_asked, outline, ports_of}
 use Rattle.bsv_design.specs.scheme.Seen.{design_data}
 use Rattle.bsv_design.specs.scheme.States.{AreWordsOf, AskingFits, FitMethods, methods_in}
-use Rattle.bsv_guard.specs.Fitting.{RequestFits}
-use Rattle.bsv_guard.proofs.DesignFits.{request_fits}
 use Rattle.bsv_clock.specs.Clocks.{is_asked, may_fire, may_fire_as}
 use Rattle.bsv_clock.specs.Shows.{inputs_from, inputs_of}
+use Rattle.bsv_clock.proofs.Requests.{rule_is}
 use Rattle.bsv_sim.specs.Inputs.{arguments, inputs, of_methods, zero_like}
 
 -- ---- requests
-
-words_prop : (ps : List Port) (ws : List Bits) → IsProp (AreWordsOf ps ws)
-words_prop [] [] = hlevel
-words_prop [] (w ∷ ws) = hlevel
-words_prop (p ∷ ps) [] = hlevel
-words_prop (p ∷ ps) (w ∷ ws) = hlevel (le_prop, ℕ_set, words_prop ps ws)
-
-pub requests_fit : (d : Design) (q : Asking) → AskingFits d.elements q → (n : ℕ) → RequestFits (design_scheme (design_data d)) q n
-requests_fit d q asked n = ∥∥₁_elim d.right (words_prop _ _) (λ (right : IsDesign (design_data d)). request_fits (design_data d) right q asked n)
 
 -- there are no more entries than elements
 pub asked_long : (es : List Element) (asked : List Bool) (args : List (List Bits)) → FitMethods (methods_in es) asked args → length asked ≤ length es
@@ -181,12 +169,6 @@ method_asked (y ∷ es) asked args h n e there before = of n asked args first th
     of zero (a ∷ asked) (ws ∷ args) h there before ih = (a, refl)
     of (suc n) (a ∷ asked) (ws ∷ args) h there before ih = ih asked args h.1 n e there (λ k x l t. before (suc k) x (omega (arith, l)) t)
 
-rule_role : (r : Role) → is_rule r ≡ true → r ≡ role.Rule
-rule_role role.Rule f = refl
-rule_role role.Value f = absurd (let n : ⊥ = cc in n)
-rule_role role.Action f = absurd (let n : ⊥ = cc in n)
-rule_role role.ActionValue f = absurd (let n : ⊥ = cc in n)
-
 no_rule_before : (d : Design) (n : ℕ) (e : Element) → slice_get d.elements n ≡ Some e → is_rule e.role ≡ false
     → (k : ℕ) (y : Element) → k ≤ n → slice_get d.elements k ≡ Some y → is_rule y.role ≡ false
 no_rule_before d n e there own k y l at_k =
@@ -195,7 +177,7 @@ no_rule_before d n e there own k y l at_k =
     of : IsDesign (design_data d) → (b : Bool) → is_rule y.role ≡ b → b ≡ false
     of right false r = refl
     of right true r =
-        absurd (let later : e.role ≡ role.Rule = right.methods_first k n y e at_k there l (rule_role y.role r) in
+        absurd (let later : e.role ≡ role.Rule = right.methods_first k n y e at_k there l (rule_is y.role r) in
         let z : true ≡ false = sym (ap is_rule_fn later) ∙ own in let y : ⊥ = cc in y)
       where
         is_rule_fn : Role → Bool

@@ -35,6 +35,7 @@ use Rattle.bsv_clock.specs.Steadiness.{IsSteady}
 use Rattle.bsv_clock.proofs.Belonging.{lawful_design}
 use Rattle.bsv_clock.proofs.Clocks.{clock_fed, clock_results, clock_run, some_clock}
 use Rattle.bsv_clock.proofs.Members.{found, is_found, kept_in, once_long}
+use Rattle.bsv_clock.proofs.Requests.{requests_fit}
 use Rattle.bsv_clock.proofs.Steadily.{steady_scheme}
 use Rattle.bsv_clock.proofs.Stopping.{execution_order, stops_true, stops_within, true_stops, urgency_order}
 use Rattle.bsv_net.specs.declared.net.Net.{Net}
@@ -49,7 +50,7 @@ use Rattle.bsv_sim.specs.Signals.{Signals}
 use Rattle.bsv_sim.specs.Simulation.{IsClockOf, IsShown, IsSimulated}
 use Rattle.bsv_sim.specs.Steps.{IsStepAt, signals_of}
 use Rattle.bsv_sim.specs.Stoppers.{all_noted}
-use Rattle.bsv_sim.proofs.Asked.{asked_long, inputs_are, may_same, requests_fit}
+use Rattle.bsv_sim.proofs.Asked.{asked_long, inputs_are, may_same}
 use Rattle.bsv_sim.proofs.Lists.{below_same, each_pair, given_same, pairs_of}
 use Rattle.bsv_sim.proofs.Tables.{IsFirst, all_long, first_noted, stops_now}
 use Rattle.bsv_sim.proofs.Told.{gives_word, nothing_told, one_told, word_told}

@@ -5,7 +5,6 @@ use Rattle.std.specs.List.{list_all}
 use Rattle.std.proofs.Math.Logic.{∥∥₁_elim, ∥∥₁_prop}
 use Rattle.std.proofs.Math.Bool.{Bool-set}
 use Rattle.std.proofs.Math.Nat.{ℕ_set}
-use Rattle.std.proofs.Math.Bridge.{le_prop}
 use Rattle.std.proofs.lemmas.Bool.{and_parts, and_from, eqb-true, lt-ltb}
 use Rattle.std.proofs.lemmas.List.{length-map}
 use Rattle.std.proofs.lemmas.Option.{same_Some, slice_get_within}
@@ -24,21 +23,12 @@ use Rattle.bsv_net.specs.declared.net_data.NetData.{NetData}
 use Rattle.bsv_net.specs.AtHand.{net_data}
 use Rattle.bsv_net.specs.Nets as nets
 use Rattle.bsv_net.specs.Nets.{IsNet, as_node, as_nodes, is_bit, names, nexts_fit, ports, register_widths, words}
+use Rattle.bsv_net.proofs.RegisterWidths.{widths_prop}
 use Rattle.bsv_net.proofs.Solution.{words_have}
 use Rattle.bsv_sim.specs.AtHand.{all_below}
 use Rattle.bsv_sim.specs.declared.sim.Sim.{Sim}
 
 -- ---- widths
-
-pub widths_prop : (us : List ℕ) (ws : List Bits) → IsProp (HaveWidths us ws)
-widths_prop [] [] = hlevel
-widths_prop [] (w ∷ ws) = hlevel
-widths_prop (u ∷ us) [] = hlevel
-widths_prop (u ∷ us) (w ∷ ws) = hlevel (le_prop, ℕ_set, widths_prop us ws)
-
-pub starts_have : (rs : List RegisterInfo) → HaveWidths (register_widths rs) (map (λ (r : RegisterInfo). r.start) rs)
-starts_have [] = tt
-starts_have (r ∷ rs) = (r.in_range, starts_have rs)
 
 -- there are as many as nodes
 widths_count : (ps : List Port) (xs : List Node) (us ends : List ℕ) → widths_from ps [] [] us xs ≡ Some ends → length ends ≡ length us + length xs

@@ -25,6 +25,7 @@ use Rattle.bsv_clock.specs.Grounds.{IsLawful, IsScheduleOf, KeepsRules}
 use Rattle.bsv_clock.specs.Runs.{AllFit}
 use Rattle.bsv_clock.proofs.Belonging as belonging
 use Rattle.bsv_clock.proofs.OneRun.{opening_fits}
+use Rattle.bsv_clock.proofs.Requests.{requests_fit}
 use Rattle.bsv_flow.specs.Clocked.{IsWellClocked}
 use Rattle.bsv_flow.specs.Schedulings.{IsScheduled, subject}
 use Rattle.bsv_flow.proofs.ScheduledTrees.{obeys_scheduled}
@@ -32,7 +33,6 @@ use Rattle.bsv_flow.proofs.WellClocked.{well_clocked}
 use Rattle.bsv_top.specs.Traces.{AreAsked, AreAskedToBad}
 use Rattle.bsv_top.proofs.Happening.{room}
 use Rattle.bsv_top.proofs.Named.{outlines_are}
-use Rattle.bsv_sim.proofs.Asked.{requests_fit}
 use Rattle.bsv_schedule.proofs.RelationsLemmas.{agrees_design}
 
 few_elements : (d : Design) → length d.elements < room

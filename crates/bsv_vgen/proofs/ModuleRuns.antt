@@ -2,9 +2,7 @@
 use Rattle.std.proofs.Common.{◌≡◌, ◌∙◌, ℕ, zero, suc, Bool, true, false, List, [], ◌∷◌, length, map, Option, Some, None, refl, sym, ap, subst}
 use Rattle.std.specs.Prelude.{slice_get, unwrap_or}
 use Rattle.std.specs.Option.{option_map}
-use Rattle.std.proofs.Math.Bridge.{le_prop}
 use Rattle.std.proofs.Math.Logic.{∥∥₁_elim, ∥∥₁_prop}
-use Rattle.std.proofs.Math.Nat.{ℕ_set}
 use Rattle.std.proofs.lemmas.Option.{same_Some, slice_get-map, slice_get_within}
 use Rattle.bsv_lemmas.proofs.Places.{mapped_at}
 use Rattle.bsv_bits.specs.Words.{Bits}
@@ -25,6 +23,7 @@ use Rattle.bsv_clock.proofs.OneRun.{opening_fits}
 use Rattle.bsv_clock.proofs.Steadily.{emptied_fits}
 use Rattle.bsv_net.specs.Unasked.{Arguments}
 use Rattle.bsv_net.proofs.Numbers.{number_at}
+use Rattle.bsv_net.proofs.RegisterWidths.{widths_prop}
 use Rattle.bsv_vtext.specs.declared.tree.Atom.TheVariants as atom
 use Rattle.bsv_vtext.specs.declared.tree.VMethod.{VMethod}
 use Rattle.bsv_vtext.specs.declared.tree.VRegister.{VRegister}
@@ -41,12 +40,6 @@ use Rattle.bsv_vgen.proofs.NetWords.{widths_of, nexts_fit}
 use Rattle.bsv_vgen.proofs.Solving.{words, solution, solved}
 
 -- ---- words of registers
-
-widths_prop : (us : List ℕ) (ws : List Bits) → IsProp (HaveWidths us ws)
-widths_prop [] [] = hlevel
-widths_prop [] (w ∷ ws) = hlevel
-widths_prop (u ∷ us) [] = hlevel
-widths_prop (u ∷ us) (w ∷ ws) = hlevel (le_prop, ℕ_set, widths_prop us ws)
 
 cell_widths_are : (rs : List VRegister) → cell_widths (map cell rs) ≡ widths_of rs
 cell_widths_are [] = refl

@@ -1,7 +1,6 @@
 -- The registers of a module, which are those of its parts: what they show at the start and after a reset.
 use Rattle.std.proofs.Common.{◌≡◌, ◌∙◌, ◌<◌, ℕ, zero, suc, Bool, true, false, List, [], ◌∷◌, ◌++◌, Some, refl, sym, ap, subst, arith, length, length-append, map, drop}
 use Rattle.std.specs.Prelude.{cond, not, slice_get, if◌then◌else◌}
-use Rattle.std.proofs.lemmas.List.{drop_at, length-map, map-append}
 use Rattle.bsv_lemmas.proofs.Places.{mapped_at, at_left}
 use Rattle.bsv_bits.specs.Words.{Bits}
 use Rattle.bsv_prim.specs.Table.{word_at}
@@ -15,12 +14,12 @@ use Rattle.bsv_guard.specs.Fitting.{HaveWidths}
 use Rattle.bsv_clock.specs.Shows.{Cell, Shows, cell_of, cell_widths, cells_in, cells_of}
 use Rattle.bsv_net.proofs.Numbers.{number_at}
 use Rattle.bsv_net.proofs.ShownRegisters.{shows_same}
+use Rattle.bsv_net.proofs.Starts.{long_cells, starts_show}
 use Rattle.bsv_vtext.specs.declared.tree.VRegister.{VRegister}
 use Rattle.bsv_vtext.specs.Signals.{VModuleData}
 use Rattle.bsv_vtext.specs.VClock.{reset_words}
 use Rattle.bsv_vgen.specs.Interfaces.{cell}
 use Rattle.bsv_vgen.specs.Resetting.{BeginsOpen, Resets, keeps, reset_part, reset_parts}
-use Rattle.bsv_graph.proofs.Below.{count_below}
 
 -- ---- words after a reset, by cells
 
@@ -52,9 +51,6 @@ reset_after (c ∷ cs) ds (w ∷ ws) = reset_after cs ds ws
 
 -- ---- the cells of a kind
 
-long_cells : (k : Kind) → length (cells_in k) ≡ (kind_table k).registers
-long_cells k = length-map (numbers_below (kind_table k).registers) (cell_of (kind_table k)) ∙ count_below (kind_table k).registers
-
 cell_there : (k : Kind) (more : List Cell) (r : ℕ) → r < (kind_table k).registers
     → slice_get (cells_in k ++ more) r ≡ Some (cell_of (kind_table k) r)
 cell_there k more r l =
@@ -75,32 +71,9 @@ resets_are (Bypass k) r l = refl
 
 -- ---- the start
 
-start_there : (cs : List Cell) (r : ℕ) (c : Cell) → slice_get cs r ≡ Some c → word_at (map (λ x. x.start) cs) r ≡ c.start
-start_there [] r c there = absurd (let n : ⊥ = cc in n)
-start_there (d ∷ cs) zero c there = let same : d ≡ c = cc in ap (λ (x : Cell). x.start) same
-start_there (d ∷ cs) (suc r) c there = start_there cs r c there
-
 starts_are : (rs : List VRegister) → map (λ r. r.start) rs ≡ map (λ c. c.start) (map cell rs)
 starts_are [] = refl
 starts_are (r ∷ rs) = ap (λ (ws : List Bits). r.start ∷ ws) (starts_are rs)
-
-starts_after : (k : Kind) (more : List Cell)
-    → drop (kind_table k).registers (map (λ c. c.start) (cells_in k ++ more)) ≡ map (λ c. c.start) more
-starts_after k more =
-    ap (drop (kind_table k).registers) (map-append (λ (c : Cell). c.start) (cells_in k) more)
-    ∙ drop_at (map (λ c. c.start) (cells_in k)) (map (λ c. c.start) more) (kind_table k).registers
-    (length-map (cells_in k) (λ (c : Cell). c.start) ∙ long_cells k)
-
-starts_show : (ks : List Kind) → Shows ks (opening ks) (map (λ c. c.start) (cells_of ks))
-unfolding cells_of
-starts_show [] = tt
-starts_show (k ∷ ks) = (
-  shows_same k (kind_table k).opening (kind_table k).register_start (word_at (map (λ c. c.start) (cells_in k ++ cells_of ks)))
-      (kind_laws k).fit.opening
-      (λ r l. sym (start_there (cells_in k ++ cells_of ks) r (cell_of (kind_table k) r) (cell_there k (cells_of ks) r l)))
-      (kind_laws k).shows.opening,
-  subst (λ (ws : List Bits). Shows ks (opening ks) ws) (sym (starts_after k (cells_of ks))) (starts_show ks),
-)
 
 -- ---- after a reset
 

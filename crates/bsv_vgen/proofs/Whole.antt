@@ -30,6 +30,7 @@ use Rattle.bsv_net.specs.declared.net_data.NetData.{NetData}
 use Rattle.bsv_net.specs.Nets.{IsNet, is_bit, is_within, names, nexts_fit, register_widths, words}
 use Rattle.bsv_net.specs.Nets as nets
 use Rattle.bsv_net.specs.Equations.{Satisfies}
+use Rattle.bsv_net.proofs.RegisterWidths.{starts_have}
 use Rattle.bsv_net.proofs.Solution.{satisfies, words_have, same_length}
 use Rattle.bsv_net.specs.ShowsByNet.{gives}
 use Rattle.bsv_clock.specs.Shows as carrying
@@ -79,10 +80,6 @@ zero_words (u ∷ us) h =
     let rest = zero_words us both.1 in
     let w : Bits = record { width = u; value = 0 } in
     (w ∷ rest.0, (record { word = record { some = leb-true 1 u bounds.0; most = leb-true u 128 bounds.1; below = pow_pos u }; same_width = refl }, rest.1))
-
-starts_have : (rs : List RegisterInfo) → HaveWidths (register_widths rs) (map (λ (r : RegisterInfo). r.start) rs)
-starts_have [] = tt
-starts_have (r ∷ rs) = (r.in_range, starts_have rs)
 
 bit_word : IsWordOf 1 (bit false)
 bit_word = record { word = record { some = omega arith; most = omega arith; below = omega arith }; same_width = refl }

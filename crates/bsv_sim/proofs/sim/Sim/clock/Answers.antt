@@ -4,11 +4,12 @@ use Rattle.bsv_design.specs.declared.fired.Fired.{Fired}
 use Rattle.bsv_design.specs.declared.schedule.Schedule.{Schedule}
 use Rattle.bsv_design.specs.scheme.Schemes.{Asking}
 use Rattle.bsv_design.specs.scheme.Seen.{asking}
+use Rattle.bsv_net.proofs.RegisterWidths.{widths_prop}
 use Rattle.bsv_sim.specs.declared.sim.Sim.{Sim}
 use Rattle.bsv_sim.specs.Simulation.{CanClock}
 use Rattle.bsv_sim.specs.Steps.{CanStep}
 use Rattle.bsv_sim.proofs.Happening.{asked_few, clock_happens, inputs_fit, room_for}
-use Rattle.bsv_sim.proofs.NetLists.{widths_known, widths_prop}
+use Rattle.bsv_sim.proofs.NetLists.{widths_known}
 use Rattle.bsv_sim.proofs.sim.Sim.clock.Goals as goal
 
 step_prop : (sim : Sim) (made : Schedule) (q : Asking) (f : Fired) → IsProp (CanStep sim made q f)

@@ -5,7 +5,7 @@ use Rattle.bsv_guard.specs.Fitting.{HaveWidths}
 use Rattle.bsv_net.specs.Nets.{register_widths}
 use Rattle.bsv_design.specs.scheme.States.{opening}
 use Rattle.bsv_clock.specs.Shows.{Shows}
-use Rattle.bsv_sim.proofs.NetLists.{starts_have}
+use Rattle.bsv_net.proofs.RegisterWidths.{starts_have}
 use Rattle.bsv_sim.proofs.Opening.{shows_opening}
 use Rattle.bsv_sim.proofs.sim.Sim.make.Goals as goal
 
