@@ -28,7 +28,7 @@ use Rattle.bsv_design.specs.scheme.Traces.{Trace, kind_at, site_at, demand_at, b
 use Rattle.bsv_schedule.specs.execution_order.Orders.{ExecutionOrder}
 use Rattle.bsv_graph.specs.Orders.{In, IsBefore}
 use Rattle.bsv_schedule.specs.relating.Relating.{Relating, Agrees}
-use Rattle.bsv_schedule.specs.stopping.Stops.{Stops, Picks, AreStops}
+use Rattle.bsv_schedule.specs.stopping.Stops.{Stops, AreStops}
 use Rattle.bsv_schedule.specs.urgency_order.Orders.{UrgencyOrder}
 use Rattle.bsv_graph.specs.Walks.{HasEdge}
 use Rattle.bsv_attr.specs.Asserting.{IsAccepted}
@@ -46,7 +46,7 @@ use Rattle.bsv_attr.proofs.Truths.{none_left, none_right}
 use Rattle.bsv_graph.proofs.Fronts.{is_or_not}
 use Rattle.bsv_design.proofs.Elements.{unguarded}
 use Rattle.bsv_schedule.proofs.RelationsLemmas.{agrees_design}
-use Rattle.bsv_clock.proofs.Stopping.{picks}
+use Rattle.bsv_clock.proofs.Stopping.{picked, picks}
 use Rattle.bsv_graph.proofs.OrderedLemmas.{before_in}
 
 -- ---- pairs as edges
@@ -111,18 +111,13 @@ list_stops R s f r law g u are h =
     let one = are.each f (u.order.below f both.0) in
     (both.0, record { stopped = one.0; at = one.1; has = picks (Stops R s.execution s.urgency f) s.urgency one.0 r one.2 both.1 h })
 
-picks_have : (P : ℕ → Type 0) (us xs : List ℕ) (a : ℕ) → Picks P us xs → In xs a → P a
-picks_have P [] xs a p i = absurd (subst (λ ys. In ys a) p i)
-picks_have P (u ∷ us) xs a (inl p) i = elim (subst (λ ys. In ys a) p.1.1 i) [ inl e ↦ subst P (sym e) p.0 | inr k ↦ picks_have P us p.1.0 a p.1.2 k ]
-picks_have P (u ∷ us) xs a (inr p) i = picks_have P us xs a p.1 i
-
 -- and what has it in its list stops it
 pub stops_listed : (R : Relating) (s : Schedule) (f r : ℕ) → UrgencyOrder R s.urgency → AreStops R s.execution s.urgency s.stops
     → In s.urgency f × ListStops s.stops f r → Stops R s.execution s.urgency f r
 stops_listed R s f r u are h =
     let one = are.each f (u.order.below f h.0) in
     let same : h.1.stopped ≡ one.0 = same_Some h.1.stopped one.0 (sym h.1.at ∙ one.1) in
-    picks_have (Stops R s.execution s.urgency f) s.urgency one.0 r one.2 (subst (λ ys. In ys r) same h.1.has)
+    picked (Stops R s.execution s.urgency f) s.urgency one.0 r one.2 (subst (λ ys. In ys r) same h.1.has)
 
 -- what nothing stops fires where it is ready
 fires_where : (S : Scheme) (s : Schedule) (r : ℕ) → ((f : ℕ) → ¬ StopsIn S s f r) → (is_ready : ℕ → Bool) (fired : List ℕ)

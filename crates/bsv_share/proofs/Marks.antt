@@ -8,15 +8,11 @@ use Rattle.bsv_guard.proofs.Lists.{item_of}
 use Rattle.bsv_share.specs.declared.order.Rank.{Rank}
 use Rattle.bsv_lemmas.proofs.Places.{take_one}
 use Rattle.bsv_graph.specs.Orders.{In}
+use Rattle.bsv_graph.proofs.LeastLemmas.{in_left}
 use Rattle.bsv_net.specs.declared.net_data.NetData.{NetData}
 use Rattle.bsv_net.specs.declared.node.NetNode.{NetNode}
 use Rattle.bsv_share.specs.Ordering.{AllReached, MarksOnly, NoneMarked, PlacesReached, is_marked}
 use Rattle.bsv_share.specs.Sharing.{IsReached, next, fire, ready, result, output, operand, operands}
-
-in_left : (xs ys : List ℕ) (k : ℕ) → In xs k → In (xs ++ ys) k
-in_left [] ys k h = absurd h
-in_left (x ∷ xs) ys k (inl e) = inl e
-in_left (x ∷ xs) ys k (inr h) = inr (in_left xs ys k h)
 
 in_last : (xs : List ℕ) (x k : ℕ) → k ≡ x → In (xs ++ x ∷ []) k
 in_last [] x k e = inl e

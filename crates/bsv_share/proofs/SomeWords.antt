@@ -1,18 +1,14 @@
 -- Words of widths, one after the other.
-use Rattle.std.proofs.Common.{◌≡◌, ℕ, ◌+◌, ◌≤◌, List, [], ◌∷◌, ◌++◌, take, Some, refl, sym, subst}
+use Rattle.std.proofs.Common.{◌≡◌, ℕ, ◌+◌, List, [], ◌∷◌, ◌++◌, take, Some, sym, subst}
 use Rattle.std.specs.Prelude.{slice_get}
-use Rattle.std.proofs.Math.Pow.{pow_pos}
 use Rattle.std.proofs.lemmas.List.{map-append}
 use Rattle.bsv_lemmas.proofs.Places.{take_one}
-use Rattle.bsv_bits.specs.Words.{Bits, zero_word}
+use Rattle.bsv_bits.specs.Words.{Bits}
 use Rattle.bsv_prim.specs.Table.{IsWordOf}
 use Rattle.bsv_prim.specs.declared.primitive.RegisterInfo.{RegisterInfo}
 use Rattle.bsv_guard.specs.Fitting.{HaveWidths}
 use Rattle.bsv_net.specs.Nets.{register_widths}
 use Rattle.bsv_net.proofs.Solution.{have_both}
-
-pub zero_fits : (width : ℕ) → 1 ≤ width → width ≤ 128 → IsWordOf width (zero_word width)
-zero_fits width some most = record { word = record { some = some; most = most; below = pow_pos width }; same_width = refl }
 
 -- a word more
 pub have_more : (us : List ℕ) (vs all : List Bits) (i u : ℕ) (v : Bits) → slice_get us i ≡ Some u → HaveWidths (take i us) vs → IsWordOf u v → all ≡ vs ++ v ∷ []
