@@ -16,17 +16,18 @@ use crate::loading::{Loaded, load};
 use crate::refusal::CompileFault;
 use crate::scheduling::{Compiled, scheduled};
 use crate::typing::typed;
-use bsv_io::Files;
+use bsv_io::{Files, Gate};
 use std::alloc::Global;
 use std::thread::Threads;
 
 /// What was loaded as a design with its guards, its schedule, its net and its Verilog, or the first refusal
 /// of typing, building and scheduling.
-pub fn compiled<R: Threads + Sync>(
+pub fn compiled<R: Threads + Sync, G: Gate + Sync>(
     rt: &R,
     alloc: Global,
     loaded: &Loaded,
     top: &str,
+    gate: &G,
 ) -> Result<Compiled, CompileFault>
     ensures compiled { IfOk result (λ c. CompilesTo loaded.now top.now c) }
     ensures runs { IfOk result BelongTogether }
@@ -35,7 +36,7 @@ pub fn compiled<R: Threads + Sync>(
 {
     let program = typed(alloc, loaded)?;
     let built = tree(alloc, program, top)?;
-    scheduled(rt, alloc, &built)
+    scheduled(rt, alloc, &built, gate)
 }
 
 /// The first file and what it imports, compiled: the design of the module `top`, with its guards, its
@@ -45,12 +46,13 @@ pub fn compiled<R: Threads + Sync>(
 /// is accepted exactly where none of the refusals 1 to 26 holds; else the answer is the first one: of
 /// loading (1 to 6 and 17, file by file), of typing (8, 11, 7, 9, 10), of building (12 to 17 and 26), and
 /// of scheduling (18, 21 to 25, 20, 19).
-pub fn compile<R: Threads + Sync, F: Files>(
+pub fn compile<R: Threads + Sync, F: Files, G: Gate + Sync>(
     rt: &R,
     alloc: Global,
     files: &mut F,
     name: &str,
     top: &str,
+    gate: &G,
 ) -> Result<Compiled, CompileFault>
     ensures compiled { IfOk result (λ c. (contents : List ℕ → List ℕ)
         → (F.reading files.old).contents ≡ Some contents
@@ -74,7 +76,7 @@ pub fn compile<R: Threads + Sync, F: Files>(
         → (F.reading files.new).faults ≡ (F.reading files.old).faults }
 {
     let loaded = load(alloc, files, name)?;
-    compiled(rt, alloc, &loaded, top)
+    compiled(rt, alloc, &loaded, top, gate)
 }
 
 /// What the files hold decides what is compiled: it is one tree with one schedule at most, and then nothing

@@ -39,6 +39,7 @@ use bsv_attr::{AttrFault, asserts, is_countable};
 use bsv_bits::{Name, OutOfMemory};
 use bsv_design::{Design, Element, Guards, NamedPart, Pair, Schedule, path_of};
 use bsv_fire::add_fire;
+use bsv_io::Gate;
 use bsv_mux::add_next;
 use bsv_net::Net;
 use bsv_schedule::{OrderFault, UrgencyFault, execution, schedule, urgency};
@@ -206,10 +207,11 @@ fn stopper_refusal(
 }
 
 /// The execution order of a design.
-fn executed<R: Threads + Sync>(
+fn executed<R: Threads + Sync, G: Gate + Sync>(
     rt: &R,
     alloc: Global,
     design: &Design,
+    gate: &G,
 ) -> Result<Items<u32>, CompileFault>
     ensures executes { IfOk result (λ order.
         Executes (related (design_subject design.now)) order) }
@@ -217,7 +219,7 @@ fn executed<R: Threads + Sync>(
         → IsUnexecuted (design_subject design.now) r }
     ensures own { (name : List ℕ) → result ≡ Err (ReadFault name) → ⊥ }
 {
-    match execution(rt, alloc, design) {
+    match execution(rt, alloc, design, gate) {
         Ok(order) => Ok(order),
         Err(fault) => Err(CompileFault::Refused(order_refusal(alloc, design, fault)?)),
     }
@@ -291,10 +293,11 @@ fn net_of(
 /// module, which carry the tree; or the first refusal of two calls of one element, of the two orders, or of the marks
 /// of rules.
 #[tactic(auto, using(crate::proofs::ScheduledTrees::executed_order, crate::proofs::ScheduledTrees::urged_order))]
-pub fn scheduled<R: Threads + Sync>(
+pub fn scheduled<R: Threads + Sync, G: Gate + Sync>(
     rt: &R,
     alloc: Global,
     tree: &Tree,
+    gate: &G,
 ) -> Result<Compiled, CompileFault>
     ensures compiled { IfOk result (λ c. spec.IsCompiledOf (tree_data tree.now) c) }
     ensures scheduled { IfOk result (λ c.
@@ -306,7 +309,7 @@ pub fn scheduled<R: Threads + Sync>(
     ensures own { (name : List ℕ) → result ≡ Err (ReadFault name) → ⊥ }
 {
     let (design, guards) = flat(alloc, tree)?;
-    let execution = executed(rt, alloc, &design)?;
+    let execution = executed(rt, alloc, &design, gate)?;
     let urgency = urged(alloc, &design)?;
     let schedule = schedule(alloc, &design, execution, urgency)?;
     asserted(alloc, &design, &schedule)?;

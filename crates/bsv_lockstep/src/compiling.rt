@@ -7,7 +7,7 @@ use anyhow::{Result, bail};
 use bsv_bits::{Name, OutOfMemory};
 use bsv_fire::add_fire;
 use bsv_flow::{Compiled, compile};
-use bsv_io::MemFiles;
+use bsv_io::{MemFiles, NoGate};
 use bsv_mux::add_next;
 use bsv_net::Net;
 use std::alloc::Global;
@@ -37,6 +37,7 @@ pub(crate) fn compiled_of<R: AllocGlobal + Threads + Sync>(rt: &R, case: &Case) 
         &mut files,
         first.as_str(),
         case.top.as_str(),
+        &NoGate,
     ) {
         Ok(found) => Ok(found),
         Err(_) => bail!("a design is refused"),

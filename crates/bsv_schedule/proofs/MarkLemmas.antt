@@ -1,18 +1,18 @@
--- What the rows of a table have marked, use by use and user by user.
-use Rattle.std.proofs.Common.{◌≡◌, ℕ, zero, suc, ◌<◌, inl, inr, Bool, List, [], ◌∷◌, ◌++◌, length, get_or, refl, sym, ap, subst, arith}
-use Rattle.std.proofs.lemmas.Bool.{and_from, and_parts, eq-eqb, eqb-true}
-use Rattle.std.proofs.lemmas.Option.{get_or_from_slice_get, slice_get_within}
-use Rattle.std.specs.Prelude.{All, IsTrue, ◌==◌, slice_get, slice_index_or}
-use Rattle.bsv_lemmas.proofs.Places.{item_there}
+-- What is marked in a row, use by use and user by user.
+use Rattle.std.proofs.Common.{◌≡◌, ◌∙◌, ℕ, zero, suc, ◌<◌, ◌+◌, ◌⊎◌, inl, inr, Bool, true, false, List, [], ◌∷◌, ◌++◌, length, get_or, replicate, remove, map, take, drop, Ok, refl, sym, ap, subst, arith, length-append, Some}
+use Rattle.std.proofs.lemmas.Bool.{and_from, and_parts, cases_eq, cases_lt, eq-eqb, eqb-true}
+use Rattle.std.proofs.Common.{append-nil, get_or-set_same, get_or-set_other}
+use Rattle.std.proofs.lemmas.List.{drop_all, length-set, take_all}
+use Rattle.std.proofs.lemmas.Option.{get_or_from_slice_get, same_Some, slice_get_within}
+use Rattle.std.specs.Prelude.{All, Result, IsTrue, ◌==◌, ◌↔◌, slice_get, slice_index_or, slice_set}
+use Rattle.bsv_lemmas.proofs.Places.{at_left, at_middle, item_there}
 use Rattle.bsv_design.specs.declared.kind.Kind.{Kind}
 use Rattle.bsv_design.specs.design.Bodies.{Target}
-use Rattle.bsv_graph.specs.declared.table.Table.{Table}
-use Rattle.bsv_graph.specs.Table.{Adds, side_of}
-use Rattle.bsv_graph.proofs.TableLemmas.{adds_then}
 use Rattle.bsv_schedule.specs.declared.relating.related.Relation.{Relation}
 use Rattle.bsv_schedule.specs.declared.relating.usage.Use.{Use}
 use Rattle.bsv_schedule.specs.declared.relating.usage.User.{User}
 use Rattle.bsv_schedule.specs.relating.Related.{names_method, on_one_part, related}
+use Rattle.bsv_schedule.specs.relating.Rows.{mark, AreMarks, AreMarksOf, Gains}
 use Rattle.bsv_schedule.specs.relating.Users.{users_at, AreUsers, IsUserOf, MeetsSome, MeetsUser}
 use Rattle.bsv_schedule.specs.relating.Uses.{AllNamed, Among, MeetAt, target_of, use_named, used}
 use Rattle.bsv_schedule.proofs.UsesLemmas.{all_has, among_left, among_map, among_parts, among_right, of_map}
@@ -22,48 +22,144 @@ among_read [] k d below = absurd (omega (arith, below))
 among_read (x ∷ xs) zero d below = inl refl
 among_read (x ∷ xs) (suc k) d below = inr (among_read xs k d (omega (arith, below)))
 
-module _ (w : Relation) (ks : List Kind) (a : ℕ) where
+-- no mark among copies of `false`
+none_marked : (n b : ℕ) → mark (replicate n false) b ≡ false
+none_marked zero b = refl
+none_marked (suc n) zero = refl
+none_marked (suc n) (suc b) = none_marked n b
+
+-- one item more
+pub each_more : {X : Type 0} (xs : List X) (x : X) (P : ℕ → X → Type 0) → ((a : ℕ) (y : X) → slice_get xs a ≡ Some y → P a y) → P (length xs) x
+    → (a : ℕ) (y : X) → slice_get (xs ++ x ∷ []) a ≡ Some y → P a y
+each_more xs x P before last a y is = elim (cases_lt a (length xs)) [
+  | inl less ↦ before a y (sym (at_left xs (x ∷ []) a less) ∙ is)
+  | inr more ↦
+      let below : a < length (xs ++ x ∷ []) = slice_get_within (xs ++ x ∷ []) a y is in
+      let at : a ≡ length xs = omega (arith, length-append xs (x ∷ [])) in
+      let same : x ≡ y = same_Some x y (sym (ap (slice_get (xs ++ x ∷ [])) at ∙ at_middle xs [] x) ∙ is) in
+      subst (λ z. P a z) same (subst (λ n. P n x) (sym at) last)
+]
+
+-- one result more is taken
+map_ok_more : {X E : Type 0} (xs : List X) (x : X) (rest : List (Result X E)) → map Ok (xs ++ x ∷ []) ++ rest ≡ map Ok xs ++ Ok x ∷ rest
+map_ok_more [] x rest = refl
+map_ok_more (y ∷ xs) x rest = ap (λ zs. Ok y ∷ zs) (map_ok_more xs x rest)
+
+pub one_taken : {X E : Type 0} (whole old new : List (Result X E)) (xs : List X) (x : X) → 0 < length old → Ok x ≡ get_or old 0 (Ok x) → new ≡ remove old 0
+    → whole ≡ map Ok xs ++ old → whole ≡ map Ok (xs ++ x ∷ []) ++ new
+one_taken whole [] new xs x some first rest before = absurd (omega (arith, some))
+one_taken whole (r ∷ old) new xs x some first rest before =
+    before ∙ (ap (λ q. map Ok xs ++ q ∷ old) (sym first) ∙ (sym (map_ok_more xs x old) ∙ ap (λ zs. map Ok (xs ++ x ∷ []) ++ zs) (sym rest)))
+
+-- one mark more
+pub mark_more : (xs : List Bool) (x : Bool) (n : ℕ) (f : ℕ → Bool) → length xs ≡ n → ((m : ℕ) → m < n → mark xs m ≡ f m) → x ≡ f n
+    → (m : ℕ) → m < n + 1 → mark (xs ++ x ∷ []) m ≡ f m
+mark_more [] x zero f long before last zero below = last
+mark_more [] x zero f long before last (suc m) below = absurd (omega (arith, below))
+mark_more [] x (suc n) f long before last m below = absurd (omega (arith, long))
+mark_more (y ∷ xs) x zero f long before last m below = absurd (omega (arith, long))
+mark_more (y ∷ xs) x (suc n) f long before last zero below = before 0 (omega arith)
+mark_more (y ∷ xs) x (suc n) f long before last (suc m) below =
+    mark_more xs x n (λ k. f (suc k)) (omega (arith, long)) (λ k p. before (suc k) (omega (arith, p))) last m (omega (arith, below))
+
+-- what is written back to the whole of a list
+pub written_back : (old new : List Bool) (n : ℕ) → n ≡ length old → length new ≡ length old → take n (new ++ drop (length new) old) ≡ new
+written_back old new n long same =
+    ap (take n) (ap (λ xs. new ++ xs) (drop_all (length new) old (omega (arith, same))) ∙ append-nil new) ∙ take_all n new (omega (arith, long, same))
+
+-- one step after another
+module _ (t0 t1 t2 : List Bool) (P Q R : ℕ → Type 0) where
+  pub gains_then : Gains t0 t1 P → Gains t1 t2 Q → ((b : ℕ) → R b → P b ⊎ Q b) → ((b : ℕ) → P b → R b) → ((b : ℕ) → Q b → R b) → Gains t0 t2 R
+  gains_then g h split first second = record {
+    count = h.count ∙ g.count;
+    kept = λ b p k. h.kept b (omega (arith, p, g.count)) (g.kept b p k);
+    added = λ b p r. elim (split b r) [
+      | inl x ↦ h.kept b (omega (arith, p, g.count)) (g.added b p x)
+      | inr x ↦ h.added b (omega (arith, p, g.count)) x
+    ];
+    only = λ b p k. elim (h.only b (omega (arith, p, g.count)) k) [
+      | inl y ↦ elim (g.only b p y) [ inl z ↦ inl z | inr z ↦ inr (first b z) ]
+      | inr y ↦ inr (second b y)
+    ];
+  }
+
+-- marks of which one step more is made
+pub marks_then : (n : ℕ) (old new : List Bool) (P Q R : ℕ → Type 0) → AreMarks n P old → Gains old new Q
+    → ((b : ℕ) → R b → P b ⊎ Q b) → ((b : ℕ) → P b → R b) → ((b : ℕ) → Q b → R b) → AreMarks n R new
+marks_then n old new P Q R are gains split first second = record {
+  count = gains.count ∙ are.count;
+  met = λ b p. (
+    λ h. elim (gains.only b (omega (arith, p, are.count)) h) [ inl x ↦ first b ((are.met b p).0 x) | inr x ↦ second b x ],
+    λ r. elim (split b r) [
+      | inl x ↦ gains.kept b (omega (arith, p, are.count)) ((are.met b p).1 x)
+      | inr x ↦ gains.added b (omega (arith, p, are.count)) x
+    ],
+  );
+}
+
+-- one mark
+pub one_gained : (old : List Bool) (a : ℕ) → a < length old → Gains old (slice_set old a true) (λ b. IsTrue true × (b ≡ a))
+one_gained old a within = record {
+  count = length-set old a true;
+  kept = λ b p h. elim (cases_eq b a) [
+    | inl e ↦ subst (λ x. IsTrue (mark (slice_set old a true) x)) (sym e) (get_or-set_same old a true false within)
+    | inr other ↦ get_or-set_other old a b true false other ∙ h
+  ];
+  added = λ b p h. subst (λ x. IsTrue (mark (slice_set old a true) x)) (sym h.1) (get_or-set_same old a true false within);
+  only = λ b p h. elim (cases_eq b a) [
+    | inl e ↦ inr (refl, e)
+    | inr other ↦ inl (sym (get_or-set_other old a b true false other) ∙ h)
+  ];
+}
+
+module _ (w : Relation) (ks : List Kind) where
   -- one user more
-  pub user_step : (t0 t1 t2 : Table) (own : Use) (us vs : List User) (u : User) (meets : Bool) → vs ≡ us ++ u ∷ []
+  pub user_step : (t0 t1 t2 : List Bool) (own : Use) (us vs : List User) (u : User) (meets : Bool) → vs ≡ us ++ u ∷ []
       → meets ≡ related w (slice_get ks own.part) own.method u.method
-      → Adds t0 t1 (λ x y. (x ≡ a) × MeetsUser w ks own us y) → Adds t1 t2 (λ x y. IsTrue meets × (x ≡ a) × (y ≡ u.element))
-      → Adds t0 t2 (λ x y. (x ≡ a) × MeetsUser w ks own vs y)
-  user_step t0 t1 t2 own us vs u meets is test before added = subst (λ xs. Adds t0 t2 (λ x y. (x ≡ a) × MeetsUser w ks own xs y)) (sym is)
-      (adds_then t0 t1 t2 (λ x y. (x ≡ a) × MeetsUser w ks own us y) (λ x y. IsTrue meets × (x ≡ a) × (y ≡ u.element))
-      (λ x y. (x ≡ a) × MeetsUser w ks own (us ++ u ∷ []) y) before added
-      (λ x y p q h. elim (among_parts us (u ∷ []) (record { element = y; method = h.1.0 }) h.1.1) [
-        | inl old ↦ inr (inl (h.0, (h.1.0, old, h.1.2)))
-        | inr (inl e) ↦ inr (inr (
-          subst IsTrue (sym test) (subst (λ m. IsTrue (related w (slice_get ks own.part) own.method m)) (ap (λ (v : User). v.method) e) h.1.2),
-          h.0,
+      → Gains t0 t1 (MeetsUser w ks own us) → Gains t1 t2 (λ y. IsTrue meets × (y ≡ u.element))
+      → Gains t0 t2 (MeetsUser w ks own vs)
+  user_step t0 t1 t2 own us vs u meets is test before added = subst (λ xs. Gains t0 t2 (MeetsUser w ks own xs)) (sym is)
+      (gains_then t0 t1 t2 (MeetsUser w ks own us) (λ y. IsTrue meets × (y ≡ u.element)) (MeetsUser w ks own (us ++ u ∷ [])) before added
+      (λ y h. elim (among_parts us (u ∷ []) (record { element = y; method = h.0 }) h.1) [
+        | inl old ↦ inl (h.0, old, h.2)
+        | inr (inl e) ↦ inr (
+          subst IsTrue (sym test) (subst (λ m. IsTrue (related w (slice_get ks own.part) own.method m)) (ap (λ (v : User). v.method) e) h.2),
           ap (λ (v : User). v.element) e,
-        ))
+        )
         | inr (inr none) ↦ absurd none
       ])
-      (λ x y p q h. inr (h.0, (h.1.0, among_left us (u ∷ []) (record { element = y; method = h.1.0 }) h.1.1, h.1.2)))
-      (λ x y p q h. inr (
-        h.1,
-        (
-          u.method,
-          among_right us (u ∷ []) (record { element = y; method = u.method }) (inl (λ i. record { element = h.2 i; method = u.method })),
-          subst IsTrue test h.0,
-        ),
+      (λ y h. (h.0, among_left us (u ∷ []) (record { element = y; method = h.0 }) h.1, h.2))
+      (λ y h. (
+        u.method,
+        among_right us (u ∷ []) (record { element = y; method = u.method }) (inl (λ i. record { element = h.1 i; method = u.method })),
+        subst IsTrue test h.0,
       )))
 
   -- one use more
-  pub use_step : (t0 t1 t2 : Table) (owns more : List Use) (own : Use) (users : List (List User)) → more ≡ owns ++ own ∷ []
-      → Adds t0 t1 (λ x y. (x ≡ a) × MeetsSome w ks owns users y) → Adds t1 t2 (λ x y. (x ≡ a) × MeetsUser w ks own (users_at users own.part) y)
-      → Adds t0 t2 (λ x y. (x ≡ a) × MeetsSome w ks more users y)
-  use_step t0 t1 t2 owns more own users is before added = subst (λ xs. Adds t0 t2 (λ x y. (x ≡ a) × MeetsSome w ks xs users y)) (sym is)
-      (adds_then t0 t1 t2 (λ x y. (x ≡ a) × MeetsSome w ks owns users y) (λ x y. (x ≡ a) × MeetsUser w ks own (users_at users own.part) y)
-      (λ x y. (x ≡ a) × MeetsSome w ks (owns ++ own ∷ []) users y) before added
-      (λ x y p q h. elim (among_parts owns (own ∷ []) h.1.0 h.1.1) [
-        | inl old ↦ inr (inl (h.0, (h.1.0, old, h.1.2)))
-        | inr (inl e) ↦ inr (inr (h.0, subst (λ (o : Use). MeetsUser w ks o (users_at users o.part) y) e h.1.2))
+  pub use_step : (n : ℕ) (old new : List Bool) (owns more : List Use) (own : Use) (users : List (List User)) → more ≡ owns ++ own ∷ []
+      → AreMarks n (MeetsSome w ks owns users) old → Gains old new (MeetsUser w ks own (users_at users own.part))
+      → AreMarks n (MeetsSome w ks more users) new
+  use_step n old new owns more own users is before added = subst (λ xs. AreMarks n (MeetsSome w ks xs users) new) (sym is)
+      (marks_then n old new (MeetsSome w ks owns users) (MeetsUser w ks own (users_at users own.part)) (MeetsSome w ks (owns ++ own ∷ []) users) before added
+      (λ y h. elim (among_parts owns (own ∷ []) h.0 h.1) [
+        | inl k ↦ inl (h.0, k, h.2)
+        | inr (inl e) ↦ inr (subst (λ (o : Use). MeetsUser w ks o (users_at users o.part) y) e h.2)
         | inr (inr none) ↦ absurd none
       ])
-      (λ x y p q h. inr (h.0, (h.1.0, among_left owns (own ∷ []) h.1.0 h.1.1, h.1.2)))
-      (λ x y p q h. inr (h.0, (own, among_right owns (own ∷ []) own (inl refl), h.1))))
+      (λ y h. (h.0, among_left owns (own ∷ []) h.0 h.1, h.2))
+      (λ y h. (own, among_right owns (own ∷ []) own (inl refl), h)))
+
+  -- without a use nothing is marked
+  pub none_met : (n : ℕ) (marks : List Bool) (users : List (List User)) → marks ≡ replicate n false → length marks ≡ n → AreMarks n (MeetsSome w ks [] users) marks
+  none_met n marks users is long = record {
+    count = long;
+    met = λ b p. (
+      λ h. let k : false ≡ true = sym (none_marked n b) ∙ subst (λ ms. IsTrue (mark ms b)) is h in absurd (falsehood k),
+      λ h. absurd h.1,
+    );
+  } where
+    falsehood : false ≡ true → ⊥
+    falsehood e = cc
 
 module _ (w : Relation) (ks : List Kind) (uses : List (List Use)) (users : List (List User)) (are : AreUsers uses users) where
   -- a user that one of the uses meets uses what the element meets
@@ -110,15 +206,12 @@ module _ (w : Relation) (ks : List Kind) (uses : List (List Use)) (users : List 
       )
 
   -- the marks of a row are those of the elements that it meets
-  pub row_met : (t0 t1 : Table) (a : ℕ) (owns : List Use) → side_of t0 ≡ length uses → owns ≡ slice_index_or uses a []
-      → Adds t0 t1 (λ x y. (x ≡ a) × MeetsSome w ks owns users y) → Adds t0 t1 (λ x y. (x ≡ a) × MeetAt w ks uses a y)
-  row_met t0 t1 a owns side is adds = record {
-    side = adds.side;
-    kept = adds.kept;
-    added = λ x y p q h. adds.added x y p q
-        (h.0, subst (λ us. MeetsSome w ks us users y) (sym is) (meets_some a y (subst (λ n. y < n) side q) h.1));
-    only = λ x y p q h. elim (adds.only x y p q h) [
-      | inl old ↦ inl old
-      | inr k ↦ inr (k.0, some_meets a y (subst (λ us. MeetsSome w ks us users y) is k.1))
-    ];
+  pub row_met : (a : ℕ) (owns : List Use) (marks : List Bool) → owns ≡ slice_index_or uses a []
+      → AreMarks (length uses) (MeetsSome w ks owns users) marks → AreMarksOf w ks uses a marks
+  row_met a owns marks is marked = record {
+    count = marked.count;
+    met = λ y p. (
+      λ h. some_meets a y (subst (λ us. MeetsSome w ks us users y) is ((marked.met y p).0 h)),
+      λ h. (marked.met y p).1 (subst (λ us. MeetsSome w ks us users y) (sym is) (meets_some a y p h)),
+    );
   }

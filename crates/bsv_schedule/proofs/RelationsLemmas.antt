@@ -1,8 +1,8 @@
 -- The tables and lists that the code makes of a design are how its elements relate.
-use Rattle.std.proofs.Common.{◌≡◌, ◌∙◌, ℕ, ◌<◌, ◌⊎◌, inl, inr, Bool, true, false, not, ◌&&◌, List, [], ◌∷◌, ◌++◌, length, map, refl, sym, ap, subst, Some, None, ltb-true}
+use Rattle.std.proofs.Common.{◌≡◌, ◌∙◌, ℕ, ◌<◌, ◌⊎◌, inl, inr, Bool, true, false, not, ◌&&◌, List, [], ◌∷◌, ◌++◌, length, map, zero, suc, refl, sym, ap, subst, Some, None, ltb-true}
 use Rattle.std.proofs.lemmas.Bool.{lt-ltb, eqb-true, and_parts, and_from}
 use Rattle.std.proofs.lemmas.List.{length-map}
-use Rattle.std.proofs.lemmas.Option.{get_or_from_slice_get, slice_get_within}
+use Rattle.std.proofs.lemmas.Option.{get_or_from_slice_get, same_Some, slice_get_within}
 use Rattle.bsv_bits.specs.declared.memory.OutOfMemory.{OutOfMemory}
 use Rattle.std.specs.Prelude.{IsTrue, IfOk, Result, Ok, Err, if◌then◌else◌, filter, nat_lt, ◌==◌, ◌↔◌, slice_get, slice_index_or, Option}
 use Rattle.std.specs.List.{list_all, list_any, flat_map}
@@ -30,7 +30,9 @@ use Rattle.bsv_graph.specs.Orders.{In}
 use Rattle.bsv_schedule.specs.relating.Relating.{Agrees, feed_edges}
 use Rattle.bsv_schedule.specs.relating.Relations.{relating_of, marked}
 use Rattle.bsv_graph.specs.Table.{side_of, at}
-use Rattle.bsv_schedule.specs.relating.Uses.{Among, AreUsages, Meets, MeetAt, UseSame, used, pair_below}
+use Rattle.bsv_schedule.specs.declared.relating.rows.Row.{Row}
+use Rattle.bsv_schedule.specs.relating.Rows.{mark_at, mark_of, marks_in, AreMarksOf, AreRows, IsRow, IsSquare}
+use Rattle.bsv_schedule.specs.relating.Uses.{Among, AreUsages, Meets, UseSame, used, pair_below}
 use Rattle.bsv_graph.specs.Walks.{HasEdge}
 use Rattle.bsv_schedule.proofs.DesignLemmas.{uses_some, uses_none, kinds_are, pairs_below}
 use Rattle.bsv_graph.proofs.EdgeLemmas.{all_within, in_below}
@@ -45,48 +47,79 @@ pub record IsSchemeOf (S : Scheme) (ks : List Kind) (es : List Element) : Type 0
   pub some : (n : ℕ) (e : Element) → slice_get es n ≡ Some e → S.uses n ≡ map target e.calls
   pub none : (n : ℕ) → slice_get es n ≡ None → S.uses n ≡ []
 
-module _ (S : Scheme) (ks : List Kind) (es : List Element) (us : List (List Use)) (scheme : IsSchemeOf S ks es) (are : AreUsages ks es us)
-    (w : Relation) (t : Table) (side : side_of t ≡ length us)
-    (marks : (a b : ℕ) → a < length us → b < length us → IsTrue (at t a b) ↔ MeetAt w ks us a b) where
+module _ (S : Scheme) (ks : List Kind) (es : List Element) (scheme : IsSchemeOf S ks es) where
   uses_element : (n : ℕ) (x : Target) → Among (S.uses n) x → (e : Element) × (slice_get es n ≡ Some e)
   uses_element n x h = of (slice_get es n) refl where
     of : (o : Option Element) → slice_get es n ≡ o → (e : Element) × (slice_get es n ≡ Some e)
     of None e = let k : Among [] x = subst (λ ts. Among ts x) (scheme.none n e) h in absurd k
     of (Some e) is = (e, is)
 
-  -- what is noted of an element is what the scheme says that it uses
-  uses_noted : (n : ℕ) → n < length us → UseSame (used (slice_index_or us n [])) (S.uses n)
-  uses_noted n below =
-      let own = item_there us n below in
-      let e = item_there es n (subst (λ count. n < count) are.count below) in
-      subst (λ xs. UseSame (used xs) (S.uses n)) (sym (get_or_from_slice_get us n own.0 [] own.1))
-      (subst (UseSame (used own.0)) (sym (scheme.some n e.0 e.1)) (are.same n e.0 own.0 e.1 own.1))
+  -- what uses something is an element
+  pub uses_within : (n : ℕ) (x : Target) → Among (S.uses n) x → n < length es
+  uses_within n x h = let e = uses_element n x h in slice_get_within es n e.0 e.1
 
-  turned : (xs ys : List Target) → UseSame xs ys → UseSame ys xs
-  turned xs ys same x = ((same x).1, (same x).0)
+  module _ (us : List (List Use)) (are : AreUsages ks es us) where
+    -- what is noted of an element is what the scheme says that it uses
+    uses_noted : (n : ℕ) → n < length us → UseSame (used (slice_index_or us n [])) (S.uses n)
+    uses_noted n below =
+        let own = item_there us n below in
+        let e = item_there es n (subst (λ count. n < count) are.count below) in
+        subst (λ xs. UseSame (used xs) (S.uses n)) (sym (get_or_from_slice_get us n own.0 [] own.1))
+        (subst (UseSame (used own.0)) (sym (scheme.some n e.0 e.1)) (are.same n e.0 own.0 e.1 own.1))
 
+    turned : (xs ys : List Target) → UseSame xs ys → UseSame ys xs
+    turned xs ys same x = ((same x).1, (same x).0)
+
+    -- what is marked of an element is what it meets by the scheme
+    row_is : (w : Relation) (a : ℕ) (marks : List Bool) → a < length us → AreMarksOf w ks us a marks → IsRow S (length us) w a marks
+    row_is w a marks la marked = record {
+      count = marked.count;
+      met = λ b lb. (
+        λ h. subst (λ k. Meets w k (S.uses a) (S.uses b)) (sym scheme.kinds)
+            (meets_same w ks _ _ (S.uses a) (S.uses b) (uses_noted a la) (uses_noted b lb) ((marked.met b lb).0 h)),
+        λ h. (marked.met b lb).1
+            (meets_same w ks (S.uses a) (S.uses b) _ _ (turned _ _ (uses_noted a la)) (turned _ _ (uses_noted b lb))
+            (subst (λ k. Meets w k (S.uses a) (S.uses b)) scheme.kinds h)),
+      );
+    }
+
+    pub rows_are : (rows : List Row) → length rows ≡ length us
+        → ((a : ℕ) (row : Row) → slice_get rows a ≡ Some row → (w : Relation) → AreMarksOf w ks us a (marks_in w row)) → AreRows S (length es) rows
+    rows_are rows long each = subst (λ n. AreRows S n rows) are.count (record {
+      count = long;
+      each = λ a row is w. row_is w a (marks_in w row) (subst (λ n. a < n) long (slice_get_within rows a row is)) (each a row is w);
+    })
+
+-- each row of a list of rows has a mark for each
+pub rows_square : (S : Scheme) (n : ℕ) (rows : List Row) → AreRows S n rows → IsSquare rows
+rows_square S n rows are a row is w = (are.each a row is w).count ∙ sym are.count
+
+-- what is marked in a list of rows
+pub mark_met : (S : Scheme) (n : ℕ) (rows : List Row) → AreRows S n rows → (w : Relation) (a b : ℕ) → a < n → b < n
+    → IsTrue (mark_at w rows a b) ↔ Meets w S.kinds (S.uses a) (S.uses b)
+mark_met S n rows are w a b la lb =
+    let row = item_there rows a (subst (λ k. a < k) (sym are.count) la) in
+    let met = (are.each a row.0 row.1 w).met b lb in (
+      λ h. met.0 (subst (λ o. IsTrue (mark_of w b o)) row.1 h),
+      λ h. subst (λ o. IsTrue (mark_of w b o)) (sym row.1) (met.1 h),
+    )
+
+module _ (S : Scheme) (n : ℕ) (within : (a : ℕ) (x : Target) → Among (S.uses a) x → a < n) (w : Relation) (t : Table) (side : side_of t ≡ n)
+    (marks : (a b : ℕ) → a < n → b < n → IsTrue (at t a b) ↔ Meets w S.kinds (S.uses a) (S.uses b)) where
   pub marked_meets : (a b : ℕ) → IsTrue (marked t a b) → Meets w S.kinds (S.uses a) (S.uses b)
   marked_meets a b h =
       let p = and_parts (nat_lt a (side_of t) && nat_lt b (side_of t)) (at t a b) h in
       let q = and_parts (nat_lt a (side_of t)) (nat_lt b (side_of t)) p.0 in
-      let la : a < length us = subst (λ n. a < n) side (ltb-true a (side_of t) q.0) in
-      let lb : b < length us = subst (λ n. b < n) side (ltb-true b (side_of t) q.1) in
-      subst (λ k. Meets w k (S.uses a) (S.uses b)) (sym scheme.kinds)
-      (meets_same w ks _ _ (S.uses a) (S.uses b) (uses_noted a la) (uses_noted b lb) ((marks a b la lb).0 p.1))
+      (marks a b (subst (λ k. a < k) side (ltb-true a (side_of t) q.0)) (subst (λ k. b < k) side (ltb-true b (side_of t) q.1))).0 p.1
 
   pub meets_marked : (a b : ℕ) → Meets w S.kinds (S.uses a) (S.uses b) → IsTrue (marked t a b)
   meets_marked a b h =
-      let d = uses_element a h.first h.in_first in
-      let e = uses_element b h.second h.in_second in
-      let la : a < length us = subst (λ n. a < n) (sym are.count) (slice_get_within es a d.0 d.1) in
-      let lb : b < length us = subst (λ n. b < n) (sym are.count) (slice_get_within es b e.0 e.1) in
-      let m : MeetAt w ks us a b =
-      meets_same w ks (S.uses a) (S.uses b) _ _ (turned _ _ (uses_noted a la)) (turned _ _ (uses_noted b lb))
-      (subst (λ k. Meets w k (S.uses a) (S.uses b)) scheme.kinds h) in
+      let la = within a h.first h.in_first in
+      let lb = within b h.second h.in_second in
       and_from (nat_lt a (side_of t) && nat_lt b (side_of t)) (at t a b)
-      (and_from (nat_lt a (side_of t)) (nat_lt b (side_of t)) (lt-ltb a (side_of t) (subst (λ n. a < n) (sym side) la))
-      (lt-ltb b (side_of t) (subst (λ n. b < n) (sym side) lb)))
-      ((marks a b la lb).1 m)
+      (and_from (nat_lt a (side_of t)) (nat_lt b (side_of t)) (lt-ltb a (side_of t) (subst (λ k. a < k) (sym side) la))
+      (lt-ltb b (side_of t) (subst (λ k. b < k) (sym side) lb)))
+      ((marks a b la lb).1 h)
 
 -- ---- pairs as edges
 
@@ -216,27 +249,70 @@ relating_same S r roles go feed preempt order urge =
       preempts = λ a b. preempt a b i;
     }
 
+-- what is known of each result that was made is known of each item
+of_made : {X E : Type 0} (made : List (Result X E)) (xs : List X) (P : ℕ → X → Type 0) → made ≡ map Ok xs
+    → ((i : ℕ) (r : Result X E) → i < length made → IfOk (slice_index_or made i r) (P i)) → (a : ℕ) (x : X) → slice_get xs a ≡ Some x → P a x
+of_made {X = X} {E = E} made xs P is each a x at =
+    subst (λ (r : Result X E). IfOk r (P a)) (read xs a at) (subst (λ (rs : List (Result X E)). IfOk (slice_index_or rs a (Ok x)) (P a)) is (each a (Ok x) (subst (λ (rs : List (Result X E)). a < length rs) (sym is) within))) where
+      results : List X → List (Result X E)
+      results ys = map Ok ys
+
+      within : a < length (results xs)
+      within = subst (λ n. a < n) (sym (length-map xs Ok)) (slice_get_within xs a x at)
+
+      read : (ys : List X) (k : ℕ) → slice_get ys k ≡ Some x → slice_index_or (results ys) k (Ok x) ≡ Ok x
+      read [] k e = refl
+      read (y ∷ ys) zero e = ap Ok (same_Some y x e)
+      read (y ∷ ys) (suc k) e = read ys k e
+
 -- what the parts of the relations of a design are
-module _ (d : Design) (ks : List Kind) (es : List Element) (us : List (List Use)) (kinds : ks ≡ kinds_of (design_data d)) (elements : es ≡ d.elements)
-    (are : AreUsages ks es us) where
-  scheme : IsSchemeOf (design_scheme (design_data d)) ks es
-  scheme = subst (λ k. IsSchemeOf (design_scheme (design_data d)) k es) (sym kinds) (subst (IsSchemeOf (design_scheme (design_data d)) (kinds_of (design_data d))) (sym elements) (scheme_of d))
+module _ (d : Design) where
+  scheme : IsSchemeOf (design_scheme (design_data d)) (kinds_of (design_data d)) d.elements
+  scheme = scheme_of d
 
-  pub many : length us ≡ length d.elements
-  many = are.count ∙ ap length elements
+  pub design_rows : (ks : List Kind) (es : List Element) (us : List (List Use)) (rows : List Row) → ks ≡ kinds_of (design_data d) → es ≡ d.elements
+      → AreUsages ks es us → length rows ≡ length us
+      → ((a : ℕ) (row : Row) → slice_get rows a ≡ Some row → (w : Relation) → AreMarksOf w ks us a (marks_in w row))
+      → AreRows (design_scheme (design_data d)) (length d.elements) rows
+  design_rows ks es us rows kinds elements are long each = subst (λ xs. AreRows (design_scheme (design_data d)) (length xs) rows) elements
+      (rows_are (design_scheme (design_data d)) ks es
+      (subst (λ k. IsSchemeOf (design_scheme (design_data d)) k es) (sym kinds) (subst (IsSchemeOf (design_scheme (design_data d)) (kinds_of (design_data d))) (sym elements) scheme))
+      us are rows long each)
 
-  module _ (t : Table) (side : side_of t ≡ length us) where
-    pub clashes_are : ((a b : ℕ) → a < length us → b < length us → IsTrue (at t a b) ↔ MeetAt relation.Clashes ks us a b)
+  pub made_rows : {V E : Type 0} (items : V → List Row) (found : Result V E) (ks : List Kind) (es : List Element) (us : List (List Use))
+      (made : List (Result Row E)) → ks ≡ kinds_of (design_data d) → es ≡ d.elements → AreUsages ks es us → length made ≡ length us
+      → ((i : ℕ) (r : Result Row E) → i < length made → IfOk (slice_index_or made i r) (λ row. (w : Relation) → AreMarksOf w ks us i (marks_in w row)))
+      → IfOk found (λ v. made ≡ map Ok (items v)) → IfOk found (λ v. AreRows (design_scheme (design_data d)) (length d.elements) (items v))
+  made_rows items (Err e) ks es us made kinds elements are long each h = h
+  made_rows items (Ok v) ks es us made kinds elements are long each h =
+      design_rows ks es us (items v) kinds elements are (sym (length-map (items v) Ok) ∙ (sym (ap length h) ∙ long))
+      (of_made made (items v) (λ a row. (w : Relation) → AreMarksOf w ks us a (marks_in w row)) h each)
+
+  module _ (rows : List Row) (are : AreRows (design_scheme (design_data d)) (length d.elements) rows) (t : Table) (side : side_of t ≡ length rows) where
+    marks_of : (w : Relation) → ((a b : ℕ) → a < length rows → b < length rows → IsTrue (at t a b) ↔ IsTrue (mark_at w rows a b))
+        → (a b : ℕ) → a < length d.elements → b < length d.elements
+        → IsTrue (at t a b) ↔ Meets w (design_scheme (design_data d)).kinds ((design_scheme (design_data d)).uses a) ((design_scheme (design_data d)).uses b)
+    marks_of w marks a b la lb =
+        let m = marks a b (subst (λ k. a < k) (sym are.count) la) (subst (λ k. b < k) (sym are.count) lb) in
+        let n = mark_met (design_scheme (design_data d)) (length d.elements) rows are w a b la lb in (
+          λ h. n.0 (m.0 h),
+          λ h. m.1 (n.1 h),
+        )
+
+    within : (a : ℕ) (x : Target) → Among ((design_scheme (design_data d)).uses a) x → a < length d.elements
+    within = uses_within (design_scheme (design_data d)) (kinds_of (design_data d)) d.elements scheme
+
+    pub clashes_are : ((a b : ℕ) → a < length rows → b < length rows → IsTrue (at t a b) ↔ IsTrue (mark_at relation.Clashes rows a b))
         → (a b : ℕ) → not (marked t a b) ≡ goes (design_scheme (design_data d)) a b
     clashes_are marks a b = goes_is (design_scheme (design_data d)) a b (marked t a b)
-        (marked_meets (design_scheme (design_data d)) ks es us scheme are relation.Clashes t side marks a b)
-        (meets_marked (design_scheme (design_data d)) ks es us scheme are relation.Clashes t side marks a b)
+        (marked_meets (design_scheme (design_data d)) (length d.elements) within relation.Clashes t (side ∙ are.count) (marks_of relation.Clashes marks) a b)
+        (meets_marked (design_scheme (design_data d)) (length d.elements) within relation.Clashes t (side ∙ are.count) (marks_of relation.Clashes marks) a b)
 
-    pub feeds_are : ((a b : ℕ) → a < length us → b < length us → IsTrue (at t a b) ↔ MeetAt relation.Feeds ks us a b)
+    pub feeds_are : ((a b : ℕ) → a < length rows → b < length rows → IsTrue (at t a b) ↔ IsTrue (mark_at relation.Feeds rows a b))
         → (a b : ℕ) → marked t a b ≡ feeds (design_scheme (design_data d)) a b
     feeds_are marks a b = feeds_is (design_scheme (design_data d)) a b (marked t a b)
-        (marked_meets (design_scheme (design_data d)) ks es us scheme are relation.Feeds t side marks a b)
-        (meets_marked (design_scheme (design_data d)) ks es us scheme are relation.Feeds t side marks a b)
+        (marked_meets (design_scheme (design_data d)) (length d.elements) within relation.Feeds t (side ∙ are.count) (marks_of relation.Feeds marks) a b)
+        (meets_marked (design_scheme (design_data d)) (length d.elements) within relation.Feeds t (side ∙ are.count) (marks_of relation.Feeds marks) a b)
 
 -- ---- edges look below the count alone
 

@@ -5,4 +5,5 @@ pub mod Relations
 pub mod Related
 pub mod Uses
 pub mod Users
+pub mod Rows
 pub mod Marks

@@ -24,7 +24,7 @@ use crate::stop::Stop;
 use bsv_bits::{Name, OutOfMemory, Word};
 use bsv_design::{Design, Kind, NamedPart};
 use bsv_flow::{Compiled, compile};
-use bsv_io::{Failed, Sink, SureFiles};
+use bsv_io::{Failed, NoGate, Sink, SureFiles};
 use bsv_prim::Primitive;
 use bsv_trace::registers_after;
 use itoa::Buffer;
@@ -190,7 +190,7 @@ fn made_summary<R: Threads + Sync>(rt: &R, alloc: Global, size: u32) -> Result<V
     ensures stopped { IfErr result (λ s. IsMadeStop size s) }
 {
     let mut files = made_files(alloc, size)?;
-    let compiled = compile(rt, alloc, &mut files, "made.bsv", "mkMade")?;
+    let compiled = compile(rt, alloc, &mut files, "made.bsv", "mkMade", &NoGate)?;
     let text = sum_up(alloc, size, compiled)?;
     Ok(text)
 }

@@ -13,7 +13,7 @@ ghost use Rattle.bsv_top.specs.declared.stop.Stop.{Stop as TheStop};
 use crate::form::{Planning, Product};
 use crate::stop::Stop;
 use bsv_flow::{Compiled, compile};
-use bsv_io::{Failed, Files, Sink};
+use bsv_io::{Failed, Files, NoGate, Sink};
 use bsv_trace::write_schedule;
 use bsv_vtext::write;
 use std::alloc::Global;
@@ -73,7 +73,7 @@ pub(crate) fn plan<R: Threads + Sync, F: Files, O: Sink>(
     ensures out_kept { (result ≡ Err Stop.Unwritable → ⊥)
         → (O.writing out.new).faults ≡ (O.writing out.old).faults }
 {
-    let compiled = compile(rt, alloc, files, form.file, form.top)?;
+    let compiled = compile(rt, alloc, files, form.file, form.top, &NoGate)?;
     match put_product(form.product, &compiled, out) {
         Ok(()) => Ok(()),
         Err(Failed) => Err(Stop::Unwritable),

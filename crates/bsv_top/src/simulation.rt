@@ -23,7 +23,7 @@ use crate::stop::Stop;
 use bsv_bits::{Name, OutOfMemory};
 use bsv_design::{Fired, Requests};
 use bsv_flow::{Compiled, compile};
-use bsv_io::{Failed, Files, Sink};
+use bsv_io::{Failed, Files, NoGate, Sink};
 use bsv_sim::Sim;
 use bsv_trace::{ClockWriter, write_opening_registers};
 use std::alloc::Global;
@@ -235,7 +235,7 @@ pub(crate) fn simulate<R: Threads + Sync, F: Files, O: Sink>(
     ensures out_kept { (result ≡ Err Stop.Unwritable → ⊥)
         → (O.writing out.new).faults ≡ (O.writing out.old).faults }
 {
-    let compiled = compile(rt, alloc, files, form.file, form.top)?;
+    let compiled = compile(rt, alloc, files, form.file, form.top, &NoGate)?;
     let mut started = start(alloc, compiled)?;
     run_over(
         alloc,

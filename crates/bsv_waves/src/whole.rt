@@ -8,7 +8,7 @@ use crate::recorder::Recorder;
 use crate::run::Run;
 use bsv_bits::{Name, OutOfMemory};
 use bsv_flow::{CompileFault, load, scheduled, tree, typed};
-use bsv_io::{Failed, Files, Sink};
+use bsv_io::{Failed, Files, NoGate, Sink};
 use bsv_page::Page;
 use bsv_tree::Tree;
 use bsv_vcd::Waves;
@@ -41,7 +41,7 @@ fn built<F: Files>(
 fn run_of<R: Threads + Sync>(rt: &R, alloc: Global, tree: &Tree) -> Result<Run, CompileFault>
     ensures { IfOk result FitsRun }
 {
-    let compiled = scheduled(rt, alloc, tree)?;
+    let compiled = scheduled(rt, alloc, tree, &NoGate)?;
     Ok(Run::new(alloc, compiled)?)
 }
 

@@ -2,7 +2,7 @@ use bsv_bits::OutOfMemory;
 use bsv_design::Design;
 use bsv_flow::{CompileFault, Loaded, Refusal, load, tree, typed};
 use bsv_inline::flatten;
-use bsv_io::{Files, Sink};
+use bsv_io::{Files, NoGate, Sink};
 use bsv_page::Page;
 use bsv_reasons::{
     put_behind_rule, put_execution_cycle, put_not_enabled, put_not_implicit, put_two_calls,
@@ -28,7 +28,7 @@ fn put_stopped<R: Threads + Sync, O: Sink + Drop>(
     element: &[u8],
     page: &mut Page<O>,
 ) -> Result<(), OutOfMemory> {
-    let Ok(order) = execution(rt, alloc, design) else {
+    let Ok(order) = execution(rt, alloc, design, &NoGate) else {
         return Err(OutOfMemory);
     };
     put_not_enabled(alloc, page, design, order.as_slice(), rule, element)

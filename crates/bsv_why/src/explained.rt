@@ -1,5 +1,5 @@
 use bsv_flow::{CompileFault, Compiled, compile};
-use bsv_io::{Files, Sink};
+use bsv_io::{Files, NoGate, Sink};
 use bsv_page::Page;
 use bsv_reasons::{put_dot, put_schedule};
 use std::alloc::Global;
@@ -40,7 +40,7 @@ pub fn graph<R: Threads + Sync, F: Files, O: Sink + Drop>(
     top: &str,
     page: &mut Page<O>,
 ) -> Result<(), CompileFault> {
-    let compiled = compile(rt, alloc, files, file, top)?;
+    let compiled = compile(rt, alloc, files, file, top, &NoGate)?;
     put_graph(alloc, &compiled, page)
 }
 
@@ -54,6 +54,6 @@ pub fn why<R: Threads + Sync, F: Files, O: Sink + Drop>(
     top: &str,
     page: &mut Page<O>,
 ) -> Result<(), CompileFault> {
-    let compiled = compile(rt, alloc, files, file, top)?;
+    let compiled = compile(rt, alloc, files, file, top, &NoGate)?;
     put_why(alloc, &compiled, page)
 }

@@ -14,6 +14,7 @@ use crate::execution_order::values::first_clash;
 use crate::relating::Relations;
 use bsv_design::{Attribute, Design, Pair};
 use bsv_graph::{Edge, Graph};
+use bsv_io::Gate;
 use sqlite_items::Items;
 use std::alloc::Global;
 use std::thread::Threads;
@@ -80,11 +81,13 @@ fn order_of(alloc: Global, relations: &Relations) -> Result<Items<u32>, OrderFau
 }
 
 /// The execution order of the elements: the least list, compared by positions, that respects the hard edges and those
-/// of the soft ones that are kept.
-pub fn execution<R: Threads + Sync>(
-    _rt: &R,
+/// of the soft ones that are kept. How an element relates to the others is found by a worker for each element, which passes the
+/// gate once, with the element's position.
+pub fn execution<R: Threads + Sync, G: Gate + Sync>(
+    rt: &R,
     alloc: Global,
     design: &Design,
+    gate: &G,
 ) -> Result<Items<u32>, OrderFault>
     ensures accepted { IfOk result (λ list.
         Executes (relating (design_scheme (design_data design.now))) list) }
@@ -94,6 +97,6 @@ pub fn execution<R: Threads + Sync>(
         → IsExecutionAnswer (relating (design_scheme (design_data design.now))) answer
         → IsExecutionUnlessMemory result answer }
 {
-    let relations = Relations::new(alloc, design)?;
+    let relations = Relations::in_parallel(rt, alloc, design, gate)?;
     order_of(alloc, &relations)
 }

@@ -7,18 +7,18 @@ ghost use Rattle.bsv_graph.specs.Edges.{AllBelow};
 ghost use Rattle.bsv_schedule.specs.relating.Elements as elements;
 ghost use Rattle.bsv_schedule.specs.relating.Elements.{relating};
 ghost use Rattle.bsv_graph.specs.Table.{side_of, at, Adds};
-ghost use Rattle.bsv_schedule.specs.relating.Related.{names_method};
-ghost use Rattle.bsv_schedule.specs.relating.Users.{AreUsers, IsUserOf, MeetsUser};
+ghost use Rattle.bsv_schedule.specs.relating.Rows.{mark, mark_at, AreRows, IsSquare};
 ghost use Rattle.bsv_schedule.specs.relating.Uses as spec;
 
-use crate::relating::related::{Relation, related};
-use crate::relating::usage::{Usages, Use, User};
-use crate::relating::uses::usages;
+use crate::relating::related::Relation;
+use crate::relating::rows::{Row, rows, rows_in_parallel};
 use bsv_bits::OutOfMemory;
-use bsv_design::{Attribute, Design, Element, NamedPart, Pair, Role};
+use bsv_design::{Attribute, Design, Element, Pair, Role};
 use bsv_graph::{Edge, Table, marked_edges};
+use bsv_io::Gate;
 use sqlite_items::Items;
 use std::alloc::{AllocError, Global};
+use std::thread::Threads;
 
 /// How the elements of a design relate.
 #[derive(Drop)]
@@ -58,65 +58,30 @@ fn mark_if(table: &mut Table, meets: bool, a: usize, b: usize)
     }
 }
 
-// The element's pairs with those users of a part that its use of the part meets are marked.
-fn mark_use(
-    table: &mut Table,
-    relation: Relation,
-    parts: &[NamedPart],
-    a: usize,
-    own: Use,
-    users: &[User],
-)
+// Row `a` gains these marks.
+fn copy_row(table: &mut Table, a: usize, marks: &[bool])
     requires row { a < side_of table.old }
-    requires own { IsTrue (names_method (map (λ p. p.kind) parts.now) own.part own.method) }
-    requires users { All
-        (IsUserOf (side_of table.old) (map (λ p. p.kind) parts.now) own.part) users.now }
-    ensures { Adds table.old table.new (λ x y. (x ≡ a)
-        × MeetsUser relation (map (λ p. p.kind) parts.now) own users.now y) }
+    requires count { length marks.now ≡ side_of table.old }
+    ensures { Adds table.old table.new
+        (λ x y. (x ≡ a) × IsTrue (mark marks.now y)) }
 {
-    for user in users {
-        let meets = related(relation, parts, own.part, own.method, user.method);
-        mark_if(table, meets, a, user.element as usize);
+    for b in 0..marks.len() {
+        mark_if(table, marks[b], a, b);
     }
 }
 
-// The pairs of the element `a` with those that it meets are marked.
-fn mark_row(table: &mut Table, relation: Relation, parts: &[NamedPart], usages: &Usages, a: usize)
-    requires row { a < length usages.now.by_element.items }
-    requires side { side_of table.old ≡ length usages.now.by_element.items }
-    requires named { spec.AllNamed
-        (map (λ p. p.kind) parts.now) usages.now.by_element.items }
-    requires users { AreUsers usages.now.by_element.items usages.now.by_part.items }
-    ensures { Adds table.old table.new (λ x y. (x ≡ a) × spec.MeetAt
-        relation (map (λ p. p.kind) parts.now) usages.now.by_element.items a y) }
-{
-    for own in usages.by_element[a].as_slice() {
-        mark_use(table, relation, parts, a, *own, usages.users(own.part));
-    }
-}
-
-// The pairs of elements that meet so are marked.
-fn table_of(
-    alloc: Global,
-    relation: Relation,
-    parts: &[NamedPart],
-    usages: &Usages,
-) -> Result<Table, OutOfMemory>
-    requires few { length usages.now.by_element.items < 2 ^ 32 }
-    requires named { spec.AllNamed
-        (map (λ p. p.kind) parts.now) usages.now.by_element.items }
-    requires users { AreUsers usages.now.by_element.items usages.now.by_part.items }
-    ensures side { IfOk result (λ table.
-        side_of table ≡ length usages.now.by_element.items) }
+// The marks of the rows as a table.
+fn table_of(alloc: Global, relation: Relation, rows: &[Row]) -> Result<Table, OutOfMemory>
+    requires few { length rows.now < 2 ^ 32 }
+    requires square { IsSquare rows.now }
+    ensures side { IfOk result (λ table. side_of table ≡ length rows.now) }
     ensures marked { IfOk result (λ table. (a b : ℕ)
-        → a < length usages.now.by_element.items → b < length usages.now.by_element.items
-        → IsTrue (at table a b) ↔ spec.MeetAt
-        relation (map (λ p. p.kind) parts.now) usages.now.by_element.items a b) }
+        → a < length rows.now → b < length rows.now
+        → IsTrue (at table a b) ↔ IsTrue (mark_at relation rows.now a b)) }
 {
-    let count = usages.by_element.len();
-    let mut table = Table::new(alloc, count)?;
-    for a in 0..count {
-        mark_row(&mut table, relation, parts, usages, a);
+    let mut table = Table::new(alloc, rows.len())?;
+    for a in 0..rows.len() {
+        copy_row(&mut table, a, rows[a].marks(relation));
     }
     Ok(table)
 }
@@ -187,19 +152,19 @@ impl Relations {
     ghost use Rattle.bsv_schedule.specs.relating.Relating.{Agrees};
     ghost use Rattle.bsv_schedule.specs.relating.Relations.{relating_of, count_of};
 
-    /// How the elements of the design relate.
-    pub fn new(alloc: Global, design: &Design) -> Result<Relations, OutOfMemory>
+    // How the elements of a design of these rows relate.
+    fn of_rows(alloc: Global, design: &Design, rows: &[Row]) -> Result<Relations, OutOfMemory>
+        requires rows { AreRows
+            (design_scheme (design_data design.now)) (length design.now.elements) rows.now }
         ensures relating { IfOk result (λ relations.
             relating_of relations ≡ relating (design_scheme (design_data design.now))) }
         ensures agrees { IfOk result (λ relations. Agrees (relating_of relations)) }
     {
-        let parts = design.parts.as_slice();
-        let elements = design.elements.as_slice();
         let pairs = design.pairs.as_slice();
+        let elements = design.elements.as_slice();
         let roles = roles(alloc, elements)?;
-        let usages = usages(alloc, parts, elements)?;
-        let clashes = table_of(alloc, Relation::Clashes, parts, &usages)?;
-        let feeds = table_of(alloc, Relation::Feeds, parts, &usages)?;
+        let clashes = table_of(alloc, Relation::Clashes, rows)?;
+        let feeds = table_of(alloc, Relation::Feeds, rows)?;
         let preempts = preempts_of(alloc, roles.len(), pairs)?;
         let ordering = listed(alloc, true, pairs)?;
         let urging = listed(alloc, false, pairs)?;
@@ -211,6 +176,31 @@ impl Relations {
             ordering,
             urging,
         })
+    }
+
+    /// How the elements of the design relate.
+    pub fn new(alloc: Global, design: &Design) -> Result<Relations, OutOfMemory>
+        ensures relating { IfOk result (λ relations.
+            relating_of relations ≡ relating (design_scheme (design_data design.now))) }
+        ensures agrees { IfOk result (λ relations. Agrees (relating_of relations)) }
+    {
+        let rows = rows(alloc, design)?;
+        Relations::of_rows(alloc, design, rows.as_slice())
+    }
+
+    /// The same by a worker for each element, which passes the gate once, with the element's position.
+    pub fn in_parallel<R: Threads + Sync, G: Gate + Sync>(
+        rt: &R,
+        alloc: Global,
+        design: &Design,
+        gate: &G,
+    ) -> Result<Relations, OutOfMemory>
+        ensures relating { IfOk result (λ relations.
+            relating_of relations ≡ relating (design_scheme (design_data design.now))) }
+        ensures agrees { IfOk result (λ relations. Agrees (relating_of relations)) }
+    {
+        let rows = rows_in_parallel(rt, alloc, design, gate)?;
+        Relations::of_rows(alloc, design, rows.as_slice())
     }
 
     /// How many elements there are.

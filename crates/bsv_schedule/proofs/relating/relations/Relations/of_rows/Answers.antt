@@ -7,22 +7,15 @@ use Rattle.bsv_graph.specs.Edges.{AllBelow}
 use Rattle.bsv_schedule.specs.relating.Elements.{edges_of, is_ordering, is_urging, preempts}
 use Rattle.bsv_schedule.specs.relating.Relating.{Agrees}
 use Rattle.bsv_schedule.specs.relating.Uses.{pair_below}
-use Rattle.bsv_design.proofs.Named.{calls_named}
 use Rattle.bsv_schedule.proofs.DesignLemmas.{few_elements, pairs_below}
-use Rattle.bsv_schedule.proofs.RelationsLemmas.{many, clashes_are, feeds_are, marked_preempts, relating_same, roles_are, pairs_are, agrees_design, edges_below}
-use Rattle.bsv_schedule.proofs.relating.relations.Relations.new.Goals as goal
-
-pub usages-requires-clause-named : goal.usages-requires-clause-named
-usages-requires-clause-named c =
-    rw c.as_slice-parts.ensures (rw c.as_slice-elements.ensures (calls_named c.args.design.now))
-
-pub usages-requires-clause-few : goal.usages-requires-clause-few
-usages-requires-clause-few c = rw c.as_slice-elements.ensures (few_elements c.args.design.now)
+use Rattle.bsv_schedule.proofs.RelationsLemmas.{rows_square, clashes_are, feeds_are, marked_preempts, relating_same, roles_are, pairs_are, agrees_design, edges_below}
+use Rattle.bsv_schedule.proofs.relating.relations.Relations.of_rows.Goals as goal
 
 pub table_of-requires-clause-few : goal.table_of-requires-clause-few
-table_of-requires-clause-few c =
-    let n = many c.args.design.now _ _ _ (ap (map (λ p. p.kind)) c.as_slice-parts.ensures) c.as_slice-elements.ensures c.in_ok-usages.ensures.uses in
-    rw n (few_elements c.args.design.now)
+table_of-requires-clause-few c = rw c.requires.rows.count (few_elements c.args.design.now)
+
+pub table_of-requires-clause-square : goal.table_of-requires-clause-square
+table_of-requires-clause-square c = rows_square _ _ c.args.rows.now c.requires.rows
 
 pub preempts_of-requires-clause-below : goal.preempts_of-requires-clause-below
 preempts_of-requires-clause-below c =
@@ -32,14 +25,12 @@ preempts_of-requires-clause-below c =
 pub invariant_of-result : goal.invariant_of-result
 invariant_of-result c =
     let d = c.args.design.now in
-    let kinds = ap (map (λ p. p.kind)) c.as_slice-parts.ensures in
     let n : length c.in_ok-roles.roles ≡ length d.elements = ap length c.in_ok-roles.ensures ∙ (length-map _ _ ∙ ap length c.as_slice-elements.ensures) in
-    let m : length c.in_ok-usages.usages.by_element.items ≡ length d.elements = many d _ _ _ kinds c.as_slice-elements.ensures c.in_ok-usages.ensures.uses in
     let below : IsTrue (list_all (pair_below (length c.in_ok-roles.roles)) c.as_slice-pairs.result.now) = rw (n, c.as_slice-pairs.ensures) (pairs_below d) in
     record {
       few = rw n (few_elements d);
-      clashes_side = c.in_ok-clashes.ensures.side ∙ (m ∙ sym n);
-      feeds_side = c.in_ok-feeds.ensures.side ∙ (m ∙ sym n);
+      clashes_side = c.in_ok-clashes.ensures.side ∙ (c.requires.rows.count ∙ sym n);
+      feeds_side = c.in_ok-feeds.ensures.side ∙ (c.requires.rows.count ∙ sym n);
       preempts_side = c.in_ok-preempts.ensures.side ∙ c.len.ensures;
       ordering_below = subst (AllBelow (length c.in_ok-roles.roles)) (sym c.in_ok-ordering.ensures)
           (edges_below is_ordering (length c.in_ok-roles.roles) c.as_slice-pairs.result.now below);
@@ -51,16 +42,13 @@ pub returns-clause-relating : goal.returns-clause-relating
 returns-clause-relating c =
     let d = c.args.design.now in
     let S = design_scheme (design_data d) in
-    let kinds = ap (map (λ p. p.kind)) c.as_slice-parts.ensures in
     let n : c.len.result ≡ length d.elements = c.len.ensures ∙ (ap length c.in_ok-roles.ensures ∙ (length-map _ _ ∙ ap length c.as_slice-elements.ensures)) in
     let below : IsTrue (list_all (pair_below c.len.result) c.as_slice-pairs.result.now) = rw (n, c.as_slice-pairs.ensures) (pairs_below d) in
     let pairs = c.as_slice-pairs.ensures ∙ pairs_are d in
     relating_same S _
     (c.in_ok-roles.ensures ∙ (ap (map (λ e. e.role)) c.as_slice-elements.ensures ∙ roles_are d))
-    (clashes_are d _ _ _ kinds c.as_slice-elements.ensures c.in_ok-usages.ensures.uses
-    c.in_ok-clashes.clashes c.in_ok-clashes.ensures.side c.in_ok-clashes.ensures.marked)
-    (feeds_are d _ _ _ kinds c.as_slice-elements.ensures c.in_ok-usages.ensures.uses
-    c.in_ok-feeds.feeds c.in_ok-feeds.ensures.side c.in_ok-feeds.ensures.marked)
+    (clashes_are d c.args.rows.now c.requires.rows c.in_ok-clashes.clashes c.in_ok-clashes.ensures.side c.in_ok-clashes.ensures.marked)
+    (feeds_are d c.args.rows.now c.requires.rows c.in_ok-feeds.feeds c.in_ok-feeds.ensures.side c.in_ok-feeds.ensures.marked)
     (λ a b. marked_preempts c.in_ok-preempts.preempts c.len.result c.as_slice-pairs.result.now c.in_ok-preempts.ensures.side below c.in_ok-preempts.ensures.marked a b
     ∙ ap (list_any (preempts a b)) pairs)
     (c.in_ok-ordering.ensures ∙ ap (edges_of is_ordering) pairs)

@@ -1,15 +1,15 @@
-use Rattle.std.proofs.Common.{◌≡◌, ◌∙◌, ◌+◌, [], IsTrue, map, subst, sym, take}
+use Rattle.std.proofs.Common.{◌≡◌, ◌∙◌, ◌+◌, [], IsTrue, length, map, subst, sym, take}
 use Rattle.std.proofs.lemmas.List.{get_or_read, take_all, take_more}
 use Rattle.std.proofs.lemmas.Option.{slice_get-get_or}
 use Rattle.std.specs.List.{list_all}
 use Rattle.std.specs.Prelude.{slice_index_or}
-use Rattle.bsv_graph.specs.Table.{Adds}
 use Rattle.bsv_schedule.specs.declared.relating.usage.Use.{Use}
+use Rattle.bsv_schedule.specs.relating.Rows.{AreMarks, Gains}
 use Rattle.bsv_schedule.specs.relating.Users.{MeetsSome, MeetsUser}
 use Rattle.bsv_schedule.specs.relating.Uses.{use_named}
-use Rattle.bsv_schedule.proofs.MarkLemmas.{among_read, row_met, use_step, users_within}
+use Rattle.bsv_schedule.proofs.MarkLemmas.{among_read, none_met, row_met, use_step, users_within, written_back}
 use Rattle.bsv_schedule.proofs.UsesLemmas.{all_has}
-use Rattle.bsv_schedule.proofs.relating.relations.mark_row.Goals as goal
+use Rattle.bsv_schedule.proofs.relating.rows.marks_of.Goals as goal
 
 pub mark_use-requires-clause-own : goal.mark_use-requires-clause-own
 mark_use-requires-clause-own c =
@@ -23,23 +23,31 @@ mark_use-requires-clause-own c =
 
 pub mark_use-requires-clause-users : goal.mark_use-requires-clause-users
 mark_use-requires-clause-users c =
+    let long : length c.deref_mut.result.now ≡ length c.args.usages.now.by_element.items = rw c.deref_mut.ensures.value c.loop-own.invariant.count in
     users_within c.args.relation (map (λ p. p.kind) c.args.parts.now) c.args.usages.now.by_element.items c.args.usages.now.by_part.items c.requires.users
-    c.requires.named _ _ c.users.result.now (c.loop-own.invariant.side ∙ c.requires.side) c.users.ensures
+    c.requires.named _ _ c.users.result.now long c.users.ensures
 
 pub loop-own-preserved : goal.loop-own-preserved
 loop-own-preserved c =
     let ks = map (λ p. p.kind) c.args.parts.now in
     let uses = c.args.usages.now.by_element.items in
+    let count = length uses in
     let owns = c.as_slice-own-items.result.now in
     let users = c.args.usages.now.by_part.items in
     let i = c.loop-own.own-index in
+    let old = c.loop-own.marks.items in
+    let new = c.mark_use.new.marks in
     let is : owns ≡ slice_index_or uses c.args.a [] = c.as_slice-own-items.ensures ∙ get_or_read uses _ _ c.requires.row c.index.ensures [] in
     let own : Use = slice_index_or owns i (record { part = 0; method = 0 }) in
-    let before = subst (λ us. Adds c.args.table.now c.loop-own.table (λ x y. (x ≡ c.args.a) × MeetsSome c.args.relation ks (take i us) users y)) (sym is) c.loop-own.invariant in
-    let met = subst (λ us. Adds c.loop-own.table c.mark_use.new.table (λ x y. (x ≡ c.args.a) × MeetsUser c.args.relation ks own us y)) c.users.ensures c.mark_use.ensures in
-    subst (λ us. Adds c.args.table.now c.mark_use.new.table (λ x y. (x ≡ c.args.a) × MeetsSome c.args.relation ks (take (i + 1) us) users y)) is
-    (use_step c.args.relation ks c.args.a c.args.table.now c.loop-own.table c.mark_use.new.table (take i owns) (take (i + 1) owns) own users
-    (take_more owns i (record { part = 0; method = 0 }) c.loop-own-test.true) before met)
+    let before = subst (λ us. AreMarks count (MeetsSome c.args.relation ks (take i us) users) old) (sym is) c.loop-own.invariant in
+    let gains : Gains old new (MeetsUser c.args.relation ks own c.users.result.now) =
+    subst (λ xs. Gains xs new (MeetsUser c.args.relation ks own c.users.result.now)) c.deref_mut.ensures.value c.in_ok-mark_use.ensures.gains in
+    let met = subst (λ us. Gains old new (MeetsUser c.args.relation ks own us)) c.users.ensures gains in
+    let back = written_back old new c.loop-own.marks.len c.loop-own.marks.ok.0 gains.count in
+    subst (AreMarks count (MeetsSome c.args.relation ks (take (i + 1) (slice_index_or uses c.args.a [])) users)) (sym back)
+    (subst (λ us. AreMarks count (MeetsSome c.args.relation ks (take (i + 1) us) users) new) is
+    (use_step c.args.relation ks count old new (take i owns) (take (i + 1) owns) own users
+    (take_more owns i (record { part = 0; method = 0 }) c.loop-own-test.true) before met))
 
 pub returns : goal.returns
 returns c =
@@ -50,4 +58,4 @@ returns c =
     let is : owns ≡ slice_index_or uses c.args.a [] = c.as_slice-own-items.ensures ∙ get_or_read uses _ _ c.requires.row c.index.ensures [] in
     let all : take c.loop-own.own-index (slice_index_or uses c.args.a []) ≡ slice_index_or uses c.args.a [] =
     subst (λ us. take c.loop-own.own-index us ≡ us) is (take_all c.loop-own.own-index owns c.loop-own-test.false) in
-    row_met c.args.relation ks uses users c.requires.users c.args.table.now c.loop-own.table c.args.a _ c.requires.side all c.loop-own.invariant
+    row_met c.args.relation ks uses users c.requires.users c.args.a _ c.loop-own.marks.items all c.loop-own.invariant
