@@ -19,13 +19,14 @@ use Rattle.bsv_top.specs.Answers as a
 use Rattle.bsv_top.specs.Answers.{Answer, HasAnswer, sim_words, trace_fault_line}
 use Rattle.bsv_top.specs.LaidOut.{IsLaidOut}
 use Rattle.bsv_top.specs.Outcomes.{OutputStarted, started}
-use Rattle.bsv_top.specs.Reports.{report, state_after}
-use Rattle.bsv_top.specs.Running.{IsStarted}
-use Rattle.bsv_top.specs.Traces.{AreAsked, AreAskedToBad, IsClean, lines_of}
-use Rattle.bsv_top.proofs.Asked.{Verdict, asked_append, bad_append, total, verdict}
+use Rattle.bsv_run.specs.Reports.{report, state_after}
+use Rattle.bsv_run.specs.Running.{IsStarted}
+use Rattle.bsv_run.specs.Traces.{AreAsked, AreAskedToBad, lines_of}
+use Rattle.bsv_top.specs.Traces.{IsClean, trace_limit}
+use Rattle.bsv_run.proofs.Asked.{Verdict, asked_append, bad_append, total, verdict}
 use Rattle.bsv_top.proofs.Grounds as grounds
-use Rattle.bsv_top.proofs.Happening.{Goes, rows_fit, some_run}
-use Rattle.bsv_top.proofs.Runs.{started_further, continues_append}
+use Rattle.bsv_run.proofs.Happening.{Goes, rows_fit, some_run}
+use Rattle.bsv_run.proofs.Runs.{started_further, continues_append}
 
 module _ (words : List (List ℕ)) (contents : List ℕ → List ℕ) (file top trace : List ℕ) (spelled : words ≡ sim_words file top trace)
     (tree : TreeData) (made : Schedule) (planned : IsPlanned file contents top tree made) (laid : IsLaidOut tree) where
@@ -44,10 +45,10 @@ module _ (words : List (List ℕ)) (contents : List ℕ → List ℕ) (file top 
   well : IsWellClocked S made
   well = grounds.clocked_here tree made laid.design laid.alike planned.planned.scheduled
 
-  all_fit : (start : ℕ) (lines : List (List ℕ)) (qs : List Asking) → AreAsked S.elements start lines qs → AllFit S qs
+  all_fit : (start : ℕ) (lines : List (List ℕ)) (qs : List Asking) → AreAsked trace_limit S.elements start lines qs → AllFit S qs
   all_fit = grounds.all_fit tree made laid.design laid.alike planned.planned.scheduled
 
-  all_fit_to_bad : (start : ℕ) (lines : List (List ℕ)) (qs : List Asking) → AreAskedToBad S.elements start lines qs → AllFit S qs
+  all_fit_to_bad : (start : ℕ) (lines : List (List ℕ)) (qs : List Asking) → AreAskedToBad trace_limit S.elements start lines qs → AllFit S qs
   all_fit_to_bad = grounds.all_fit_to_bad tree made laid.design laid.alike planned.planned.scheduled
 
   -- from each state that fits the run goes on
@@ -62,7 +63,7 @@ module _ (words : List (List ℕ)) (contents : List ℕ → List ℕ) (file top 
     pub text : List ℕ
     pub answer : Answer words contents decided (report (subject tree) (rows ++ more)) text
 
-  module _ (front rest : List (List ℕ)) (qs : List Asking) (rows : List Row) (lines : lines_of (contents trace) ≡ front ++ rest) (asked : AreAsked S.elements 0 front qs)
+  module _ (front rest : List (List ℕ)) (qs : List Asking) (rows : List Row) (lines : lines_of (contents trace) ≡ front ++ rest) (asked : AreAsked trace_limit S.elements 0 front qs)
       (runs : Runs false S made qs rows) where
     abbrev end : ℕ
     end = total front
@@ -76,7 +77,7 @@ module _ (words : List (List ℕ)) (contents : List ℕ → List ℕ) (file top 
     whole : (rs : List Asking) (more : List Row) → Continues false S made (state_after from rows) rs more → Runs false S made (qs ++ rs) (rows ++ more)
     whole rs more h = continues_append false S made from qs rs rows more runs h
 
-    ends_by : Verdict S.elements (grounds.methods_here tree made laid.design laid.alike planned.planned.scheduled) end rest → Ends rows
+    ends_by : Verdict trace_limit S.elements (grounds.methods_here tree made laid.design laid.alike planned.planned.scheduled) end rest → Ends rows
     ends_by (Verdict.clean rs h) =
         let further = behind rs (all_fit end rest rs h) in
         record {
@@ -84,7 +85,7 @@ module _ (words : List (List ℕ)) (contents : List ℕ → List ℕ) (file top 
           more = further.rows;
           text = [];
           answer = a.Answer.done tree made (qs ++ rs) (rows ++ further.rows) spelled planned laid well
-              (subst (λ (ls : List (List ℕ)). AreAsked S.elements 0 ls (qs ++ rs)) (sym lines) (asked_append S.elements 0 end front rest qs rs there asked h))
+              (subst (λ (ls : List (List ℕ)). AreAsked trace_limit S.elements 0 ls (qs ++ rs)) (sym lines) (asked_append trace_limit S.elements 0 end front rest qs rs there asked h))
               (whole rs further.rows further.continues);
         }
     ends_by (Verdict.bad rs h) =
@@ -94,15 +95,15 @@ module _ (words : List (List ℕ)) (contents : List ℕ → List ℕ) (file top 
           more = further.rows;
           text = trace_fault_line (length (qs ++ rs) + 1);
           answer = a.Answer.trace_fault tree made (qs ++ rs) (rows ++ further.rows) spelled planned laid well
-              (subst (λ (ls : List (List ℕ)). AreAskedToBad S.elements 0 ls (qs ++ rs)) (sym lines) (bad_append S.elements 0 end front rest qs rs there asked h))
+              (subst (λ (ls : List (List ℕ)). AreAskedToBad trace_limit S.elements 0 ls (qs ++ rs)) (sym lines) (bad_append trace_limit S.elements 0 end front rest qs rs there asked h))
               (whole rs further.rows further.continues);
         }
 
     pub ends : Ends rows
-    ends = ends_by (verdict S.elements (grounds.methods_here tree made laid.design laid.alike planned.planned.scheduled) end rest)
+    ends = ends_by (verdict trace_limit S.elements (grounds.methods_here tree made laid.design laid.alike planned.planned.scheduled) end rest)
 
   -- what was put of its report
-  pub started_output : (start w : Writing) → IsStarted (subject tree) made start (contents trace) w → OutputStarted words contents start w
+  pub started_output : (start w : Writing) → IsStarted trace_limit (subject tree) made start (contents trace) w → OutputStarted words contents start w
   started_output start w h =
       let all = ends h.front h.rest h.qs h.rows h.lines h.asked h.runs in
       started all.text all.answer (started_further (subject tree) h.rows all.more start w h.prefix)

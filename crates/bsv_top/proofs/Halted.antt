@@ -2,8 +2,8 @@
 use Rattle.std.proofs.Common.{◌≡◌, ◌∙◌, ℕ, List, Result, Err, refl, sym, ap}
 use Rattle.bsv_lemmas.proofs.Choices.{same_err}
 use Rattle.bsv_flow.specs.declared.refusal.Refusal.{Refusal}
-use Rattle.bsv_top.specs.declared.halt.Halt.{Halt}
-use Rattle.bsv_top.specs.declared.halt.Halt.TheVariants as halt
+use Rattle.bsv_run.specs.declared.halt.Halt.{Halt}
+use Rattle.bsv_run.specs.declared.halt.Halt.TheVariants as halt
 use Rattle.bsv_top.specs.declared.stop.Stop.{Stop}
 use Rattle.bsv_top.specs.declared.stop.Stop.TheVariants as stop
 use Rattle.bsv_top.specs.Stops.{stop_for}

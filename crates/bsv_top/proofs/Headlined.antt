@@ -22,9 +22,10 @@ use Rattle.bsv_top.specs.Headline.{Headline, IsRunOver}
 use Rattle.bsv_top.specs.LaidOut.{IsLaidOut}
 use Rattle.bsv_top.specs.Outcomes.{Accepts, IsAccepted}
 use Rattle.bsv_top.specs.Stops.{IsStopOf, status_of}
-use Rattle.bsv_top.specs.Traces.{IsClean, lines_of}
+use Rattle.bsv_run.specs.Traces.{lines_of}
+use Rattle.bsv_top.specs.Traces.{IsClean}
 use Rattle.bsv_top.proofs.Grounds as grounds
-use Rattle.bsv_top.proofs.Happening.{some_run}
+use Rattle.bsv_run.proofs.Happening.{some_run}
 use Rattle.bsv_top.proofs.Spelled.{same_asked}
 use Rattle.bsv_io.specs.Writing.{Writing}
 

@@ -20,10 +20,11 @@ use Rattle.bsv_clock.proofs.HappenAlike.{happens_to}
 use Rattle.bsv_clock.specs.Subjects.{Subject, design_subject, outline_name}
 use Rattle.bsv_guard.proofs.Alike.{alike_back}
 use Rattle.bsv_flow.specs.Schedulings.{subject}
-use Rattle.bsv_top.specs.Reports.{report, clocks_text}
-use Rattle.bsv_top.specs.Interrupted.{IsInterrupted, IsReportTo}
-use Rattle.bsv_top.specs.Running.{IsStarted, IsDone, IsFaulty}
-use Rattle.bsv_top.specs.Traces.{AreAsked, IsClean, HasBadLine}
+use Rattle.bsv_run.specs.Reports.{report, clocks_text}
+use Rattle.bsv_run.specs.Interrupted.{IsInterrupted, IsReportTo}
+use Rattle.bsv_run.specs.Running.{IsStarted, IsDone, IsFaulty}
+use Rattle.bsv_run.specs.Traces.{AreAsked, IsClean, HasBadLine}
+use Rattle.bsv_top.specs.Traces.{trace_limit}
 
 -- ---- reports
 
@@ -75,26 +76,26 @@ module _ (tree : TreeData) (d : Design) (made : Schedule) (al : AreAlike (tree_s
   runs_here : (qs : List Asking) (rows : List Row) → Runs false T made qs rows → Runs false S made qs rows
   runs_here qs rows h = runs_to false T S made (alike_back S T al) qs rows h
 
-  pub done_here : IsDone (design_subject d) made start trace w → IsDone (subject tree) made start trace w
+  pub done_here : IsDone trace_limit (design_subject d) made start trace w → IsDone trace_limit (subject tree) made start trace w
   done_here h = record {
     qs = h.qs;
     rows = h.rows;
-    clean = subst (λ (os : List Outline). IsClean os trace h.qs) (sym al.elements) h.clean;
+    clean = subst (λ (os : List Outline). IsClean trace_limit os trace h.qs) (sym al.elements) h.clean;
     runs = runs_here h.qs h.rows h.runs;
     put = h.put ∙ ap (λ (t : List ℕ). appended t start) (report_here h.rows);
   }
 
-  pub faulty_here : (number : ℕ) → IsFaulty (design_subject d) made start trace w number → IsFaulty (subject tree) made start trace w number
+  pub faulty_here : (number : ℕ) → IsFaulty trace_limit (design_subject d) made start trace w number → IsFaulty trace_limit (subject tree) made start trace w number
   faulty_here number h = record {
     qs = h.qs;
     rows = h.rows;
-    bad = subst (λ (os : List Outline). HasBadLine os trace h.qs) (sym al.elements) h.bad;
+    bad = subst (λ (os : List Outline). HasBadLine trace_limit os trace h.qs) (sym al.elements) h.bad;
     runs = runs_here h.qs h.rows h.runs;
     number_is = h.number_is;
     put = h.put ∙ ap (λ (t : List ℕ). appended t start) (report_here h.rows);
   }
 
-  report_to : (place : ℕ) → IsReportTo (design_subject d) made start trace place w → IsReportTo (subject tree) made start trace place w
+  report_to : (place : ℕ) → IsReportTo trace_limit (design_subject d) made start trace place w → IsReportTo trace_limit (subject tree) made start trace place w
   report_to place h = record {
     front = h.front;
     rest = h.rest;
@@ -103,23 +104,23 @@ module _ (tree : TreeData) (d : Design) (made : Schedule) (al : AreAlike (tree_s
     lines = h.lines;
     before = h.before;
     unended = h.unended;
-    asked = subst (λ (os : List Outline). AreAsked os 0 h.front h.qs) (sym al.elements) h.asked;
+    asked = subst (λ (os : List Outline). AreAsked trace_limit os 0 h.front h.qs) (sym al.elements) h.asked;
     runs = runs_here h.qs h.rows h.runs;
     put = h.put ∙ ap (λ (t : List ℕ). appended t start) (report_here h.rows);
   }
 
-  pub interrupted_here : (at : Option Current) → IsInterrupted (design_subject d) made start trace at w → IsInterrupted (subject tree) made start trace at w
+  pub interrupted_here : (at : Option Current) → IsInterrupted trace_limit (design_subject d) made start trace at w → IsInterrupted trace_limit (subject tree) made start trace at w
   interrupted_here None h = h
   interrupted_here (Some at) h = report_to at.place h
 
-  pub started_here : IsStarted (design_subject d) made start trace w → IsStarted (subject tree) made start trace w
+  pub started_here : IsStarted trace_limit (design_subject d) made start trace w → IsStarted trace_limit (subject tree) made start trace w
   started_here h = record {
     front = h.front;
     rest = h.rest;
     qs = h.qs;
     rows = h.rows;
     lines = h.lines;
-    asked = subst (λ (os : List Outline). AreAsked os 0 h.front h.qs) (sym al.elements) h.asked;
+    asked = subst (λ (os : List Outline). AreAsked trace_limit os 0 h.front h.qs) (sym al.elements) h.asked;
     runs = runs_here h.qs h.rows h.runs;
     prefix = subst (λ (t : List ℕ). AppendsPrefix t start w) (report_here h.rows) h.prefix;
   }

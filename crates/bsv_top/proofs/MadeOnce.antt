@@ -20,7 +20,7 @@ use Rattle.bsv_top.specs.Answers.{MadeAnswer}
 use Rattle.bsv_top.specs.LaidOut.{IsLaidOut}
 use Rattle.bsv_top.specs.Made.{fired_count, held_at, made_contents, made_file, made_top, nothing_for, summary, summary_of}
 use Rattle.bsv_top.specs.OneAnswer.{IsSameText}
-use Rattle.bsv_top.specs.Reports.{state_after}
+use Rattle.bsv_run.specs.Reports.{state_after}
 use Rattle.bsv_top.proofs.Decides.{not_refused, not_other}
 use Rattle.bsv_top.proofs.Grounds as grounds
 use Rattle.bsv_top.proofs.MadeRun.{nothing_fits}

@@ -39,19 +39,20 @@ use Rattle.bsv_top.specs.Made.{IsMade, fired_count, held_at, made_contents, made
 use Rattle.bsv_top.specs.MadeRuns.{HasFired, IsMadeStop, IsSummary}
 use Rattle.bsv_top.specs.Outcomes.{IsDoneBy, OutputStarted, started}
 use Rattle.bsv_top.specs.Stops.{IsStopOf, stop_of}
-use Rattle.bsv_top.specs.Reports.{state_after}
-use Rattle.bsv_top.specs.Running.{IsStart, ShowsParts, scheduled_of}
-use Rattle.bsv_top.specs.declared.clocks.Run.{Run}
+use Rattle.bsv_run.specs.Reports.{state_after}
+use Rattle.bsv_run.specs.Running.{ShowsParts}
+use Rattle.bsv_top.specs.Running.{IsStart, scheduled_of}
+use Rattle.bsv_run.specs.declared.run.Run.{Run}
 use Rattle.bsv_top.specs.declared.scheduled.ScheduledDesign.{ScheduledDesign}
 use Rattle.bsv_sim.specs.Simulation.{IsClockOf, registers_of}
 use Rattle.bsv_clock.specs.Shows.{Shows}
 use Rattle.bsv_clock.specs.Subjects.{Subject, design_subject}
 use Rattle.bsv_trace.specs.Shown.{ShowParts}
 use Rattle.bsv_top.proofs.Grounds as grounds
-use Rattle.bsv_top.proofs.Happening.{some_run}
-use Rattle.bsv_top.proofs.Named.{kinds_are, outlines_are}
+use Rattle.bsv_run.proofs.Happening.{some_run}
+use Rattle.bsv_run.proofs.Named.{kinds_are, outlines_are}
 use Rattle.bsv_top.proofs.Lifting.{runs_to}
-use Rattle.bsv_top.proofs.Runs.{continues_append, state_append}
+use Rattle.bsv_run.proofs.Runs.{continues_append, state_append}
 use Rattle.bsv_top.proofs.Spelled.{made_asks}
 
 -- a line without bytes asks for nothing
@@ -96,7 +97,7 @@ count_more (first ∷ rows) row = let further = count_more rows row in omega (ar
 -- before the first clock
 pub none_fired : (c : ScheduledDesign) (r : Run) → IsStart c r → HasFired c 0 0 r
 unfolding nothing_for
-none_fired c r start = record { rows = []; runs = tt; state = subst (ShowsParts c r) (ap opening (kinds_are c.design)) start.state; count_is = refl }
+none_fired c r start = record { rows = []; runs = tt; state = subst (ShowsParts c.design r) (ap opening (kinds_are c.design)) start.state; count_is = refl }
 
 -- a clock more
 pub fired_more : (c : ScheduledDesign) (clocks count more : ℕ) (old new : Run) (q : Asking) → (h : HasFired c clocks count old) → q ≡ nothing_asked c.design.elements
@@ -115,7 +116,7 @@ fired_more c clocks count more old new q h asked clock is =
       rows = h.rows ++ row ∷ [];
       runs = subst (λ (qs : List Asking). Runs false T c.schedule qs (h.rows ++ row ∷ [])) (replicate_more clocks none)
           (continues_append false T c.schedule (opening T.kinds) (replicate clocks none) (none ∷ []) h.rows (row ∷ []) h.runs (this, tt));
-      state = subst (ShowsParts c new) (sym (state_append (opening T.kinds) h.rows (row ∷ []))) (record { fits = clock.fits; shows = clock.shows });
+      state = subst (ShowsParts c.design new) (sym (state_append (opening T.kinds) h.rows (row ∷ []))) (record { fits = clock.fits; shows = clock.shows });
       count_is = is ∙ ap (λ (n : ℕ). n + length fired.list.items) h.count_is ∙ sym (count_more h.rows row);
     }
 

@@ -38,9 +38,10 @@ use Rattle.bsv_top.specs.Answers.{Answer, Asks, HasNoForm, MadeAnswer, IsNoProgr
 use Rattle.bsv_top.specs.LaidOut.{IsLaidOut}
 use Rattle.bsv_top.specs.Made.{IsMade}
 use Rattle.bsv_top.specs.OneAnswer.{AsksNoVerilog, IsSameText}
-use Rattle.bsv_top.specs.Reports.{clocks_text, report}
-use Rattle.bsv_top.specs.Traces.{IsClean, HasBadLine, lines_of}
-use Rattle.bsv_top.proofs.Asked.{asked_once, bad_once, not_both}
+use Rattle.bsv_run.specs.Reports.{clocks_text, report}
+use Rattle.bsv_run.specs.Traces.{lines_of}
+use Rattle.bsv_top.specs.Traces.{IsClean, HasBadLine, trace_limit}
+use Rattle.bsv_run.proofs.Asked.{asked_once, bad_once, not_both}
 use Rattle.bsv_top.proofs.Decides.{not_refused, not_other}
 use Rattle.bsv_top.proofs.Grounds as grounds
 use Rattle.bsv_top.proofs.MadeOnce.{made_once}
@@ -130,14 +131,14 @@ module _ (words : List (List ℕ)) (contents : List ℕ → List ℕ) (file top 
     done_same : (trace : List ℕ) (qs rs : List Asking) (rows others : List Row) → Clean tree trace qs → Clean tree trace rs
         → Runs false (tree_scheme tree) made qs rows → Runs false (tree_scheme tree) made rs others → report (subject tree) rows ≡ report (subject tree) others
     done_same trace qs rs rows others h k one two =
-        let same = asked_once (tree_scheme tree).elements methods 0 (lines_of (contents trace)) rs qs k h in
+        let same = asked_once trace_limit (tree_scheme tree).elements methods 0 (lines_of (contents trace)) rs qs k h in
         runs_same qs rows others (grounds.all_fit tree made laid.design laid.alike planned.planned.scheduled 0 (lines_of (contents trace)) qs h) one
         (subst (λ (xs : List Asking). Runs false (tree_scheme tree) made xs others) same two)
 
     fault_same : (trace : List ℕ) (qs rs : List Asking) (rows others : List Row) → Bad tree trace qs → Bad tree trace rs
         → Runs false (tree_scheme tree) made qs rows → Runs false (tree_scheme tree) made rs others → (report (subject tree) rows ≡ report (subject tree) others) × (qs ≡ rs)
     fault_same trace qs rs rows others h k one two =
-        let same = bad_once (tree_scheme tree).elements methods 0 (lines_of (contents trace)) rs qs k h in (
+        let same = bad_once trace_limit (tree_scheme tree).elements methods 0 (lines_of (contents trace)) rs qs k h in (
           runs_same qs rows others (grounds.all_fit_to_bad tree made laid.design laid.alike planned.planned.scheduled 0 (lines_of (contents trace)) qs h) one
               (subst (λ (xs : List Asking). Runs false (tree_scheme tree) made xs others) same two),
           sym same,
@@ -211,13 +212,13 @@ module _ (words : List (List ℕ)) (contents : List ℕ → List ℕ) (file top 
     text_is = IsSameText.equal;
   }
   same s s' output more text said (done trace tree made qs rows is p laid well clean runs) (trace_fault r u other rs others k q again too bad run) =
-      absurd (not_both (tree_scheme tree).elements 0 (lines_of (contents trace)) qs rs clean (bad_here tree u made other p q trace r rs (same_trace trace r is k) bad))
+      absurd (not_both trace_limit (tree_scheme tree).elements 0 (lines_of (contents trace)) qs rs clean (bad_here tree u made other p q trace r rs (same_trace trace r is k) bad))
   same s s' output more text said (trace_fault trace tree made qs rows is p laid well bad runs) (refused r h) = absurd (not_refused file top contents r h tree made p)
   same s s' output more text said (trace_fault trace tree made qs rows is p laid well bad runs) (no_program l built none) = absurd (not_other file top contents l built none tree made p)
   same s s' output more text said (trace_fault trace tree made qs rows is p laid well bad runs) (scheduled u other k q) = absurd (forms_apart file top trace file top product.Schedule (sym is ∙ k))
   same s s' output more text said (trace_fault trace tree made qs rows is p laid well bad runs) (written u other v k q has) = absurd (forms_apart file top trace file top product.Verilog (sym is ∙ k))
   same s s' output more text said (trace_fault trace tree made qs rows is p laid well bad runs) (done r u other rs others k q again too clear run) =
-      absurd (not_both (tree_scheme tree).elements 0 (lines_of (contents trace)) rs qs (clean_here tree u made other p q trace r rs (same_trace trace r is k) clear) bad)
+      absurd (not_both trace_limit (tree_scheme tree).elements 0 (lines_of (contents trace)) rs qs (clean_here tree u made other p q trace r rs (same_trace trace r is k) clear) bad)
   same s s' output more text said (trace_fault trace tree made qs rows is p laid well bad runs) (trace_fault r u other rs others k q again too wrong run) =
       let both = fault_same tree made p laid trace qs rs rows others bad (bad_here tree u made other p q trace r rs (same_trace trace r is k) wrong) runs (runs_here tree u made other p q rs others run) in
       record {

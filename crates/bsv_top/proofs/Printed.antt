@@ -18,7 +18,7 @@ use Rattle.bsv_top.specs.Answers as a
 use Rattle.bsv_top.specs.Answers.{Answer, printed, schedule_words}
 use Rattle.bsv_top.specs.Outcomes.{IsAccepted, IsDoneBy, OutputStarted, started}
 use Rattle.bsv_top.specs.Products.{product_text, product_words}
-use Rattle.bsv_top.proofs.Named.{names_are}
+use Rattle.bsv_run.proofs.Named.{names_are}
 use Rattle.bsv_top.proofs.Spelled.{asks_product}
 
 module _ (file : List ℕ) (contents : List ℕ → List ℕ) (top : List ℕ) (c : Compiled) (x : IsCompiled file contents top c) where

@@ -22,7 +22,7 @@ use Rattle.bsv_top.specs.Outcomes as o
 use Rattle.bsv_top.specs.Outcomes.{IsDoneBy, IsUnread, OutputStarted, StopsReport}
 use Rattle.bsv_top.specs.Places as places
 use Rattle.bsv_top.specs.Places.{IsTraceWithin, ReadsWithin, piece_limit}
-use Rattle.bsv_top.specs.Reports.{report}
+use Rattle.bsv_run.specs.Reports.{report}
 use Rattle.bsv_top.specs.Running as running
 use Rattle.bsv_top.specs.Running.{Follows, IsStartedOf, IsDoneOf, IsFaultyOf, IsFollowed, IsInterruptedOf, its_outlines, scheduled_of}
 use Rattle.bsv_top.specs.Stops.{IsStopOf}

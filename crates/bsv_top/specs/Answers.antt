@@ -22,7 +22,7 @@ use Rattle.bsv_top.specs.declared.status.Status.{Status}
 use Rattle.bsv_top.specs.declared.status.Status.TheVariants as status
 use Rattle.bsv_top.specs.LaidOut.{IsLaidOut}
 use Rattle.bsv_top.specs.Made.{IsMade, made_contents, made_file, made_top, nothing_for, summary}
-use Rattle.bsv_top.specs.Reports.{report}
+use Rattle.bsv_run.specs.Reports.{report}
 use Rattle.bsv_top.specs.Traces.{IsClean, HasBadLine}
 
 -- ---- words

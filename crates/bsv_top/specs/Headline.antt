@@ -13,7 +13,7 @@ use Rattle.bsv_flow.specs.Clocked.{IsWellClocked}
 use Rattle.bsv_flow.specs.Schedulings.{IsVerilogOf, subject}
 use Rattle.bsv_top.specs.declared.status.Status.TheVariants as status
 use Rattle.bsv_top.specs.Answers.{Answer, sim_words}
-use Rattle.bsv_top.specs.Reports.{report}
+use Rattle.bsv_run.specs.Reports.{report}
 use Rattle.bsv_top.specs.Traces.{IsClean}
 
 -- A module shows a run, its inputs driven by the requests: it has clocks with these inputs, and whatever words solve its

@@ -10,8 +10,6 @@ pub mod OneAnswer
 pub mod Outcomes
 pub mod Places
 pub mod Products
-pub mod Reading
-pub mod Reports
 pub mod Running
 pub mod Stops
 pub mod Traces

@@ -12,7 +12,7 @@ use Rattle.bsv_clock.specs.Subjects.{Subject}
 use Rattle.bsv_io.specs.InMemory.{contents_of}
 use Rattle.bsv_trace.specs.Lines.{methods_among, nothing_of}
 use Rattle.bsv_trace.specs.Texts.{line_feed}
-use Rattle.bsv_top.specs.Reports.{state_after}
+use Rattle.bsv_run.specs.Reports.{state_after}
 
 -- ---- words
 

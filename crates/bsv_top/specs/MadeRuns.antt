@@ -3,22 +3,23 @@ use Rattle.std.specs.Prelude.{◌≡◌, ℕ, false, List, []}
 use Rattle.bsv_design.specs.scheme.States.{opening}
 use Rattle.bsv_clock.specs.Runs.{Row, Runs}
 use Rattle.bsv_flow.specs.Refusals.{refusal_line}
-use Rattle.bsv_top.specs.declared.clocks.Run.{Run}
+use Rattle.bsv_run.specs.declared.run.Run.{Run}
 use Rattle.bsv_top.specs.declared.scheduled.ScheduledDesign.{ScheduledDesign}
 use Rattle.bsv_top.specs.declared.status.Status.TheVariants as status
 use Rattle.bsv_top.specs.declared.stop.Stop.{Stop}
 use Rattle.bsv_top.specs.declared.stop.Stop.TheVariants as stop
 use Rattle.bsv_top.specs.Answers.{MadeAnswer}
 use Rattle.bsv_top.specs.Made.{fired_count, nothing_for, summary}
-use Rattle.bsv_top.specs.Reports.{state_after}
-use Rattle.bsv_top.specs.Running.{ShowsParts, its_subject}
+use Rattle.bsv_run.specs.Reports.{state_after}
+use Rattle.bsv_run.specs.Running.{ShowsParts}
+use Rattle.bsv_top.specs.Running.{its_subject}
 
 -- so many clocks without requests were run from the opening state; so many elements fired, and the run shows the state after
 -- them
 pub record HasFired (c : ScheduledDesign) (clocks count : ℕ) (r : Run) : Type 0 where
   pub rows : List Row
   pub runs : Runs false (its_subject c).scheme c.schedule (nothing_for clocks (its_subject c).scheme) rows
-  pub state : ShowsParts c r (state_after (opening (its_subject c).scheme.kinds) rows)
+  pub state : ShowsParts c.design r (state_after (opening (its_subject c).scheme.kinds) rows)
   pub count_is : count ≡ fired_count rows
 
 -- the summary of a run of 100 clocks without requests

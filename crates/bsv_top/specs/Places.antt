@@ -7,7 +7,8 @@ use Rattle.bsv_tree.specs.tree.Trees.{TreeData}
 use Rattle.bsv_io.specs.Reading.{Reading, bytes_given, current_name}
 use Rattle.bsv_flow.specs.Compilings.{IsPlanned}
 use Rattle.bsv_flow.specs.Sources.{read_limit}
-use Rattle.bsv_top.specs.Traces.{HasBadLine, bytes_in, lines_of}
+use Rattle.bsv_run.specs.Traces.{bytes_in, lines_of}
+use Rattle.bsv_top.specs.Traces.{HasBadLine}
 
 -- a trace is read in pieces of at most so many bytes
 abbrev pub piece_limit : ℕ

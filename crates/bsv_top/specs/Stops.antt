@@ -4,8 +4,8 @@ use Rattle.bsv_io.specs.Writing.{Writing, appended}
 use Rattle.bsv_flow.specs.declared.refusal.CompileFault.{CompileFault}
 use Rattle.bsv_flow.specs.declared.refusal.CompileFault.TheVariants as fault
 use Rattle.bsv_flow.specs.Refusals.{refusal_line}
-use Rattle.bsv_top.specs.declared.halt.Halt.{Halt}
-use Rattle.bsv_top.specs.declared.halt.Halt.TheVariants as halt
+use Rattle.bsv_run.specs.declared.halt.Halt.{Halt}
+use Rattle.bsv_run.specs.declared.halt.Halt.TheVariants as halt
 use Rattle.bsv_top.specs.declared.stop.Stop.{Stop}
 use Rattle.bsv_top.specs.declared.stop.Stop.TheVariants as stop
 use Rattle.bsv_top.specs.declared.status.Status.{Status}

@@ -4,15 +4,18 @@ ghost use Rattle.bsv_design.specs.scheme.Schemes.{Asking};
 ghost use Rattle.bsv_io.specs.Faults.{MayFault};
 ghost use Rattle.bsv_io.specs.Reading.{bytes_given, current_name, rest};
 ghost use Rattle.bsv_io.specs.Writing.{Writing};
+ghost use Rattle.bsv_run.specs.Gathered.{limit_of, lines_ended};
+ghost use Rattle.bsv_run.specs.Traces.{bytes_in, lines_of};
 ghost use Rattle.bsv_top.specs.Running.{HasRun, IsStart, its_outlines};
 ghost use Rattle.bsv_top.specs.Running.{IsStartedOf, IsDoneOf, IsFaultyOf, IsReportToOf};
-ghost use Rattle.bsv_top.specs.Traces.{HasBadLine, bytes_in, lines_of};
+ghost use Rattle.bsv_top.specs.Traces.{HasBadLine, trace_limit};
 
-use crate::clocks::Run;
-use crate::halt::Halt;
-use crate::lines::TRACE_LIMIT;
 use crate::scheduled::ScheduledDesign;
 use bsv_io::{Failed, Files, Sink};
+use bsv_run::{Halt, Run};
+
+/// How many bytes a trace may have.
+pub(crate) const TRACE_LIMIT: u64 = 67_108_864;
 
 /// Reads the trace, which is the current file, to its end, and runs its clocks; `buffer` is room to
 /// read into.
@@ -35,7 +38,7 @@ pub(crate) fn run_trace<F: Files, O: Sink>(
     ensures bad { result ≡ Err Halt.BadLine → (start : Writing) (trace : List ℕ)
         → HasRun scheduled.now start [] run.old (O.writing out.old)
         → rest (F.reading files.old) ≡ Some trace
-        → IsFaultyOf scheduled.now start trace (O.writing out.new) (run.new.lines.done + 1) }
+        → IsFaultyOf scheduled.now start trace (O.writing out.new) (lines_ended run.new.lines + 1) }
     ensures started { (start : Writing) (trace : List ℕ)
         → HasRun scheduled.now start [] run.old (O.writing out.old)
         → rest (F.reading files.old) ≡ Some trace
@@ -66,6 +69,7 @@ pub(crate) fn run_trace<F: Files, O: Sink>(
         → bytes_given (F.reading files.new) ≤ bytes_given (F.reading files.old)
         + bytes_in (length qs + 1) (lines_of trace) + length buffer.old }
 
+    ensures limit { limit_of run.new.lines ≡ trace_limit }
     ensures contents { (F.reading files.new).contents ≡ (F.reading files.old).contents }
     ensures files_count { (F.reading files.old).faults ≤ (F.reading files.new).faults }
     ensures files_kept { (result ≡ Err Halt.Unreadable → ⊥)
@@ -80,9 +84,9 @@ pub(crate) fn run_trace<F: Files, O: Sink>(
             Err(Failed) => return Err(Halt::Unreadable),
         };
         if len == 0 {
-            return run.run_last(scheduled, out);
+            return run.run_last(&scheduled.design, &scheduled.schedule, out);
         }
-        run.run_piece(scheduled, &buffer[..len], out)?;
+        run.run_piece(&scheduled.design, &scheduled.schedule, &buffer[..len], out)?;
     }
     unreachable!()
 }

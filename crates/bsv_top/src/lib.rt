@@ -1,20 +1,16 @@
 //! The top call: all that the program does, over any source of files and any sinks.
 //!
 //! Modules in reading order: `status` (how a run ends), `form` (a command line), `stop` (why it is not
-//! done), `planning` (a command line to the schedule or to Verilog), `lines` (the lines of a trace, gathered
-//! across its pieces), `halt` (why a trace is not run to its end), `scheduled` (what is run), `clocks` (a piece of a trace to clocks and
-//! their lines), `follow` (a file to the pieces of a trace), `simulation` (a command line to the report),
-//! `made` (a made design of any size, and the summary of its run), `answer` (any command line), `faults`
-//! (the fault texts), `program` (the call itself).
+//! done), `planning` (a command line to the schedule or to Verilog), `scheduled` (what is run), `follow` (a
+//! file to the pieces of a trace), `simulation` (a command line to the report), `made` (a made design of any
+//! size, and the summary of its run), `answer` (any command line), `faults` (the fault texts), `program` (the
+//! call itself).
 #![tactic(auto)]
 
 mod answer;
-mod clocks;
 mod faults;
 mod follow;
 mod form;
-mod halt;
-mod lines;
 mod made;
 mod planning;
 mod program;

@@ -17,7 +17,6 @@ ghost use Rattle.bsv_top.specs.Stops.{IsStopOf};
 ghost use Rattle.bsv_top.specs.declared.status.Status.TheVariants as status;
 ghost use Rattle.bsv_top.specs.declared.stop.Stop.{Stop as TheStop};
 
-use crate::clocks::Run;
 use crate::scheduled::ScheduledDesign;
 use crate::simulation::start;
 use crate::stop::Stop;
@@ -26,6 +25,7 @@ use bsv_design::{Design, Kind, NamedPart};
 use bsv_flow::{Compiled, compile};
 use bsv_io::{Failed, NoGate, Sink, SureFiles};
 use bsv_prim::Primitive;
+use bsv_run::Run;
 use bsv_trace::registers_after;
 use itoa::Buffer;
 use std::alloc::Global;
@@ -180,7 +180,7 @@ fn sum_up(alloc: Global, size: u32, compiled: Compiled) -> Result<Vec<u8>, OutOf
 {
     let mut started = start(alloc, compiled)?;
     let fired = run_clocks(&started.scheduled, &mut started.run)?;
-    let registers = started.run.sim.registers();
+    let registers = started.run.registers();
     summary(alloc, size, &started.scheduled.design, fired, registers)
 }
 

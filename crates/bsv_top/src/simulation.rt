@@ -2,6 +2,7 @@ ghost use Rattle.std.specs.Prelude.{◌≡◌, ◌⊎◌, ℕ, ◌+◌, ◌<◌,
 ghost use Rattle.std.specs.Prelude.{IfOk, OnOk};
 ghost use Rattle.bsv_io.specs.Faults.{MayFault};
 ghost use Rattle.bsv_io.specs.Reading.{bytes_given};
+ghost use Rattle.bsv_run.specs.Gathered.{limit_of, lines_ended};
 ghost use Rattle.bsv_flow.specs.Running.{BelongTogether};
 ghost use Rattle.bsv_flow.specs.declared.refusal.Refusal.{Refusal as TheRefusal};
 ghost use Rattle.bsv_top.specs.Answers.{sim_words};
@@ -10,22 +11,18 @@ ghost use Rattle.bsv_top.specs.Places.{IsTraceWithin, ReadsWithin, piece_limit};
 ghost use Rattle.bsv_top.specs.Running.{IsStart, IsStartedOf, IsDoneOf, IsFaultyOf};
 ghost use Rattle.bsv_top.specs.Running.{Follows, IsFollowed, IsInterruptedOf, its_outlines, scheduled_of};
 ghost use Rattle.bsv_top.specs.Stops.{IsStopOf, stop_for};
-ghost use Rattle.bsv_top.specs.declared.halt.Halt.TheVariants as halt;
+ghost use Rattle.bsv_top.specs.Traces.{trace_limit};
 ghost use Rattle.bsv_top.specs.declared.stop.Stop.{Stop as TheStop};
 
-use crate::clocks::Run;
-use crate::follow::run_trace;
+use crate::follow::{TRACE_LIMIT, run_trace};
 use crate::form::Simulation;
-use crate::halt::Halt;
-use crate::lines::Lines;
 use crate::scheduled::ScheduledDesign;
 use crate::stop::Stop;
 use bsv_bits::{Name, OutOfMemory};
-use bsv_design::{Fired, Requests};
 use bsv_flow::{Compiled, compile};
 use bsv_io::{Failed, Files, NoGate, Sink};
-use bsv_sim::Sim;
-use bsv_trace::{ClockWriter, write_opening_registers};
+use bsv_run::{Halt, Run};
+use bsv_trace::write_opening_registers;
 use std::alloc::Global;
 use std::thread::Threads;
 
@@ -46,7 +43,7 @@ fn put_report<F: Files, O: Sink>(
     ensures bad { result ≡ Err Halt.BadLine → (contents : List ℕ → List ℕ)
         → (F.reading files.old).contents ≡ Some contents
         → IsFaultyOf scheduled.now (O.writing out.old) (contents name) (O.writing out.new)
-        (run.new.lines.done + 1) }
+        (lines_ended run.new.lines + 1) }
     ensures started { (contents : List ℕ → List ℕ)
         → (F.reading files.old).contents ≡ Some contents
         → IsStartedOf scheduled.now (O.writing out.old) (contents name) (O.writing out.new) }
@@ -67,6 +64,7 @@ fn put_report<F: Files, O: Sink>(
         → (F.reading files.old).contents ≡ Some contents
         → (bytes_given (F.reading files.new) ≡ 0) ⊎ IsFollowed (its_outlines scheduled.now)
         (length buffer.old) name contents (F.reading files.new) }
+    ensures limit { limit_of run.new.lines ≡ trace_limit }
     ensures files_count { (F.reading files.old).faults ≤ (F.reading files.new).faults }
     ensures files_kept { (result ≡ Err Halt.Unreadable → ⊥)
         → (F.reading files.new).faults ≡ (F.reading files.old).faults }
@@ -77,7 +75,7 @@ fn put_report<F: Files, O: Sink>(
     if let Err(Failed) = files.choose(name) {
         return Err(Halt::Unreadable);
     }
-    write_opening_registers(&scheduled.design, run.sim.registers(), out)?;
+    write_opening_registers(&scheduled.design, run.registers(), out)?;
     run_trace(files, scheduled, run, buffer, out)
 }
 
@@ -105,26 +103,16 @@ pub(crate) fn start(alloc: Global, compiled: Compiled) -> Result<Started, OutOfM
     ensures scheduled { IfOk result (λ started. started.scheduled ≡ scheduled_of compiled) }
     ensures start { IfOk result (λ started. IsStart started.scheduled started.run) }
 {
-    let requests = Requests::new(alloc, &compiled.design)?;
-    let fired = Fired::new(alloc, &compiled.design)?;
-    let lines = Lines::new(alloc)?;
-    let writer = ClockWriter::new();
     let Compiled {
         design,
         schedule,
         net,
         ..
     } = compiled;
-    let sim = Sim::make(alloc, net)?;
+    let run = Run::start(alloc, &design, net, TRACE_LIMIT)?;
     Ok(Started {
         scheduled: ScheduledDesign { design, schedule },
-        run: Run {
-            lines,
-            sim,
-            requests,
-            fired,
-            writer,
-        },
+        run,
     })
 }
 
@@ -183,7 +171,7 @@ fn run_over<F: Files, O: Sink>(
     let blamed = Name::new(alloc, trace.as_bytes())?;
     match put_report(files, name, scheduled, run, &mut buffer, out) {
         Ok(()) => Ok(()),
-        Err(halt) => Err(stop_for(halt, blamed, run.lines.done + 1)),
+        Err(halt) => Err(stop_for(halt, blamed, run.lines_done() + 1)),
     }
 }
 

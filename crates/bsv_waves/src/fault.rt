@@ -1,5 +1,6 @@
 use bsv_bits::{Name, OutOfMemory};
 use bsv_flow::CompileFault;
+use bsv_trace::BadLine;
 use std::alloc::AllocError;
 
 /// Why there are no waves, or not those of a whole trace.
@@ -38,4 +39,10 @@ impl From<AllocError> for WavesFault {
 pub(crate) enum Halt {
     BadLine,
     Unreadable,
+}
+
+impl From<BadLine> for Halt {
+    fn from(_line: BadLine) -> Halt {
+        Halt::BadLine
+    }
 }

@@ -2,11 +2,13 @@ ghost use Rattle.std.specs.Prelude.{◌<◌, length, IsSome};
 ghost use Rattle.bsv_waves.specs.Running.{FitsRun};
 
 use crate::fault::Halt;
-use crate::lines::TRACE_LIMIT;
 use crate::recorder::Recorder;
 use bsv_io::{Files, Sink};
 use bsv_page::Page;
 use bsv_tree::Tree;
+
+/// How many bytes a trace may have.
+pub(crate) const TRACE_LIMIT: u64 = 67_108_864;
 
 /// Runs the pieces of the trace, which is the current file, one after the other, and puts their clocks; `buffer` is
 /// room to read into. Where the output fails, the trace is read no further.

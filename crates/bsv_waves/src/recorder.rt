@@ -1,13 +1,13 @@
-ghost use Rattle.std.specs.Prelude.{OnOk};
+ghost use Rattle.std.specs.Prelude.{OnOk, ◌<◌, length};
+ghost use Rattle.bsv_run.specs.Gathered.{held_of};
 ghost use Rattle.bsv_waves.specs.Running.{FitsRun};
 
 use crate::fault::Halt;
-use crate::lines::{Lines, first_line};
 use crate::progress::tell_done;
 use crate::run::Run;
 use bsv_io::Sink;
 use bsv_page::Page;
-use bsv_trace::BadLine;
+use bsv_run::{Lines, first_line};
 use bsv_tree::Tree;
 use bsv_vcd::Waves;
 
@@ -17,23 +17,19 @@ pub(crate) struct Recorder {
     pub(crate) run: Run,
     pub(crate) waves: Waves,
     pub(crate) lines: Lines,
-    /// How many clocks were run.
-    pub(crate) done: u64,
-    /// Whether it is told how many.
+    /// Whether it is told how many clocks are done.
     pub(crate) is_watched: bool,
 }
 
 impl Recorder {
     /// Runs the clock of the line that was gathered, and puts it.
     fn run_line<O: Sink + Drop>(&mut self, tree: &Tree, page: &mut Page<O>) -> Result<(), Halt>
-        requires { FitsRun self.old.run }
+        requires fits { FitsRun self.old.run }
+        requires some { 0 < length (held_of self.old.lines) }
         ensures { OnOk result (FitsRun self.new.run) }
     {
-        if let Err(BadLine) = self.run.clock(self.lines.text()) {
-            return Err(Halt::BadLine);
-        }
+        self.run.clock(self.lines.text())?;
         self.lines.end_line();
-        self.done = self.done.saturating_add(1);
         let run = &self.run;
         let waves = &mut self.waves;
         waves.put_clock(tree, &run.requests, &run.fired, run.registers(), page);
@@ -48,13 +44,14 @@ impl Recorder {
         page: &mut Page<O>,
         err: &mut E,
     ) -> Result<(), Halt>
-        requires { FitsRun self.old.run }
+        requires fits { FitsRun self.old.run }
+        requires some { 0 < length bytes.now }
         ensures { OnOk result (FitsRun self.new.run) }
     {
         self.lines.gather(bytes)?;
         self.run_line(tree, page)?;
         if self.is_watched {
-            tell_done(self.done, err);
+            tell_done(self.lines.done(), err);
         }
         Ok(())
     }
@@ -78,7 +75,8 @@ impl Recorder {
             self.run_ended(tree, ended, page, err)?;
             left = after;
         }
-        self.lines.gather(left)
+        self.lines.gather(left)?;
+        Ok(())
     }
 
     /// Takes the end of the trace: what was begun of a line is a line.

@@ -2,14 +2,14 @@ ghost use Rattle.std.specs.Prelude.{IfOk};
 ghost use Rattle.bsv_waves.specs.Running.{FitsRun};
 
 use crate::fault::{Halt, WavesFault};
-use crate::follow::run_trace;
-use crate::lines::Lines;
+use crate::follow::{TRACE_LIMIT, run_trace};
 use crate::recorder::Recorder;
 use crate::run::Run;
 use bsv_bits::{Name, OutOfMemory};
 use bsv_flow::{CompileFault, load, scheduled, tree, typed};
 use bsv_io::{Failed, Files, NoGate, Sink};
 use bsv_page::Page;
+use bsv_run::Lines;
 use bsv_tree::Tree;
 use bsv_vcd::Waves;
 use std::alloc::Global;
@@ -55,13 +55,12 @@ fn recorder_of(
     requires { FitsRun run }
     ensures { IfOk result (λ recorder. FitsRun recorder.run) }
 {
-    let lines = Lines::new(alloc)?;
+    let lines = Lines::new(alloc, TRACE_LIMIT)?;
     let waves = Waves::new(alloc, tree, run.elements(), run.registers())?;
     Ok(Recorder {
         run,
         waves,
         lines,
-        done: 0,
         is_watched,
     })
 }
@@ -97,7 +96,7 @@ fn put_waves<F: Files, O: Sink + Drop, E: Sink>(
     recorder.waves.put_end(tree, page);
     match ran {
         Ok(()) => Ok(()),
-        Err(halt) => Err(fault_of(halt, blamed, recorder.done)),
+        Err(halt) => Err(fault_of(halt, blamed, recorder.lines.done())),
     }
 }
 

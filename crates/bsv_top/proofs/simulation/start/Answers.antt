@@ -1,12 +1,15 @@
-use Rattle.bsv_top.specs.declared.clocks.Run.{Run}
-use Rattle.bsv_top.proofs.Clocking.{begins}
+use Rattle.bsv_sim.specs.Simulation.{IsSimulated}
+use Rattle.bsv_flow.specs.Running.{BelongTogether}
+use Rattle.bsv_flow.specs.declared.scheduling.Compiled.{Compiled}
 use Rattle.bsv_top.proofs.simulation.start.Goals as goal
 
+simulated_of : (c : Compiled) → BelongTogether c → IsSimulated c.design c.schedule c.net
+simulated_of c together = record {
+  rules = together.rules;
+  schedule = together.schedule;
+  carries = together.carries;
+  results = together.results;
+}
+
 pub returns-clause-start : goal.returns-clause-start
-returns-clause-start c =
-    let room = c.in_ok-fired.ensures in
-    let lines = c.in_ok-lines.ensures in
-    let run : Run = record { lines = c.in_ok-lines.lines; sim = c.in_ok-sim.sim; requests = c.in_ok-requests.requests; fired = c.in_ok-fired.fired; writer = c.new-writer.result } in
-    begins c.args.compiled run c.requires c.in_ok-sim.ensures.net c.in_ok-sim.ensures.opening c.in_ok-requests.ensures.fit c.in_ok-requests.ensures.nothing
-    (record { list = room.list_room; stopped = room.stopped_room; blocked = room.blocked_room; results = room.results_room })
-    lines.done lines.at lines.held
+returns-clause-start c = c.in_ok-run.ensures c.args.compiled.schedule (simulated_of c.args.compiled c.requires)

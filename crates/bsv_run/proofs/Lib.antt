@@ -1,0 +1,9 @@
+pub mod Asked
+pub mod Clocking
+pub mod Happening
+pub mod Interrupted
+pub mod Listed
+pub mod Named
+pub mod Opened
+pub mod Runs
+pub mod Stepping
