@@ -1,0 +1,74 @@
+-- What sections are made from: the traces with their places, what a sink holds after a report, and what each worker gives.
+use Rattle.std.proofs.Common.{◌≡◌, ◌∙◌, ℕ, zero, suc, ◌+◌, ◌<◌, inl, inr, List, [], ◌∷◌, ◌++◌, length, get_or, map, remove, Some, Ok, refl, sym, ap, subst, arith}
+use Rattle.std.proofs.lemmas.List.{length-map}
+use Rattle.std.proofs.lemmas.Option.{same_Some}
+use Rattle.std.specs.Prelude.{Result, IfOk, slice_index_or}
+use Rattle.bsv_bits.specs.declared.memory.OutOfMemory.{OutOfMemory}
+use Rattle.bsv_design.specs.declared.schedule.Schedule.{Schedule}
+use Rattle.bsv_clock.specs.Subjects.{Subject}
+use Rattle.bsv_io.specs.InMemory.{GrowTarget, grow_writing}
+use Rattle.bsv_io.specs.Writing.{Writing, appended}
+use Rattle.bsv_run.specs.Running.{IsDone, IsFaulty}
+use Rattle.bsv_suite.specs.declared.sections.Job.{Job}
+use Rattle.bsv_suite.specs.declared.sections.Section.{Section}
+use Rattle.bsv_suite.specs.Sections.{AreSections, IsReported, IsSection, section_limit}
+
+-- ---- the front of a list is moved behind another one
+
+map_more : {X Y : Type 0} (f : Y → X) (ys : List Y) (y : Y) (rest : List X) → map f (ys ++ y ∷ []) ++ rest ≡ map f ys ++ f y ∷ rest
+map_more f [] y rest = refl
+map_more f (z ∷ ys) y rest = ap (λ zs. f z ∷ zs) (map_more f ys y rest)
+
+pub one_moved : {X Y : Type 0} (f : Y → X) (whole old new : List X) (ys : List Y) (y : Y) → 0 < length old → f y ≡ get_or old 0 (f y) → new ≡ remove old 0
+    → whole ≡ map f ys ++ old → whole ≡ map f (ys ++ y ∷ []) ++ new
+one_moved f whole [] new ys y some first rest before = absurd (omega (arith, some))
+one_moved f whole (x ∷ old) new ys y some first rest before =
+    before ∙ (ap (λ z. map f ys ++ z ∷ old) (sym first) ∙ (sym (map_more f ys y old) ∙ ap (λ zs. map f (ys ++ y ∷ []) ++ zs) (sym rest)))
+
+-- ---- what a sink holds
+
+nothing_put : GrowTarget
+nothing_put = record { bytes = []; faults = 0 }
+
+text_put : (t : GrowTarget) (text : List ℕ) → grow_writing t ≡ appended text (grow_writing nothing_put) → t.bytes ≡ text
+text_put t text e = same_Some t.bytes text (ap (λ (w : Writing). w.bytes) e)
+
+module _ (s : Subject) (made : Schedule) (trace : List ℕ) (t : GrowTarget) where
+  pub whole_reported : IsDone section_limit s made (grow_writing nothing_put) trace (grow_writing t) → IsReported s made trace t.bytes 0
+  whole_reported done = inl (record {
+    qs = done.qs;
+    rows = done.rows;
+    clean = done.clean;
+    runs = done.runs;
+    text_is = text_put t _ done.put;
+    bad_is = refl;
+  })
+
+  pub cut_reported : (number : ℕ) → IsFaulty section_limit s made (grow_writing nothing_put) trace (grow_writing t) number → IsReported s made trace t.bytes number
+  cut_reported number faulty = inr (record {
+    qs = faulty.qs;
+    rows = faulty.rows;
+    line = faulty.bad;
+    runs = faulty.runs;
+    text_is = text_put t _ faulty.put;
+    bad_is = faulty.number_is;
+  })
+
+-- ---- what the workers give
+
+module _ (s : Subject) (made : Schedule) where
+  sections_of : (jobs : List Job) (results : List (Result Section OutOfMemory)) (xs : List Section) → results ≡ map Ok xs → length jobs ≡ length results
+      → ((i : ℕ) (j : Job) (r : Result Section OutOfMemory) → i < length jobs → IfOk (slice_index_or results i r) (IsSection s made (slice_index_or jobs i j).trace))
+      → AreSections s made (map (λ j. j.trace) jobs) xs
+  sections_of [] results [] is long each = tt
+  sections_of [] results (x ∷ xs) is long each =
+      let none : 0 ≡ length (map Ok xs) + 1 = long ∙ ap length is in
+      absurd (omega (arith, none))
+  sections_of (j ∷ jobs) results [] is long each =
+      let none : length jobs + 1 ≡ 0 = long ∙ ap length is in
+      absurd (omega (arith, none))
+  sections_of (j ∷ jobs) results (x ∷ xs) is long each = (
+    subst (λ rs. IfOk (slice_index_or rs 0 (Ok x)) (IsSection s made j.trace)) is (each 0 j (Ok x) (omega arith)),
+    sections_of jobs (map Ok xs) xs refl (omega (arith, long, ap length is))
+    (λ i k r below. subst (λ rs. IfOk (slice_index_or rs (suc i) r) (IsSection s made (slice_index_or jobs i k).trace)) is (each (suc i) k r (omega (arith, below)))),
+  )
