@@ -7,7 +7,7 @@ use anyhow::{Result, bail};
 use bsv_bits::{Name, OutOfMemory};
 use bsv_fire::add_fire;
 use bsv_flow::{Compiled, compile};
-use bsv_io::{MemFiles, NoGate};
+use bsv_io::{Gate, MemFiles};
 use bsv_mux::add_next;
 use bsv_net::Net;
 use std::alloc::Global;
@@ -23,8 +23,12 @@ fn files_of(alloc: Global, case: &Case) -> Result<MemFiles> {
     Ok(MemFiles::new(alloc, files, Vec::new(alloc))?)
 }
 
-/// The design of a case, with its guards, its schedule and its net.
-pub(crate) fn compiled_of<R: AllocGlobal + Threads + Sync>(rt: &R, case: &Case) -> Result<Compiled>
+/// The design of a case, with its guards, its schedule and its net. The workers pass the gate.
+pub(crate) fn compiled_of<R: AllocGlobal + Threads + Sync, G: Gate + Sync>(
+    rt: &R,
+    case: &Case,
+    gate: &G,
+) -> Result<Compiled>
     ensures { IfOk result BelongTogether }
 {
     let Some((first, _)) = case.files.first() else {
@@ -37,7 +41,7 @@ pub(crate) fn compiled_of<R: AllocGlobal + Threads + Sync>(rt: &R, case: &Case) 
         &mut files,
         first.as_str(),
         case.top.as_str(),
-        &NoGate,
+        gate,
     ) {
         Ok(found) => Ok(found),
         Err(_) => bail!("a design is refused"),

@@ -6,7 +6,7 @@
 //! Modules in reading order: `case` (a case file), `compiling` (its design, which can be run, and its net), `shown`
 //! (the words of registers that show a state), `asked` (the words of inputs that a line of a trace asks for),
 //! `evaluating` (the words of a net), `agreeing` (whether a net and the simulator tell what the serial engine did),
-//! `clocks` (a design that is run by all). What a run keeps from clock to clock is in `specs/Running.antt`.
+//! `clocks` (a design that is run by all), `gates` (whether two workers stand side by side). What a run keeps from clock to clock is in `specs/Running.antt`.
 #![tactic(auto)]
 
 ghost use Rattle.bsv_flow.specs.Running.{BelongTogether};
@@ -17,14 +17,17 @@ mod case;
 mod clocks;
 mod compiling;
 mod evaluating;
+mod gates;
 mod shown;
 
 use crate::agreeing::has_repeat;
-use crate::case::case_of;
+use crate::case::{Case, case_of};
 use crate::clocks::{Engine, Outcome, outcome_of};
 use crate::compiling::{compiled_of, net_of};
+use crate::gates::workers_meet;
 use anyhow::{Context, Result, bail};
 use bsv_flow::Compiled;
+use bsv_io::NoGate;
 use std::fs;
 use std::rt::Files;
 use std::thread::Threads;
@@ -61,17 +64,35 @@ fn compare<R: AllocGlobal + Print>(
     Ok(())
 }
 
+/// The case of a file.
+fn read_case<R: Files + AllocGlobal>(rt: &R, file: &str) -> Result<Case> {
+    let text = fs::read_to_string(rt, file)?;
+    case_of(rt.alloc(), text.as_str())
+}
+
+/// Tells that two workers stand side by side where work on this case goes by workers.
+fn show_workers<R: Files + AllocGlobal + Print + Threads + Sync>(rt: &R, file: &str) -> Result<()> {
+    let case = read_case(rt, file)?;
+    if !workers_meet(rt, &case)? {
+        bail!("a worker met no other one");
+    }
+    println!(rt; "workers stand side by side")?;
+    Ok(())
+}
+
 /// Runs a case by all engines, and tells whether they agree.
 fn run_case<R: Files + AllocGlobal + Print + Threads + Sync>(rt: &R, file: &str) -> Result<()> {
-    let text = fs::read_to_string(rt, file)?;
-    let case = case_of(rt.alloc(), text.as_str())?;
-    let compiled = compiled_of(rt, &case)?;
+    let case = read_case(rt, file)?;
+    let compiled = compiled_of(rt, &case, &NoGate)?;
     let name = file.strip_suffix(".case").unwrap_or(file);
     compare(rt, &compiled, name, case.trace.as_str())
 }
 
 fn main(rt: HostRuntime) -> Result<()> {
     let files: Vec<String> = std::env::args(&rt)?.skip(1).collect(rt.alloc())?;
+    if let Some(first) = files.first() {
+        show_workers(&rt, first.as_str()).context(format_args!("running {first}"))?;
+    }
     for file in files.as_slice() {
         let file = file.as_str();
         run_case(&rt, file).context(format_args!("running {file}"))?;
