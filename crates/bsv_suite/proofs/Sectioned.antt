@@ -70,5 +70,5 @@ module _ (s : Subject) (made : Schedule) where
   sections_of (j ∷ jobs) results (x ∷ xs) is long each = (
     subst (λ rs. IfOk (slice_index_or rs 0 (Ok x)) (IsSection s made j.trace)) is (each 0 j (Ok x) (omega arith)),
     sections_of jobs (map Ok xs) xs refl (omega (arith, long, ap length is))
-    (λ i k r below. subst (λ rs. IfOk (slice_index_or rs (suc i) r) (IsSection s made (slice_index_or jobs i k).trace)) is (each (suc i) k r (omega (arith, below)))),
+        (λ i k r below. subst (λ rs. IfOk (slice_index_or rs (suc i) r) (IsSection s made (slice_index_or jobs i k).trace)) is (each (suc i) k r (omega (arith, below)))),
   )

@@ -101,6 +101,10 @@ pub fn reports<R: Threads + Sync, G: Gate + Sync>(
         (design_subject design.now) schedule.now traces.items sections.items) }
 {
     let jobs = jobs_of(alloc, traces)?;
-    let made = map_vec(rt, jobs, &|job| section(alloc, design, schedule, net, gate, job))?;
+    let made = map_vec(
+        rt,
+        jobs,
+        &|job| section(alloc, design, schedule, net, gate, job),
+    )?;
     made_sections(alloc, made)
 }
