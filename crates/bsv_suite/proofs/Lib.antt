@@ -1,2 +1,3 @@
 pub mod Copied
 pub mod Sectioned
+pub mod Put
