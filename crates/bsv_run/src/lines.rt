@@ -52,6 +52,14 @@ impl Lines {
         self.done
     }
 
+    /// The number of the line that was begun.
+    pub fn number(&self) -> u64
+        requires { 0 < length (held_of self.now) }
+        ensures { result ≡ lines_ended self.now + 1 }
+    {
+        self.done + 1
+    }
+
     /// Whether no line was begun.
     pub fn is_empty(&self) -> bool
         ensures { result ≡ (length (held_of self.now) == 0) }

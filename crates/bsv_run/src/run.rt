@@ -102,7 +102,7 @@ impl Run {
     {
         line(design, self.lines.text(), &mut self.requests)?;
         self.sim.clock(schedule, &self.requests, &mut self.fired);
-        let number = self.lines.done + 1;
+        let number = self.lines.number();
         let registers = self.sim.registers();
         self.writer
             .put(design, number, &self.fired, registers, out)?;

@@ -1,7 +1,6 @@
-use Rattle.std.proofs.Common.{refl}
 use Rattle.bsv_design.specs.scheme.Seen.{asking}
 use Rattle.bsv_run.specs.declared.run.Run.{Run}
-use Rattle.bsv_run.proofs.Clocking.{begins_clock, can_clock, fits_after, puts_clock, written}
+use Rattle.bsv_run.proofs.Clocking.{begins_clock, can_clock, puts_clock, written}
 use Rattle.bsv_run.proofs.Named.{asks_here, asks_there}
 use Rattle.bsv_run.proofs.run.Run.run_line.Goals as goal
 
@@ -19,7 +18,7 @@ returns-in_err-put-clause-started g c = λ _ s shown.
     let new : Run = record { lines = c.args.self.now.lines; sim = c.clock.new.self; requests = c.line.new.requests; fired = c.clock.new.fired; writer = c.put.new.self } in
     begins_clock d made c.args.self.now c.requires.fits new c.in_ok-line.ensures.fits c.clock.ensures.happens
     (asks_here d c.text.result.now _ (asking c.line.new.requests) c.text.ensures c.in_ok-line.ensures.asks) s shown
-    _ (g.O.Sink.writing c.args.out.now) (g.O.Sink.writing c.put.new.sink) refl
+    _ (g.O.Sink.writing c.args.out.now) (g.O.Sink.writing c.put.new.sink) c.number-number.ensures
     (c.in_err-put.ensures.prefix _
     (written d made c.args.self.now c.requires.fits new c.in_ok-line.ensures.fits c.clock.ensures.happens c.registers-registers.result.now c.registers-registers.ensures s shown))
 
@@ -32,7 +31,7 @@ returns-clause-ran g c =
       ran = λ s shown.
           puts_clock d made c.args.self.now c.requires.fits new c.in_ok-line.ensures.fits c.clock.ensures.happens
           (asks_here d c.text.result.now _ (asking c.line.new.requests) c.text.ensures c.in_ok-line.ensures.asks) s shown
-          _ (g.O.Sink.writing c.args.out.now) (g.O.Sink.writing c.put.new.sink) refl
+          _ (g.O.Sink.writing c.args.out.now) (g.O.Sink.writing c.put.new.sink) c.number-number.ensures
           (c.in_ok-put.ensures.ok _
           (written d made c.args.self.now c.requires.fits new c.in_ok-line.ensures.fits c.clock.ensures.happens c.registers-registers.result.now c.registers-registers.ensures s shown));
       done = c.end_line.ensures.done;
