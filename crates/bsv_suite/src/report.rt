@@ -44,7 +44,7 @@ fn put_report<O: Sink>(
 }
 
 /// The report of a trace that a design is run over, on its net. A sink that found no memory is want of memory.
-pub(crate) fn report(
+pub(crate) fn report_of(
     alloc: Global,
     design: &Design,
     schedule: &Schedule,

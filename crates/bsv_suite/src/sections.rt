@@ -3,7 +3,7 @@ ghost use Rattle.bsv_clock.specs.Subjects.{design_subject};
 ghost use Rattle.bsv_sim.specs.Simulation.{IsSimulated};
 ghost use Rattle.bsv_suite.specs.Sections.{AreSections, IsSection};
 
-use crate::report::report;
+use crate::report::report_of;
 use bsv_bits::{Name, OutOfMemory};
 use bsv_design::{Design, Schedule};
 use bsv_io::Gate;
@@ -47,7 +47,7 @@ fn jobs_of(alloc: Global, mut traces: Vec<Trace>) -> Result<Vec<Job>, AllocError
 }
 
 /// The section of a trace, whose worker passes the gate first and runs a copy of the net.
-fn section<G: Gate>(
+fn section_of<G: Gate>(
     alloc: Global,
     design: &Design,
     schedule: &Schedule,
@@ -61,7 +61,7 @@ fn section<G: Gate>(
 {
     gate.pass(job.number);
     let net = net.copy(alloc)?;
-    let report = report(alloc, design, schedule, net, job.trace.bytes.as_slice())?;
+    let report = report_of(alloc, design, schedule, net, job.trace.bytes.as_slice())?;
     Ok(Section {
         name: job.trace.name,
         text: report.text,
@@ -104,7 +104,7 @@ pub fn reports<R: Threads + Sync, G: Gate + Sync>(
     let made = map_vec(
         rt,
         jobs,
-        &|job| section(alloc, design, schedule, net, gate, job),
+        &|job| section_of(alloc, design, schedule, net, gate, job),
     )?;
     made_sections(alloc, made)
 }

@@ -1,6 +1,0 @@
-use Rattle.std.proofs.Common.{refl}
-use Rattle.bsv_suite.proofs.Copied.{copied}
-use Rattle.bsv_suite.proofs.sections.section.Goals as goal
-
-pub report-requires : goal.report-requires
-report-requires g c = copied c.args.design.now c.args.schedule.now c.in_ok-net.net c.args.net.now c.in_ok-net.ensures c.requires
