@@ -1,5 +1,5 @@
 -- What sections are made from: the traces with their places, what a sink holds after a report, and what each worker gives.
-use Rattle.std.proofs.Common.{◌≡◌, ◌∙◌, ℕ, zero, suc, ◌+◌, ◌<◌, inl, inr, List, [], ◌∷◌, ◌++◌, length, get_or, map, remove, Some, Ok, refl, sym, ap, subst, arith}
+use Rattle.std.proofs.Common.{◌≡◌, ◌∙◌, ℕ, zero, suc, ◌+◌, ◌<◌, inl, inr, List, [], ◌∷◌, ◌++◌, length, get_or, map, remove, Some, Err, Ok, refl, sym, ap, subst, arith}
 use Rattle.std.proofs.lemmas.List.{length-map}
 use Rattle.std.proofs.lemmas.Option.{same_Some}
 use Rattle.std.specs.Prelude.{Result, IfOk, slice_index_or}
@@ -11,6 +11,7 @@ use Rattle.bsv_io.specs.Writing.{Writing, appended}
 use Rattle.bsv_run.specs.Running.{IsDone, IsFaulty}
 use Rattle.bsv_suite.specs.declared.sections.Job.{Job}
 use Rattle.bsv_suite.specs.declared.sections.Section.{Section}
+use Rattle.bsv_suite.specs.declared.sections.Trace.{Trace}
 use Rattle.bsv_suite.specs.Sections.{AreSections, IsReported, IsSection, section_limit}
 
 -- ---- the front of a list is moved behind another one
@@ -27,7 +28,7 @@ one_moved f whole (x ∷ old) new ys y some first rest before =
 
 -- ---- what a sink holds
 
-nothing_put : GrowTarget
+abbrev pub nothing_put : GrowTarget
 nothing_put = record { bytes = []; faults = 0 }
 
 text_put : (t : GrowTarget) (text : List ℕ) → grow_writing t ≡ appended text (grow_writing nothing_put) → t.bytes ≡ text
@@ -56,19 +57,38 @@ module _ (s : Subject) (made : Schedule) (trace : List ℕ) (t : GrowTarget) whe
 
 -- ---- what the workers give
 
+abbrev results_of : List Section → List (Result Section OutOfMemory)
+results_of xs = map Ok xs
+
+as_many : (xs : List Section) → length (results_of xs) ≡ length xs
+as_many xs = length-map xs Ok
+
+shorter : (jobs : List Job) (results : List (Result Section OutOfMemory)) (x : Section) (xs : List Section) → length jobs + 1 ≡ length results
+    → length results ≡ length xs + 1 → length jobs ≡ length (results_of xs)
+shorter jobs results x xs long more = omega (arith, long, more, as_many xs)
+
 module _ (s : Subject) (made : Schedule) where
   sections_of : (jobs : List Job) (results : List (Result Section OutOfMemory)) (xs : List Section) → results ≡ map Ok xs → length jobs ≡ length results
       → ((i : ℕ) (j : Job) (r : Result Section OutOfMemory) → i < length jobs → IfOk (slice_index_or results i r) (IsSection s made (slice_index_or jobs i j).trace))
       → AreSections s made (map (λ j. j.trace) jobs) xs
   sections_of [] results [] is long each = tt
   sections_of [] results (x ∷ xs) is long each =
-      let none : 0 ≡ length (map Ok xs) + 1 = long ∙ ap length is in
-      absurd (omega (arith, none))
+      let more : length results ≡ length (x ∷ xs) = ap length is ∙ as_many (x ∷ xs) in
+      absurd (omega (arith, long, more))
   sections_of (j ∷ jobs) results [] is long each =
-      let none : length jobs + 1 ≡ 0 = long ∙ ap length is in
-      absurd (omega (arith, none))
+      let none : length results ≡ 0 = ap length is in
+      absurd (omega (arith, long, none))
   sections_of (j ∷ jobs) results (x ∷ xs) is long each = (
     subst (λ rs. IfOk (slice_index_or rs 0 (Ok x)) (IsSection s made j.trace)) is (each 0 j (Ok x) (omega arith)),
-    sections_of jobs (map Ok xs) xs refl (omega (arith, long, ap length is))
+    sections_of jobs (map Ok xs) xs refl (shorter jobs results x xs (omega (arith, long)) (omega (arith, ap length is, as_many xs)))
         (λ i k r below. subst (λ rs. IfOk (slice_index_or rs (suc i) r) (IsSection s made (slice_index_or jobs i k).trace)) is (each (suc i) k r (omega (arith, below)))),
   )
+
+  -- all of it, where each worker gives the section of its own job
+  pub sections_made : {V E : Type 0} (items : V → List Section) (found : Result V E) (traces : List Trace) (jobs : List Job)
+      (results : List (Result Section OutOfMemory)) → traces ≡ map (λ j. j.trace) jobs → length jobs ≡ length results
+      → ((i : ℕ) (j : Job) (r : Result Section OutOfMemory) → i < length jobs → IfOk (slice_index_or results i r) (IsSection s made (slice_index_or jobs i j).trace))
+      → IfOk found (λ v. results ≡ map Ok (items v)) → IfOk found (λ v. AreSections s made traces (items v))
+  sections_made items (Err e) traces jobs results are long each h = h
+  sections_made items (Ok v) traces jobs results are long each h =
+      subst (λ ts. AreSections s made ts (items v)) (sym are) (sections_of jobs results (items v) h long each)

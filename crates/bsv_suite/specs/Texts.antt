@@ -11,4 +11,4 @@ abbrev pub end_text : ℕ → List ℕ
 end_text bad = if bad == 0 then [] else bad_line_text bad
 
 unfoldable pub section_text : Section → List ℕ
-section_text x = codes "trace " ++ x.name ++ line_feed ++ x.text.items ++ end_text x.bad
+section_text x = codes "trace " ++ (x.name ++ (line_feed ++ (x.text.items ++ end_text x.bad)))
