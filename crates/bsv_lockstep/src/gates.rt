@@ -18,6 +18,7 @@ const TURNS: u64 = 1_000_000_000;
 const TRACES: u64 = 64;
 
 /// A gate that holds the first worker until a second one has come, and notes where none came.
+#[derive(Drop)]
 struct MeetingGate {
     come: AtomicU64,
     missed: AtomicBool,
