@@ -1,6 +1,6 @@
 //! Runs in which one call fails: each call of the files, each put of the output, and the put of the fault text.
 
-use crate::running::{Answer, Contents, Failing, SOURCE, TRACE, answer_to};
+use crate::running::{Answer, Contents, Failing, LIST, SOURCE, TRACE, answer_to};
 use anyhow::Result;
 use bsv_top::Status;
 use std::thread::Threads;
@@ -12,14 +12,19 @@ fn is_line(text: &[u8], words: &str, name: &str) -> bool {
     rest == Some(b"\n".as_slice())
 }
 
+/// The name of the file that was chosen last, after so many choices, in a run with the words of a line.
+fn chosen_in(line: &str, choices: u64) -> &'static str {
+    match choices {
+        0 | 1 => SOURCE,
+        2 if line.starts_with("suite") => LIST,
+        _ => TRACE,
+    }
+}
+
 /// Whether a run ended as it should where a call of the files failed, the one after so many: status 3, the name
 /// of the file that was chosen, no later call, and a front of what is put without a fault.
-fn is_read_fault(answer: &Answer, before: u64, whole: &Answer) -> bool {
-    let name = if answer.files.choices <= 1 {
-        SOURCE
-    } else {
-        TRACE
-    };
+fn is_read_fault(line: &str, answer: &Answer, before: u64, whole: &Answer) -> bool {
+    let name = chosen_in(line, answer.files.choices);
     answer.status == Status::ReadFault
         && answer.files.calls == before.saturating_add(1)
         && is_line(answer.err.bytes(), "cannot read ", name)
@@ -46,7 +51,7 @@ fn fail_reads<R: AllocGlobal + Threads + Sync>(
     let mut faults = 0u64;
     for number in 0..whole.files.calls {
         let answer = answer_to(rt, line, contents, Failing::Read(number))?;
-        if !is_read_fault(&answer, number, whole) {
+        if !is_read_fault(line, &answer, number, whole) {
             faults = faults.saturating_add(1);
         }
     }

@@ -1,6 +1,6 @@
 //! Runs each command where one call after the other fails outside, and over a source that is cut after each of its
 //! bytes, and tells which runs do not end as they should. The words are none; the source is `Gcd.bsv`, which is run
-//! with `trace.txt` and prints `report.txt`.
+//! with `trace.txt`, and over a list of nine times `trace.txt`, and prints `report.txt`.
 //!
 //! Modules in reading order: `counted` (files and sinks that count their calls), `running` (words and contents to an
 //! answer), `failing` (calls that fail), `cutting` (cut sources).
@@ -29,8 +29,11 @@ const LINES: [&str; 3] = [RUN, "schedule Gcd.bsv mkGcd", "verilog Gcd.bsv mkGcd"
 /// The words of a run that is done without a file.
 const MADE: &str = "made 2";
 
+/// The words of a run over a list of traces.
+const SUITE: &str = "suite Gcd.bsv mkGcd list.txt";
+
 /// The words of runs that have a fault text: no form, no file, no module, and a bad trace.
-const TEXTS: [&str; 10] = [
+const TEXTS: [&str; 13] = [
     "",
     "sim",
     "made 0",
@@ -41,6 +44,9 @@ const TEXTS: [&str; 10] = [
     "schedule Gcd.bsv mkNone",
     "verilog trace.txt mkGcd",
     "sim Gcd.bsv mkGcd Gcd.bsv",
+    "suite Gcd.bsv mkGcd",
+    "suite Gcd.bsv mkGcd none.txt",
+    "suite Gcd.bsv mkGcd trace.txt",
 ];
 
 /// Runs all, and gives how many runs did not end as they should.
@@ -57,6 +63,7 @@ fn run_all<R: Files + AllocGlobal + Print + Threads + Sync>(rt: &R) -> Result<u6
     for line in LINES {
         faults = faults.saturating_add(fail_each(rt, line, contents)?);
     }
+    faults = faults.saturating_add(fail_each(rt, SUITE, contents)?);
     faults = faults.saturating_add(fail_each(rt, MADE, contents)?);
     faults = faults.saturating_add(fail_texts(rt, &TEXTS, contents)?);
     for line in LINES {

@@ -15,6 +15,13 @@ pub(crate) const SOURCE: &str = "Gcd.bsv";
 /// The name of the trace.
 pub(crate) const TRACE: &str = "trace.txt";
 
+/// The name of the list of a suite.
+pub(crate) const LIST: &str = "list.txt";
+
+/// The list: nine traces, which are more than a group.
+const NAMES: &[u8] =
+    b"trace.txt\ntrace.txt\ntrace.txt\ntrace.txt\ntrace.txt\ntrace.txt\ntrace.txt\ntrace.txt\ntrace.txt";
+
 /// Which call fails, by its number among those of its kind.
 #[derive(Clone, Copy)]
 pub(crate) enum Failing {
@@ -73,10 +80,15 @@ fn listed(alloc: Global, number: Option<u64>) -> Result<Vec<u64>, AllocError> {
     Ok(numbers)
 }
 
-/// The source and the trace, of which this call fails.
+/// The source, the trace and the list, of which this call fails.
 fn files_of(alloc: Global, contents: Contents<'_>, failing: Option<u64>) -> Result<CountedFiles> {
     let mut files = Vec::new(alloc);
-    for (name, bytes) in [(SOURCE, contents.source), (TRACE, contents.trace)] {
+    let all = [
+        (SOURCE, contents.source),
+        (TRACE, contents.trace),
+        (LIST, NAMES),
+    ];
+    for (name, bytes) in all {
         let name = Name::new(alloc, name.as_bytes())?;
         files.push((name, Vec::from_slice(alloc, bytes)?))?;
     }

@@ -4,6 +4,7 @@ pub mod Calls
 pub mod Disk
 pub mod Faults
 pub mod InMemory
+pub mod Moving
 pub mod Prefixes
 pub mod Reading
 pub mod Standing

@@ -1,12 +1,15 @@
 //! Runs designs clock by clock by four engines, and tells whether they agree: the serial engine, which runs one
 //! element after the other; the net of the design, each of whose words is computed once a clock; that net without
 //! repeats; and the simulator, which keeps its registers from clock to clock. It looks, too, whether a net without
-//! repeats has two equal nodes. The words are the names of case files.
+//! repeats has two equal nodes, whether two workers stand side by side where work goes by workers, and what a suite of
+//! traces is reported as. The words are the names of case files: of the first one the workers are looked at, and of the
+//! second one a suite.
 //!
 //! Modules in reading order: `case` (a case file), `compiling` (its design, which can be run, and its net), `shown`
 //! (the words of registers that show a state), `asked` (the words of inputs that a line of a trace asks for),
 //! `evaluating` (the words of a net), `agreeing` (whether a net and the simulator tell what the serial engine did),
-//! `clocks` (a design that is run by all), `gates` (whether two workers stand side by side). What a run keeps from clock to clock is in `specs/Running.antt`.
+//! `clocks` (a design that is run by all), `gates` (whether two workers stand side by side), `suites` (a suite of
+//! traces). What a run keeps from clock to clock is in `specs/Running.antt`.
 #![tactic(auto)]
 
 ghost use Rattle.bsv_flow.specs.Running.{BelongTogether};
@@ -19,12 +22,14 @@ mod compiling;
 mod evaluating;
 mod gates;
 mod shown;
+mod suites;
 
 use crate::agreeing::has_repeat;
 use crate::case::{Case, case_of};
 use crate::clocks::{Engine, Outcome, outcome_of};
 use crate::compiling::{compiled_of, net_of};
 use crate::gates::workers_meet;
+use crate::suites::suite_text;
 use anyhow::{Context, Result, bail};
 use bsv_flow::Compiled;
 use bsv_io::NoGate;
@@ -80,6 +85,15 @@ fn show_workers<R: Files + AllocGlobal + Print + Threads + Sync>(rt: &R, file: &
     Ok(())
 }
 
+/// Shows what a suite of traces is reported as.
+fn show_suite<R: Files + AllocGlobal + Print + Threads + Sync>(rt: &R, file: &str) -> Result<()> {
+    let case = read_case(rt, file)?;
+    let compiled = compiled_of(rt, &case, &NoGate)?;
+    let text = suite_text(rt, &compiled)?;
+    print!(rt; "{text}")?;
+    Ok(())
+}
+
 /// Runs a case by all engines, and tells whether they agree.
 fn run_case<R: Files + AllocGlobal + Print + Threads + Sync>(rt: &R, file: &str) -> Result<()> {
     let case = read_case(rt, file)?;
@@ -90,8 +104,9 @@ fn run_case<R: Files + AllocGlobal + Print + Threads + Sync>(rt: &R, file: &str)
 
 fn main(rt: HostRuntime) -> Result<()> {
     let files: Vec<String> = std::env::args(&rt)?.skip(1).collect(rt.alloc())?;
-    if let Some(first) = files.first() {
-        show_workers(&rt, first.as_str()).context(format_args!("running {first}"))?;
+    if let [workers, suite, ..] = files.as_slice() {
+        show_workers(&rt, workers.as_str()).context(format_args!("running {workers}"))?;
+        show_suite(&rt, suite.as_str()).context(format_args!("running {suite}"))?;
     }
     for file in files.as_slice() {
         let file = file.as_str();

@@ -10,5 +10,5 @@ mod lines;
 mod run;
 
 pub use halt::Halt;
-pub use lines::{Lines, first_line};
+pub use lines::{Lines, first_line, text_of};
 pub use run::Run;

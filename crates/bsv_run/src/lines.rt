@@ -138,8 +138,8 @@ fn without_last(byte: u8, bytes: &[u8]) -> &[u8]
     }
 }
 
-/// What a line says.
-fn text_of(line: &[u8]) -> &[u8]
+/// What a line says, without its line feed and without one carriage return before that.
+pub fn text_of(line: &[u8]) -> &[u8]
     ensures { result.now ≡ line_text line.now }
 {
     without_last(b'\r', without_last(b'\n', line))

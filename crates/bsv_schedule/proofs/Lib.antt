@@ -14,3 +14,4 @@ pub mod BehindLemmas
 pub mod PlaceLemmas
 pub mod UrgencyLemmas
 pub mod OneUrgency
+pub mod BlockLemmas

@@ -1,10 +1,10 @@
 -- What is marked in a row, use by use and user by user.
-use Rattle.std.proofs.Common.{◌≡◌, ◌∙◌, ℕ, zero, suc, ◌<◌, ◌+◌, ◌⊎◌, inl, inr, Bool, true, false, List, [], ◌∷◌, ◌++◌, length, get_or, replicate, remove, map, take, drop, Ok, refl, sym, ap, subst, arith, length-append, Some}
+use Rattle.std.proofs.Common.{◌≡◌, ◌∙◌, ℕ, zero, suc, ◌<◌, ◌+◌, ◌⊎◌, inl, inr, Bool, true, false, List, [], ◌∷◌, ◌++◌, length, get_or, replicate, take, drop, refl, sym, ap, subst, arith, length-append, Some}
 use Rattle.std.proofs.lemmas.Bool.{and_from, and_parts, cases_eq, cases_lt, eq-eqb, eqb-true}
 use Rattle.std.proofs.Common.{append-nil, get_or-set_same, get_or-set_other}
 use Rattle.std.proofs.lemmas.List.{drop_all, length-set, take_all}
 use Rattle.std.proofs.lemmas.Option.{get_or_from_slice_get, same_Some, slice_get_within}
-use Rattle.std.specs.Prelude.{All, Result, IsTrue, ◌==◌, ◌↔◌, slice_get, slice_index_or, slice_set}
+use Rattle.std.specs.Prelude.{All, IsTrue, ◌==◌, slice_get, slice_index_or, slice_set}
 use Rattle.bsv_lemmas.proofs.Places.{at_left, at_middle, item_there}
 use Rattle.bsv_design.specs.declared.kind.Kind.{Kind}
 use Rattle.bsv_design.specs.design.Bodies.{Target}
@@ -39,17 +39,6 @@ each_more xs x P before last a y is = elim (cases_lt a (length xs)) [
       let same : x ≡ y = same_Some x y (sym (ap (slice_get (xs ++ x ∷ [])) at ∙ at_middle xs [] x) ∙ is) in
       subst (λ z. P a z) same (subst (λ n. P n x) (sym at) last)
 ]
-
--- one result more is taken
-map_ok_more : {X E : Type 0} (xs : List X) (x : X) (rest : List (Result X E)) → map Ok (xs ++ x ∷ []) ++ rest ≡ map Ok xs ++ Ok x ∷ rest
-map_ok_more [] x rest = refl
-map_ok_more (y ∷ xs) x rest = ap (λ zs. Ok y ∷ zs) (map_ok_more xs x rest)
-
-pub one_taken : {X E : Type 0} (whole old new : List (Result X E)) (xs : List X) (x : X) → 0 < length old → Ok x ≡ get_or old 0 (Ok x) → new ≡ remove old 0
-    → whole ≡ map Ok xs ++ old → whole ≡ map Ok (xs ++ x ∷ []) ++ new
-one_taken whole [] new xs x some first rest before = absurd (omega (arith, some))
-one_taken whole (r ∷ old) new xs x some first rest before =
-    before ∙ (ap (λ q. map Ok xs ++ q ∷ old) (sym first) ∙ (sym (map_ok_more xs x old) ∙ ap (λ zs. map Ok (xs ++ x ∷ []) ++ zs) (sym rest)))
 
 -- one mark more
 pub mark_more : (xs : List Bool) (x : Bool) (n : ℕ) (f : ℕ → Bool) → length xs ≡ n → ((m : ℕ) → m < n → mark xs m ≡ f m) → x ≡ f n

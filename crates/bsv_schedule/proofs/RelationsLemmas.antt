@@ -1,5 +1,5 @@
 -- The tables and lists that the code makes of a design are how its elements relate.
-use Rattle.std.proofs.Common.{◌≡◌, ◌∙◌, ℕ, ◌<◌, ◌⊎◌, inl, inr, Bool, true, false, not, ◌&&◌, List, [], ◌∷◌, ◌++◌, length, map, zero, suc, refl, sym, ap, subst, Some, None, ltb-true}
+use Rattle.std.proofs.Common.{◌≡◌, ◌∙◌, ℕ, ◌+◌, ◌<◌, ◌⊎◌, inl, inr, Bool, true, false, not, ◌&&◌, List, [], ◌∷◌, ◌++◌, length, map, zero, suc, refl, sym, ap, arith, subst, Some, None, ltb-true}
 use Rattle.std.proofs.lemmas.Bool.{lt-ltb, eqb-true, and_parts, and_from}
 use Rattle.std.proofs.lemmas.List.{length-map}
 use Rattle.std.proofs.lemmas.Option.{get_or_from_slice_get, same_Some, slice_get_within}
@@ -31,9 +31,11 @@ use Rattle.bsv_schedule.specs.relating.Relating.{Agrees, feed_edges}
 use Rattle.bsv_schedule.specs.relating.Relations.{relating_of, marked}
 use Rattle.bsv_graph.specs.Table.{side_of, at}
 use Rattle.bsv_schedule.specs.declared.relating.rows.Row.{Row}
+use Rattle.bsv_schedule.specs.relating.Blocks.{block_count, AreRowsBetween, AreRowsOfBlock}
 use Rattle.bsv_schedule.specs.relating.Rows.{mark_at, mark_of, marks_in, AreMarksOf, AreRows, IsRow, IsSquare}
 use Rattle.bsv_schedule.specs.relating.Uses.{Among, AreUsages, Meets, UseSame, used, pair_below}
 use Rattle.bsv_graph.specs.Walks.{HasEdge}
+use Rattle.bsv_schedule.proofs.BlockLemmas.{blocks_are_rows}
 use Rattle.bsv_schedule.proofs.DesignLemmas.{uses_some, uses_none, kinds_are, pairs_below}
 use Rattle.bsv_graph.proofs.EdgeLemmas.{all_within, in_below}
 use Rattle.bsv_schedule.proofs.Truths.{same_truths}
@@ -279,14 +281,28 @@ module _ (d : Design) where
       (subst (λ k. IsSchemeOf (design_scheme (design_data d)) k es) (sym kinds) (subst (IsSchemeOf (design_scheme (design_data d)) (kinds_of (design_data d))) (sym elements) scheme))
       us are rows long each)
 
-  pub made_rows : {V E : Type 0} (items : V → List Row) (found : Result V E) (ks : List Kind) (es : List Element) (us : List (List Use))
-      (made : List (Result Row E)) → ks ≡ kinds_of (design_data d) → es ≡ d.elements → AreUsages ks es us → length made ≡ length us
-      → ((i : ℕ) (r : Result Row E) → i < length made → IfOk (slice_index_or made i r) (λ row. (w : Relation) → AreMarksOf w ks us i (marks_in w row)))
-      → IfOk found (λ v. made ≡ map Ok (items v)) → IfOk found (λ v. AreRows (design_scheme (design_data d)) (length d.elements) (items v))
-  made_rows items (Err e) ks es us made kinds elements are long each h = h
-  made_rows items (Ok v) ks es us made kinds elements are long each h =
-      design_rows ks es us (items v) kinds elements are (sym (length-map (items v) Ok) ∙ (sym (ap length h) ∙ long))
-      (of_made made (items v) (λ a row. (w : Relation) → AreMarksOf w ks us a (marks_in w row)) h each)
+  -- the rows of all elements by what they use are those of the design
+  pub between_rows : {W E : Type 0} (items : W → List Row) (found : Result W E) (ks : List Kind) (es : List Element) (us : List (List Use)) (n : ℕ)
+      → ks ≡ kinds_of (design_data d) → es ≡ d.elements → AreUsages ks es us → n ≡ length us → IfOk found (λ w. AreRowsBetween ks us 0 n (items w))
+      → IfOk found (λ w. AreRows (design_scheme (design_data d)) (length d.elements) (items w))
+  between_rows items (Err e) ks es us n kinds elements are long h = h
+  between_rows items (Ok w) ks es us n kinds elements are long h =
+      let same : (a : ℕ) → 0 + a ≡ a = λ a. omega arith in
+      design_rows ks es us (items w) kinds elements are (omega (arith, h.count, long))
+      (λ a row is v. subst (λ k. AreMarksOf v ks us k (marks_in v row)) (same a) (h.each a row is v))
+
+  -- so are those of blocks that were made, one block after the other
+  pub block_rows : {V W E F : Type 0} (of : V → List Row) (items : W → List Row) (found : Result W F) (ks : List Kind) (es : List Element) (us : List (List Use))
+      (made : List (Result V E)) (blocks : List V) → ks ≡ kinds_of (design_data d) → es ≡ d.elements → AreUsages ks es us
+      → length made ≡ block_count (length us)
+      → ((k : ℕ) (r : Result V E) → k < length made → IfOk (slice_index_or made k r) (λ v. AreRowsOfBlock ks us k (of v)))
+      → made ≡ map Ok blocks → IfOk found (λ w. items w ≡ flat_map of blocks)
+      → IfOk found (λ w. AreRows (design_scheme (design_data d)) (length d.elements) (items w))
+  block_rows of items (Err e) ks es us made blocks kinds elements are long each taken h = h
+  block_rows {F = F} of items (Ok w) ks es us made blocks kinds elements are long each taken h =
+      let count : length blocks ≡ block_count (length us) = sym (length-map blocks Ok) ∙ (sym (ap length taken) ∙ long) in
+      let rows = blocks_are_rows ks us of blocks count (of_made made blocks (λ k v. AreRowsOfBlock ks us k (of v)) taken each) in
+      between_rows {E = F} items (Ok w) ks es us (length us) kinds elements are refl (subst (AreRowsBetween ks us 0 (length us)) (sym h) rows)
 
   module _ (rows : List Row) (are : AreRows (design_scheme (design_data d)) (length d.elements) rows) (t : Table) (side : side_of t ≡ length rows) where
     marks_of : (w : Relation) → ((a b : ℕ) → a < length rows → b < length rows → IsTrue (at t a b) ↔ IsTrue (mark_at w rows a b))

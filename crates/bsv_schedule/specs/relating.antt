@@ -6,4 +6,5 @@ pub mod Related
 pub mod Uses
 pub mod Users
 pub mod Rows
+pub mod Blocks
 pub mod Marks

@@ -1,3 +1,6 @@
+pub mod Beyond
 pub mod Copied
-pub mod Sectioned
+pub mod Naming
 pub mod Put
+pub mod Sectioned
+pub mod Suited

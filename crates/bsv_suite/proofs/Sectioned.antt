@@ -1,5 +1,5 @@
 -- What sections are made from: the traces with their places, what a sink holds after a report, and what each worker gives.
-use Rattle.std.proofs.Common.{◌≡◌, ◌∙◌, ℕ, zero, suc, ◌+◌, ◌<◌, inl, inr, List, [], ◌∷◌, ◌++◌, length, get_or, map, remove, Some, Err, Ok, refl, sym, ap, subst, arith}
+use Rattle.std.proofs.Common.{◌≡◌, ◌∙◌, ℕ, suc, ◌+◌, ◌<◌, inl, inr, List, [], ◌∷◌, length, map, Err, Ok, refl, sym, ap, subst, arith}
 use Rattle.std.proofs.lemmas.List.{length-map}
 use Rattle.std.proofs.lemmas.Option.{same_Some}
 use Rattle.std.specs.Prelude.{Result, IfOk, slice_index_or}
@@ -13,18 +13,6 @@ use Rattle.bsv_suite.specs.declared.sections.Job.{Job}
 use Rattle.bsv_suite.specs.declared.sections.Section.{Section}
 use Rattle.bsv_suite.specs.declared.sections.Trace.{Trace}
 use Rattle.bsv_suite.specs.Sections.{AreSections, IsReported, IsSection, section_limit}
-
--- ---- the front of a list is moved behind another one
-
-map_more : {X Y : Type 0} (f : Y → X) (ys : List Y) (y : Y) (rest : List X) → map f (ys ++ y ∷ []) ++ rest ≡ map f ys ++ f y ∷ rest
-map_more f [] y rest = refl
-map_more f (z ∷ ys) y rest = ap (λ zs. f z ∷ zs) (map_more f ys y rest)
-
-pub one_moved : {X Y : Type 0} (f : Y → X) (whole old new : List X) (ys : List Y) (y : Y) → 0 < length old → f y ≡ get_or old 0 (f y) → new ≡ remove old 0
-    → whole ≡ map f ys ++ old → whole ≡ map f (ys ++ y ∷ []) ++ new
-one_moved f whole [] new ys y some first rest before = absurd (omega (arith, some))
-one_moved f whole (x ∷ old) new ys y some first rest before =
-    before ∙ (ap (λ z. map f ys ++ z ∷ old) (sym first) ∙ (sym (map_more f ys y old) ∙ ap (λ zs. map f (ys ++ y ∷ []) ++ zs) (sym rest)))
 
 -- ---- what a sink holds
 

@@ -4,11 +4,21 @@ use Rattle.std.specs.Prelude.{ℕ, ◌==◌, List, [], ◌++◌, codes, decimal,
 use Rattle.bsv_trace.specs.Texts.{line_feed}
 use Rattle.bsv_suite.specs.declared.sections.Section.{Section}
 
+-- what is told of a trace: its name, its report, and the number of its first bad line, or 0 where there is none
+pub record Told : Type 0 where
+  pub name : List ℕ
+  pub text : List ℕ
+  pub bad : ℕ
+
+-- what a section tells
+abbrev pub told_of : Section → Told
+told_of x = record { name = x.name; text = x.text.items; bad = x.bad }
+
 abbrev pub bad_line_text : ℕ → List ℕ
 bad_line_text number = codes "trace line " ++ decimal number ++ line_feed
 
 abbrev pub end_text : ℕ → List ℕ
 end_text bad = if bad == 0 then [] else bad_line_text bad
 
-unfoldable pub section_text : Section → List ℕ
-section_text x = codes "trace " ++ (x.name ++ (line_feed ++ (x.text.items ++ end_text x.bad)))
+unfoldable pub section_text : Told → List ℕ
+section_text t = codes "trace " ++ (t.name ++ (line_feed ++ (t.text ++ end_text t.bad)))

@@ -1,4 +1,4 @@
-ghost use Rattle.std.specs.Prelude.{◌≡◌, ◌<◌, ◌^◌, IfOk, Ok, length, map};
+ghost use Rattle.std.specs.Prelude.{◌≡◌, ◌<◌, ◌^◌, IfOk, length, map};
 ghost use Rattle.bsv_clock.specs.Subjects.{design_subject};
 ghost use Rattle.bsv_sim.specs.Simulation.{IsSimulated};
 ghost use Rattle.bsv_suite.specs.Sections.{AreSections, IsSection};
@@ -6,7 +6,7 @@ ghost use Rattle.bsv_suite.specs.Sections.{AreSections, IsSection};
 use crate::report::report_of;
 use bsv_bits::{Name, OutOfMemory};
 use bsv_design::{Design, Schedule};
-use bsv_io::Gate;
+use bsv_io::{Gate, all_made};
 use bsv_net::Net;
 use std::alloc::{AllocError, Global};
 use std::thread::{Threads, map_vec};
@@ -69,21 +69,6 @@ fn section_of<G: Gate>(
     })
 }
 
-/// The sections, where each was made.
-fn made_sections(
-    alloc: Global,
-    mut made: Vec<Result<Section, OutOfMemory>>,
-) -> Result<Vec<Section>, OutOfMemory>
-    ensures { IfOk result (λ sections. made.items ≡ map Ok sections.items) }
-{
-    let mut sections = Vec::new(alloc);
-    while !made.is_empty() {
-        let section = made.remove(0);
-        sections.push(section?)?;
-    }
-    Ok(sections)
-}
-
 /// The sections of the traces, each once, in their order: each is run from the opening state on the net, which is that of the
 /// design and its schedule, by a worker of its own, which passes the gate once, with the trace's place. A trace may have
 /// 1,048,576 bytes; the line that holds the next one is bad, and ends its section.
@@ -106,5 +91,5 @@ pub fn reports<R: Threads + Sync, G: Gate + Sync>(
         jobs,
         &|job| section_of(alloc, design, schedule, net, gate, job),
     )?;
-    made_sections(alloc, made)
+    all_made(alloc, made)
 }

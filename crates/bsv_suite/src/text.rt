@@ -1,7 +1,7 @@
 ghost use Rattle.std.specs.Prelude.{◌≡◌, ◌≤◌, OnOk, OnErr};
 ghost use Rattle.bsv_io.specs.Faults.{MayFault};
 ghost use Rattle.bsv_io.specs.Writing.{appended, AppendsPrefix};
-ghost use Rattle.bsv_suite.specs.Texts.{section_text};
+ghost use Rattle.bsv_suite.specs.Texts.{section_text, told_of};
 
 use crate::sections::Section;
 use bsv_io::{Failed, Sink, put_all};
@@ -11,8 +11,8 @@ use itoa::Buffer;
 /// there is one.
 pub fn put_section<O: Sink>(section: &Section, out: &mut O) -> Result<(), Failed>
     ensures ok { OnOk result (O.writing out.new
-        ≡ appended (section_text section.now) (O.writing out.old)) }
-    ensures prefix { AppendsPrefix (section_text section.now) (O.writing out.old)
+        ≡ appended (section_text (told_of section.now)) (O.writing out.old)) }
+    ensures prefix { AppendsPrefix (section_text (told_of section.now)) (O.writing out.old)
         (O.writing out.new) }
     ensures count { (O.writing out.old).faults ≤ (O.writing out.new).faults }
     ensures counted { OnErr result (MayFault (O.writing out.old).faults

@@ -14,6 +14,7 @@ use Rattle.bsv_top.specs.Made.{IsMade, made_contents, made_file, made_top}
 use Rattle.bsv_top.specs.OneAnswer.{HaveModules, LayOut}
 use Rattle.bsv_top.specs.Products.{product_words}
 use Rattle.bsv_top.proofs.Answering.{some_answer}
+use Rattle.bsv_top.proofs.SuiteAnswers.{suite_answer}
 use Rattle.bsv_top.proofs.Decides.{Decides, decide}
 use Rattle.bsv_top.proofs.MadeRun.{made_answer}
 use Rattle.bsv_top.proofs.Spelled.{Spells, asks, spells}
@@ -51,6 +52,7 @@ module _ (words : List (List ℕ)) (contents : List ℕ → List ℕ) (lays : La
   some = elim (spells words) [
     | Spells.plan p file top is ↦ of_files file top (asks words p file top is) (of_product p file top is)
     | Spells.run file top trace is ↦ of_files file top (Asks.sim trace is) (λ tree made p. some_answer words contents file top trace is tree made p (lays.simulated file top trace tree made is p))
+    | Spells.listed file top list is ↦ of_files file top (Asks.suite list is) (λ tree made p. suite_answer words contents file top list is tree made p (lays.listed file top list tree made is p))
     | Spells.make n is ↦ of_made n is
     | Spells.none h ↦ record { decided = status.Usage; output = []; text = usage_line; answer = a.Answer.usage h }
   ]

@@ -46,10 +46,10 @@ module _ (words : List (List ℕ)) (contents : List ℕ → List ℕ) (file top 
   well = grounds.clocked_here tree made laid.design laid.alike planned.planned.scheduled
 
   all_fit : (start : ℕ) (lines : List (List ℕ)) (qs : List Asking) → AreAsked trace_limit S.elements start lines qs → AllFit S qs
-  all_fit = grounds.all_fit tree made laid.design laid.alike planned.planned.scheduled
+  all_fit = grounds.all_fit tree made laid.design laid.alike planned.planned.scheduled trace_limit
 
   all_fit_to_bad : (start : ℕ) (lines : List (List ℕ)) (qs : List Asking) → AreAskedToBad trace_limit S.elements start lines qs → AllFit S qs
-  all_fit_to_bad = grounds.all_fit_to_bad tree made laid.design laid.alike planned.planned.scheduled
+  all_fit_to_bad = grounds.all_fit_to_bad tree made laid.design laid.alike planned.planned.scheduled trace_limit
 
   -- from each state that fits the run goes on
   goes : (s : List Part) (qs : List Asking) → FitsKinds S.kinds s → AllFit S qs → Goes false S made s qs

@@ -31,7 +31,6 @@ use Rattle.bsv_flow.specs.Schedulings.{IsScheduled, subject}
 use Rattle.bsv_flow.proofs.ScheduledTrees.{obeys_scheduled}
 use Rattle.bsv_flow.proofs.WellClocked.{well_clocked}
 use Rattle.bsv_run.specs.Traces.{AreAsked, AreAskedToBad}
-use Rattle.bsv_top.specs.Traces.{trace_limit}
 use Rattle.bsv_run.proofs.Happening.{room}
 use Rattle.bsv_run.proofs.Named.{outlines_are}
 use Rattle.bsv_schedule.proofs.RelationsLemmas.{agrees_design}
@@ -97,13 +96,13 @@ module _ (tree : TreeData) (made : Schedule) (d : Design) (al : AreAlike (tree_s
       let fit = line_fits d.elements line q (readable d) (nothing_fits d (nothing_asked d.elements) refl) there in
       (belonging.fit_alike T S back q (opening T.kinds) (record { requests = requests_fit d q fit; parts = opening_fits T.kinds })).requests
 
-  pub all_fit : (start : ℕ) (lines : List (List ℕ)) (qs : List Asking) → AreAsked trace_limit S.elements start lines qs → AllFit S qs
-  all_fit start [] [] h = tt
-  all_fit start [] (q ∷ qs) h = absurd h
-  all_fit start (line ∷ lines) [] h = absurd h
-  all_fit start (line ∷ lines) (q ∷ qs) h = (asked_fits _ q h.0.asks, all_fit (start + length line) lines qs h.1)
+  pub all_fit : (limit start : ℕ) (lines : List (List ℕ)) (qs : List Asking) → AreAsked limit S.elements start lines qs → AllFit S qs
+  all_fit limit start [] [] h = tt
+  all_fit limit start [] (q ∷ qs) h = absurd h
+  all_fit limit start (line ∷ lines) [] h = absurd h
+  all_fit limit start (line ∷ lines) (q ∷ qs) h = (asked_fits _ q h.0.asks, all_fit limit (start + length line) lines qs h.1)
 
-  pub all_fit_to_bad : (start : ℕ) (lines : List (List ℕ)) (qs : List Asking) → AreAskedToBad trace_limit S.elements start lines qs → AllFit S qs
-  all_fit_to_bad start [] qs h = absurd h
-  all_fit_to_bad start (line ∷ lines) [] h = tt
-  all_fit_to_bad start (line ∷ lines) (q ∷ qs) h = (asked_fits _ q h.0.asks, all_fit_to_bad (start + length line) lines qs h.1)
+  pub all_fit_to_bad : (limit start : ℕ) (lines : List (List ℕ)) (qs : List Asking) → AreAskedToBad limit S.elements start lines qs → AllFit S qs
+  all_fit_to_bad limit start [] qs h = absurd h
+  all_fit_to_bad limit start (line ∷ lines) [] h = tt
+  all_fit_to_bad limit start (line ∷ lines) (q ∷ qs) h = (asked_fits _ q h.0.asks, all_fit_to_bad limit (start + length line) lines qs h.1)

@@ -35,6 +35,16 @@ never_memory halt.BadLine trace n same = let no_value : ⊥ = cc in no_value
 never_memory halt.Unreadable trace n same = let no_value : ⊥ = cc in no_value
 never_memory halt.Unwritable trace n same = let no_value : ⊥ = cc in no_value
 
+never_listed : (h : Halt) (trace : List ℕ) (n number : ℕ) → stop_for h trace n ≡ stop.BadListLine number → ⊥
+never_listed halt.BadLine trace n number same = let no_value : ⊥ = cc in no_value
+never_listed halt.Unreadable trace n number same = let no_value : ⊥ = cc in no_value
+never_listed halt.Unwritable trace n number same = let no_value : ⊥ = cc in no_value
+
+never_counted : (h : Halt) (trace : List ℕ) (n count : ℕ) → stop_for h trace n ≡ stop.BadTraces count → ⊥
+never_counted halt.BadLine trace n count same = let no_value : ⊥ = cc in no_value
+never_counted halt.Unreadable trace n count same = let no_value : ⊥ = cc in no_value
+never_counted halt.Unwritable trace n count same = let no_value : ⊥ = cc in no_value
+
 module _ {A : Type 0} (s : Stop) (h : Halt) (trace : List ℕ) (n : ℕ) (is : s ≡ stop_for h trace n) where
   stopped_as : (t : Stop) → ◌≡◌ {A = Result A Stop} (Err s) (Err t) → stop_for h trace n ≡ t
   stopped_as t same = sym is ∙ same_err s t same
@@ -50,6 +60,13 @@ module _ {A : Type 0} (s : Stop) (h : Halt) (trace : List ℕ) (n : ℕ) (is : s
 
   pub halted_refused : (r : Refusal) → ◌≡◌ {A = Result A Stop} (Err s) (Err (stop.Refused r)) → ⊥
   halted_refused r same = never_refused h trace n r (stopped_as (stop.Refused r) same)
+
+  -- nothing is told of a list
+  pub halted_listed : (number : ℕ) → ◌≡◌ {A = Result A Stop} (Err s) (Err (stop.BadListLine number)) → ⊥
+  halted_listed number same = never_listed h trace n number (stopped_as (stop.BadListLine number) same)
+
+  pub halted_counted : (count : ℕ) → ◌≡◌ {A = Result A Stop} (Err s) (Err (stop.BadTraces count)) → ⊥
+  halted_counted count same = never_counted h trace n count (stopped_as (stop.BadTraces count) same)
 
   -- nothing wants memory
   pub halted_memory : ◌≡◌ {A = Result A Stop} (Err s) (Err stop.OutOfMemory) → ⊥

@@ -17,13 +17,13 @@ use Rattle.bsv_top.specs.declared.status.Status.TheVariants as status
 use Rattle.bsv_top.specs.declared.stop.Stop.{Stop}
 use Rattle.bsv_top.specs.declared.stop.Stop.TheVariants as stop
 use Rattle.bsv_top.specs.Answers as a
-use Rattle.bsv_top.specs.Answers.{Answer, Asks, MadeAnswer, trace_fault_line}
+use Rattle.bsv_top.specs.Answers.{Answer, Asks, MadeAnswer, bad_traces_line, list_fault_line, trace_fault_line}
 use Rattle.bsv_top.specs.Headline.{Headline, IsRunOver}
 use Rattle.bsv_top.specs.LaidOut.{IsLaidOut}
 use Rattle.bsv_top.specs.Outcomes.{Accepts, IsAccepted}
 use Rattle.bsv_top.specs.Stops.{IsStopOf, status_of}
 use Rattle.bsv_run.specs.Traces.{lines_of}
-use Rattle.bsv_top.specs.Traces.{IsClean}
+use Rattle.bsv_top.specs.Traces.{IsClean, trace_limit}
 use Rattle.bsv_top.proofs.Grounds as grounds
 use Rattle.bsv_run.proofs.Happening.{some_run}
 use Rattle.bsv_top.proofs.Spelled.{same_asked}
@@ -44,7 +44,7 @@ module _ (contents : List ℕ → List ℕ) (file top : List ℕ) (tree : TreeDa
 
   run_over : (trace : List ℕ) (qs : List Asking) → IsClean S.elements (contents trace) qs → IsRunOver contents file top trace tree made qs
   run_over trace qs clean =
-      let fit = grounds.all_fit tree made laid.design laid.alike planned.planned.scheduled 0 (lines_of (contents trace)) qs clean in
+      let fit = grounds.all_fit tree made laid.design laid.alike planned.planned.scheduled trace_limit 0 (lines_of (contents trace)) qs clean in
       let few = grounds.few_here tree made laid.design laid.alike planned.planned.scheduled in
       let run = some_run false S made lawful scheduled few (opening S.kinds) qs (opening_fits S.kinds) fit in
       let steady = steady_scheme false S lawful in
@@ -87,6 +87,8 @@ module _ (words : List (List ℕ)) (contents : List ℕ → List ℕ) where
   accepted_at s output text (a.Answer.done tree made qs rows is p laid well clean runs) e = absurd (let n : ⊥ = cc in n)
   accepted_at s output text (a.Answer.trace_fault {file = f} {top = t} {trace = r} tree made qs rows is p laid well bad runs) e =
       record { file = f; top = t; asks = Asks.sim r is; tree = tree; made = made; planned = p; laid = laid }
+  accepted_at s output text (a.Answer.suite {file = f} {top = t} {list = l} tree made is p laid well told) e =
+      record { file = f; top = t; asks = Asks.suite l is; tree = tree; made = made; planned = p; laid = laid }
 
   pub accepted_stop : (out out' : Writing) (s : Stop) → IsStopOf words contents out out' s → Accepts (status_of s) → IsAccepted words contents
   accepted_stop out out' (stop.Refused r) known is = absurd is
@@ -94,6 +96,8 @@ module _ (words : List (List ℕ)) (contents : List ℕ → List ℕ) where
   accepted_stop out out' stop.Unwritable known is = absurd is
   accepted_stop out out' stop.OutOfMemory known is = absurd is
   accepted_stop out out' (stop.BadLine number) known is = accepted_at status.TraceFault known.0 (trace_fault_line number) known.1 refl
+  accepted_stop out out' (stop.BadListLine number) known is = accepted_at status.TraceFault known.0 (list_fault_line number) known.1 refl
+  accepted_stop out out' (stop.BadTraces count) known is = accepted_at status.TraceFault known.0 (bad_traces_line count) known.1 refl
 
 -- ---- the other statuses
 

@@ -11,8 +11,12 @@ mod MadeOnce
 mod MadeRun
 mod OneAnswer
 mod Printed
+mod SameReports
 mod Simulated
 mod Spelled
 mod Stopped
+mod SuiteAnswers
+mod SuiteOnce
+mod SuiteRun
 mod Told
 pub mod HeldAt

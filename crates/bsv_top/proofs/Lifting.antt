@@ -41,7 +41,7 @@ module _ (s t : Subject) (parts : s.parts ≡ t.parts) (elements : s.scheme.elem
       ∙ ap (λ (ps : List NamedPart). clock_text (named t.scheme.elements) number row.fired ps row.after) parts)
       (clocks_same (number + 1) rows)
 
-  report_same : s.scheme.kinds ≡ t.scheme.kinds → (rows : List Row) → report s rows ≡ report t rows
+  pub report_same : s.scheme.kinds ≡ t.scheme.kinds → (rows : List Row) → report s rows ≡ report t rows
   unfolding report
   report_same kinds rows =
       ap₂ (λ (a b : List ℕ). a ++ b)

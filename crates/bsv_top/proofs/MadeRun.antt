@@ -191,6 +191,8 @@ module _ (size : ℕ) (least : 1 ≤ size) (most : size ≤ 400) (contents : Lis
   stop_made stop.Unwritable h = tt
   stop_made stop.OutOfMemory h = tt
   stop_made (stop.BadLine number) h = absurd h
+  stop_made (stop.BadListLine number) h = absurd h
+  stop_made (stop.BadTraces count) h = absurd h
 
   pub make_done : (text : List ℕ) → MadeAnswer size status.Done text [] → out' ≡ appended text out → IsDoneBy (made_words size) contents out out'
   make_done text h put = record {

@@ -1,24 +1,12 @@
 -- Two answers to one input are one: they have one status, one output but for words that ask for Verilog, and one fault text but
 -- for the place of a `Syntax`.
-use Rattle.std.proofs.Common.{◌≡◌, ◌∙◌, ◌⊎◌, inl, inr, ℕ, ◌+◌, false, List, [], ◌∷◌, ◌++◌, length, refl, sym, ap, ap₂, subst}
-use Rattle.std.specs.Prelude.{codes}
-use Rattle.std.specs.List.{flat_map}
-use Rattle.bsv_bits.specs.Words.{Bits}
-use Rattle.bsv_prim.specs.declared.part.Part.{Part}
-use Rattle.bsv_design.specs.declared.fired.Fired.{Fired}
+use Rattle.std.proofs.Common.{◌≡◌, ◌∙◌, ◌⊎◌, inl, inr, ℕ, ◌+◌, false, List, [], length, refl, sym, ap, subst}
 use Rattle.bsv_design.specs.declared.schedule.Schedule.{Schedule}
 use Rattle.bsv_design.specs.scheme.Schemes.{Asking}
 use Rattle.bsv_tree.specs.meaning.Schemes.{tree_scheme}
-use Rattle.bsv_design.specs.scheme.States.{opening}
 use Rattle.bsv_tree.specs.tree.Trees.{TreeData}
 use Rattle.bsv_trace.specs.Lines.{AreMethods}
-use Rattle.bsv_trace.specs.Texts.{blocked_line, clock_text, event_lines, list_line, number_line, opening_text, result_line, state_lines, stopped_line}
-use Rattle.bsv_clock.specs.Events.{TellAlike}
-use Rattle.bsv_clock.specs.Runs.{AllFit, Row, Runs, TellRunsAlike}
-use Rattle.bsv_clock.proofs.Clocks.{clock_fed}
-use Rattle.bsv_clock.proofs.OneRun.{same_runs}
-use Rattle.bsv_clock.proofs.Steadily.{steady_scheme}
-use Rattle.bsv_clock.specs.Subjects.{Subject, element_name}
+use Rattle.bsv_clock.specs.Runs.{Row, Runs}
 use Rattle.bsv_vtext.specs.Signals.{VModuleData}
 use Rattle.bsv_vtext.specs.VText.{vtext}
 use Rattle.bsv_flow.specs.declared.loading.Loaded.{Loaded}
@@ -34,50 +22,20 @@ use Rattle.bsv_top.specs.declared.form.Product.TheVariants as product
 use Rattle.bsv_top.specs.declared.status.Status.{Status}
 use Rattle.bsv_top.specs.declared.status.Status.TheVariants as status
 use Rattle.bsv_top.specs.Answers as a
-use Rattle.bsv_top.specs.Answers.{Answer, Asks, HasNoForm, MadeAnswer, IsNoProgram, schedule_words, sim_words, verilog_words, printed, no_memory_line, trace_fault_line, usage_line}
+use Rattle.bsv_top.specs.Answers.{Answer, Asks, HasNoForm, MadeAnswer, IsNoProgram, SuiteAnswer, schedule_words, sim_words, suite_words, verilog_words, printed, no_memory_line, trace_fault_line, usage_line}
 use Rattle.bsv_top.specs.LaidOut.{IsLaidOut}
 use Rattle.bsv_top.specs.Made.{IsMade}
 use Rattle.bsv_top.specs.OneAnswer.{AsksNoVerilog, IsSameText}
-use Rattle.bsv_run.specs.Reports.{clocks_text, report}
+use Rattle.bsv_run.specs.Reports.{report}
 use Rattle.bsv_run.specs.Traces.{lines_of}
 use Rattle.bsv_top.specs.Traces.{IsClean, HasBadLine, trace_limit}
 use Rattle.bsv_run.proofs.Asked.{asked_once, bad_once, not_both}
 use Rattle.bsv_top.proofs.Decides.{not_refused, not_other}
 use Rattle.bsv_top.proofs.Grounds as grounds
 use Rattle.bsv_top.proofs.MadeOnce.{made_once}
-use Rattle.bsv_top.proofs.Spelled.{forms_apart, made_asks, products_apart, same_asked, same_sim, same_size}
-
--- ---- reports of runs that tell the same
-
--- the lines of what happened, by the lists of it
-abbrev lines_by : (ℕ → List ℕ) → List ℕ → List (ℕ × ℕ) → List ℕ → List (ℕ × Bits) → List ℕ
-lines_by named list stopped blocked results =
-    list_line (codes "fired") named list ++ flat_map (stopped_line named) stopped ++ flat_map (blocked_line named) blocked ++ flat_map (result_line named) results
-
-fired_same : (named : ℕ → List ℕ) (f e : Fired) → TellAlike f e → event_lines named f ≡ event_lines named e
-unfolding event_lines
-fired_same named f e h =
-    ap (λ (xs : List ℕ). lines_by named xs f.stopped.items f.blocked.items f.results.items) h.list
-    ∙ ap (λ (xs : List (ℕ × ℕ)). lines_by named e.list.items xs f.blocked.items f.results.items) h.stopped
-    ∙ ap (λ (xs : List ℕ). lines_by named e.list.items e.stopped.items xs f.results.items) h.blocked
-    ∙ ap (λ (xs : List (ℕ × Bits)). lines_by named e.list.items e.stopped.items e.blocked.items xs) h.results
-
-clock_same : (s : Subject) (number : ℕ) (row other : Row) → TellAlike row.fired other.fired → row.after ≡ other.after
-    → clock_text (element_name s.scheme) number row.fired s.parts row.after ≡ clock_text (element_name s.scheme) number other.fired s.parts other.after
-unfolding clock_text
-clock_same s number row other told after =
-    ap₂ (λ (events : List ℕ) (parts : List Part). number_line number ++ events ++ state_lines s.parts parts) (fired_same (element_name s.scheme) row.fired other.fired told) after
-
-rows_same : (s : Subject) (number : ℕ) (rows others : List Row) → TellRunsAlike rows others → clocks_text s number rows ≡ clocks_text s number others
-rows_same s number [] [] h = refl
-rows_same s number [] (other ∷ others) h = absurd h
-rows_same s number (row ∷ rows) [] h = absurd h
-rows_same s number (row ∷ rows) (other ∷ others) h =
-    ap₂ (λ (x y : List ℕ). x ++ y) (clock_same s number row other h.0 h.1) (rows_same s (number + 1) rows others h.2)
-
-report_same : (s : Subject) (rows others : List Row) → TellRunsAlike rows others → report s rows ≡ report s others
-unfolding report
-report_same s rows others h = ap (λ (t : List ℕ). opening_text s.parts (opening s.scheme.kinds) ++ t) (rows_same s 1 rows others h)
+use Rattle.bsv_top.proofs.SameReports.{runs_same}
+use Rattle.bsv_top.proofs.SuiteOnce.{suite_once}
+use Rattle.bsv_top.proofs.Spelled.{forms_apart, made_asks, products_apart, runs_apart, same_asked, same_list, same_sim, same_size, suites_apart}
 
 -- ---- two answers say the same
 
@@ -110,21 +68,14 @@ module _ (words : List (List ℕ)) (contents : List ℕ → List ℕ) (file top 
         → IsWellClocked (tree_scheme tree) made → Clean tree trace qs → Runs false (tree_scheme tree) made qs rows → Tells status.Done (report (subject tree) rows) []
     trace_fault : (trace : List ℕ) (tree : TreeData) (made : Schedule) (qs : List Asking) (rows : List Row) → words ≡ sim_words file top trace → Accepted tree made → IsLaidOut tree
         → IsWellClocked (tree_scheme tree) made → Bad tree trace qs → Runs false (tree_scheme tree) made qs rows → Tells status.TraceFault (report (subject tree) rows) (trace_fault_line (length qs + 1))
+    suite : {s : Status} {output text : List ℕ} (list : List ℕ) (tree : TreeData) (made : Schedule) → words ≡ suite_words file top list → Accepted tree made → IsLaidOut tree
+        → IsWellClocked (tree_scheme tree) made → SuiteAnswer (subject tree) made contents (contents list) s output text → Tells s output text
 
   apart : {A : Type 0} (r : Refusal) (l : Loaded) → Rejects file contents top r → IsBuilt file contents top l → A
   apart r l h built = absurd (trees.apart file contents top l r built h)
 
   -- two runs of one tree
   module _ (tree : TreeData) (made : Schedule) (planned : Accepted tree made) (laid : IsLaidOut tree) where
-    runs_same : (qs : List Asking) (rows others : List Row) → AllFit (tree_scheme tree) qs → Runs false (tree_scheme tree) made qs rows → Runs false (tree_scheme tree) made qs others
-        → report (subject tree) rows ≡ report (subject tree) others
-    runs_same qs rows others all one two =
-        let lawful = grounds.lawful_here tree made laid.design laid.alike planned.planned.scheduled in
-        let scheduled = grounds.scheduled_here tree made laid.design laid.alike planned.planned.scheduled in
-        report_same (subject tree) rows others
-        (same_runs false (tree_scheme tree) made (steady_scheme false (tree_scheme tree) lawful) lawful scheduled
-        (λ q s together. clock_fed false (tree_scheme tree) made q s together (steady_scheme false (tree_scheme tree) lawful)) qs rows others all one two)
-
     methods : AreMethods (tree_scheme tree).elements
     methods = grounds.methods_here tree made laid.design laid.alike planned.planned.scheduled
 
@@ -132,14 +83,14 @@ module _ (words : List (List ℕ)) (contents : List ℕ → List ℕ) (file top 
         → Runs false (tree_scheme tree) made qs rows → Runs false (tree_scheme tree) made rs others → report (subject tree) rows ≡ report (subject tree) others
     done_same trace qs rs rows others h k one two =
         let same = asked_once trace_limit (tree_scheme tree).elements methods 0 (lines_of (contents trace)) rs qs k h in
-        runs_same qs rows others (grounds.all_fit tree made laid.design laid.alike planned.planned.scheduled 0 (lines_of (contents trace)) qs h) one
+        runs_same file top contents tree made planned laid qs rows others (grounds.all_fit tree made laid.design laid.alike planned.planned.scheduled trace_limit 0 (lines_of (contents trace)) qs h) one
         (subst (λ (xs : List Asking). Runs false (tree_scheme tree) made xs others) same two)
 
     fault_same : (trace : List ℕ) (qs rs : List Asking) (rows others : List Row) → Bad tree trace qs → Bad tree trace rs
         → Runs false (tree_scheme tree) made qs rows → Runs false (tree_scheme tree) made rs others → (report (subject tree) rows ≡ report (subject tree) others) × (qs ≡ rs)
     fault_same trace qs rs rows others h k one two =
         let same = bad_once trace_limit (tree_scheme tree).elements methods 0 (lines_of (contents trace)) rs qs k h in (
-          runs_same qs rows others (grounds.all_fit_to_bad tree made laid.design laid.alike planned.planned.scheduled 0 (lines_of (contents trace)) qs h) one
+          runs_same file top contents tree made planned laid qs rows others (grounds.all_fit_to_bad tree made laid.design laid.alike planned.planned.scheduled trace_limit 0 (lines_of (contents trace)) qs h) one
               (subst (λ (xs : List Asking). Runs false (tree_scheme tree) made xs others) same two),
           sym same,
         )
@@ -167,6 +118,13 @@ module _ (words : List (List ℕ)) (contents : List ℕ → List ℕ) (file top 
     bad_here : (trace r : List ℕ) (rs : List Asking) → r ≡ trace → Bad u r rs → Bad tree trace rs
     bad_here trace r rs e h = subst (λ (x : List ℕ). Bad tree x rs) e (subst (λ (t : TreeData). Bad t r rs) tree_is h)
 
+    suite_here : (list l : List ℕ) → l ≡ list → (s : Status) (output text : List ℕ) → SuiteAnswer (subject u) other contents (contents l) s output text
+        → SuiteAnswer (subject tree) made contents (contents list) s output text
+    suite_here list l e s output text h =
+        subst (λ (x : List ℕ). SuiteAnswer (subject tree) made contents (contents x) s output text) e
+        (subst (λ (m : Schedule). SuiteAnswer (subject tree) m contents (contents l) s output text) made_is
+        (subst (λ (t : TreeData). SuiteAnswer (subject t) other contents (contents l) s output text) tree_is h))
+
     report_there : (rows : List Row) → report (subject tree) rows ≡ report (subject u) rows
     report_there rows = ap (λ (t : TreeData). report (subject t) rows) (sym tree_is)
 
@@ -178,12 +136,14 @@ module _ (words : List (List ℕ)) (contents : List ℕ → List ℕ) (file top 
   same s s' output more text said (refused r h) (written tree made v is p has) = absurd (not_refused file top contents r h tree made p)
   same s s' output more text said (refused r h) (done trace tree made qs rows is p laid well clean runs) = absurd (not_refused file top contents r h tree made p)
   same s s' output more text said (refused r h) (trace_fault trace tree made qs rows is p laid well bad runs) = absurd (not_refused file top contents r h tree made p)
+  same s s' output more text said (refused r h) (suite list tree made is p laid well all) = absurd (not_refused file top contents r h tree made p)
   same s s' output more text said (no_program l built none) (refused r h) = apart r l h built
   same s s' output more text said (no_program l built none) (no_program k also n) = record { status_is = refl; output_is = λ none. refl; text_is = IsSameText.equal }
   same s s' output more text said (no_program l built none) (scheduled tree made is p) = absurd (not_other file top contents l built none tree made p)
   same s s' output more text said (no_program l built none) (written tree made v is p has) = absurd (not_other file top contents l built none tree made p)
   same s s' output more text said (no_program l built none) (done trace tree made qs rows is p laid well clean runs) = absurd (not_other file top contents l built none tree made p)
   same s s' output more text said (no_program l built none) (trace_fault trace tree made qs rows is p laid well bad runs) = absurd (not_other file top contents l built none tree made p)
+  same s s' output more text said (no_program l built none) (suite list tree made is p laid well all) = absurd (not_other file top contents l built none tree made p)
   same s s' output more text said (scheduled tree made is p) (refused r h) = absurd (not_refused file top contents r h tree made p)
   same s s' output more text said (scheduled tree made is p) (no_program l built none) = absurd (not_other file top contents l built none tree made p)
   same s s' output more text said (scheduled tree made is p) (scheduled u other k q) = record {
@@ -194,12 +154,14 @@ module _ (words : List (List ℕ)) (contents : List ℕ → List ℕ) (file top 
   same s s' output more text said (scheduled tree made is p) (written u other v k q has) = absurd (products_apart file top file top (sym is ∙ k))
   same s s' output more text said (scheduled tree made is p) (done trace u other qs rows k q laid well clean runs) = absurd (forms_apart file top trace file top product.Schedule (sym k ∙ is))
   same s s' output more text said (scheduled tree made is p) (trace_fault trace u other qs rows k q laid well bad runs) = absurd (forms_apart file top trace file top product.Schedule (sym k ∙ is))
+  same s s' output more text said (scheduled tree made is p) (suite list u other k q laid well all) = absurd (suites_apart file top list file top product.Schedule (sym k ∙ is))
   same s s' output more text said (written tree made v is p has) (refused r h) = absurd (not_refused file top contents r h tree made p)
   same s s' output more text said (written tree made v is p has) (no_program l built none) = absurd (not_other file top contents l built none tree made p)
   same s s' output more text said (written tree made v is p has) (scheduled u other k q) = absurd (products_apart file top file top (sym k ∙ is))
   same s s' output more text said (written tree made v is p has) (written u other w k q also) = record { status_is = refl; output_is = λ none. absurd (none file top is); text_is = IsSameText.equal }
   same s s' output more text said (written tree made v is p has) (done trace u other qs rows k q laid well clean runs) = absurd (forms_apart file top trace file top product.Verilog (sym k ∙ is))
   same s s' output more text said (written tree made v is p has) (trace_fault trace u other qs rows k q laid well bad runs) = absurd (forms_apart file top trace file top product.Verilog (sym k ∙ is))
+  same s s' output more text said (written tree made v is p has) (suite list u other k q laid well all) = absurd (suites_apart file top list file top product.Verilog (sym k ∙ is))
   same s s' output more text said (done trace tree made qs rows is p laid well clean runs) (refused r h) = absurd (not_refused file top contents r h tree made p)
   same s s' output more text said (done trace tree made qs rows is p laid well clean runs) (no_program l built none) = absurd (not_other file top contents l built none tree made p)
   same s s' output more text said (done trace tree made qs rows is p laid well clean runs) (scheduled u other k q) = absurd (forms_apart file top trace file top product.Schedule (sym is ∙ k))
@@ -213,6 +175,7 @@ module _ (words : List (List ℕ)) (contents : List ℕ → List ℕ) (file top 
   }
   same s s' output more text said (done trace tree made qs rows is p laid well clean runs) (trace_fault r u other rs others k q again too bad run) =
       absurd (not_both trace_limit (tree_scheme tree).elements 0 (lines_of (contents trace)) qs rs clean (bad_here tree u made other p q trace r rs (same_trace trace r is k) bad))
+  same s s' output more text said (done trace tree made qs rows is p laid well clean runs) (suite list u other k q again too all) = absurd (runs_apart file top list file top trace (sym k ∙ is))
   same s s' output more text said (trace_fault trace tree made qs rows is p laid well bad runs) (refused r h) = absurd (not_refused file top contents r h tree made p)
   same s s' output more text said (trace_fault trace tree made qs rows is p laid well bad runs) (no_program l built none) = absurd (not_other file top contents l built none tree made p)
   same s s' output more text said (trace_fault trace tree made qs rows is p laid well bad runs) (scheduled u other k q) = absurd (forms_apart file top trace file top product.Schedule (sym is ∙ k))
@@ -226,6 +189,17 @@ module _ (words : List (List ℕ)) (contents : List ℕ → List ℕ) (file top 
         output_is = λ none. both.0 ∙ report_there tree u made other p q others;
         text_is = equal_text (trace_fault_line (length qs + 1)) (trace_fault_line (length rs + 1)) (ap (λ (xs : List Asking). trace_fault_line (length xs + 1)) both.1);
       }
+  same s s' output more text said (trace_fault trace tree made qs rows is p laid well bad runs) (suite list u other k q again too all) = absurd (runs_apart file top list file top trace (sym k ∙ is))
+  same s s' output more text said (suite list tree made is p laid well all) (refused r h) = absurd (not_refused file top contents r h tree made p)
+  same s s' output more text said (suite list tree made is p laid well all) (no_program l built none) = absurd (not_other file top contents l built none tree made p)
+  same s s' output more text said (suite list tree made is p laid well all) (scheduled u other k q) = absurd (suites_apart file top list file top product.Schedule (sym is ∙ k))
+  same s s' output more text said (suite list tree made is p laid well all) (written u other v k q has) = absurd (suites_apart file top list file top product.Verilog (sym is ∙ k))
+  same s s' output more text said (suite list tree made is p laid well all) (done trace u other rs rows k q again too clear run) = absurd (runs_apart file top list file top trace (sym is ∙ k))
+  same s s' output more text said (suite list tree made is p laid well all) (trace_fault trace u other rs rows k q again too bad run) = absurd (runs_apart file top list file top trace (sym is ∙ k))
+  same s s' output more text said (suite list tree made is p laid well all) (suite other u made_too k q again too told) =
+      let one = suite_once file top contents tree made p laid (contents list) s s' output more text said all
+      (suite_here tree u made made_too p q list other (same_list file top other file top list (sym k ∙ is)) s' more said told) in
+      record { status_is = one.status_is; output_is = λ none. one.output_is; text_is = equal_text text said one.text_is }
 
 -- ---- whatever the words are
 
@@ -248,6 +222,8 @@ module _ (words : List (List ℕ)) (contents : List ℕ → List ℕ) where
       tells_at f t file top s output text (same_asked words f t file top (Asks.sim r is) asks) (Tells.done r tree made qs rows is p laid well clean runs)
   told file top s output text asks (a.Answer.trace_fault {file = f} {top = t} {trace = r} tree made qs rows is p laid well bad runs) =
       tells_at f t file top s output text (same_asked words f t file top (Asks.sim r is) asks) (Tells.trace_fault r tree made qs rows is p laid well bad runs)
+  told file top s output text asks (a.Answer.suite {file = f} {top = t} {list = l} tree made is p laid well all) =
+      tells_at f t file top s output text (same_asked words f t file top (Asks.suite l is) asks) (Tells.suite l tree made is p laid well all)
 
   -- an answer to words without a form is how the program is called
   record IsUsage (s : Status) (output text : List ℕ) : Type 0 where
@@ -264,6 +240,7 @@ module _ (words : List (List ℕ)) (contents : List ℕ → List ℕ) where
   same_usage s output text none (a.Answer.written tree made v is p has) = absurd (none.asks_none _ _ (Asks.verilog is))
   same_usage s output text none (a.Answer.done tree made qs rows is p laid well clean runs) = absurd (none.asks_none _ _ (Asks.sim _ is))
   same_usage s output text none (a.Answer.trace_fault tree made qs rows is p laid well bad runs) = absurd (none.asks_none _ _ (Asks.sim _ is))
+  same_usage s output text none (a.Answer.suite tree made is p laid well all) = absurd (none.asks_none _ _ (Asks.suite _ is))
 
   same_form : (s s' : Status) (output more text said : List ℕ) (file top : List ℕ) → Asks words file top → Answer words contents s output text → Answer words contents s' more said
       → SameAnswer words s s' output more text said
@@ -280,6 +257,7 @@ module _ (words : List (List ℕ)) (contents : List ℕ → List ℕ) where
   told_made n s output text is (a.Answer.written tree made v k p has) = absurd (made_asks words n _ _ is (Asks.verilog k))
   told_made n s output text is (a.Answer.done tree made qs rows k p laid well clean runs) = absurd (made_asks words n _ _ is (Asks.sim _ k))
   told_made n s output text is (a.Answer.trace_fault tree made qs rows k p laid well bad runs) = absurd (made_asks words n _ _ is (Asks.sim _ k))
+  told_made n s output text is (a.Answer.suite tree made k p laid well all) = absurd (made_asks words n _ _ is (Asks.suite _ k))
 
   same_made : (s s' : Status) (output more text said : List ℕ) (n : ℕ) → IsMade words n → Answer words contents s output text → Answer words contents s' more said
       → SameAnswer words s s' output more text said
@@ -297,6 +275,7 @@ module _ (words : List (List ℕ)) (contents : List ℕ → List ℕ) where
   asked s output text (a.Answer.written {file = f} {top = t} tree made v is p has) = inl (f, t, Asks.verilog is)
   asked s output text (a.Answer.done {file = f} {top = t} {trace = r} tree made qs rows is p laid well clean runs) = inl (f, t, Asks.sim r is)
   asked s output text (a.Answer.trace_fault {file = f} {top = t} {trace = r} tree made qs rows is p laid well bad runs) = inl (f, t, Asks.sim r is)
+  asked s output text (a.Answer.suite {file = f} {top = t} {list = l} tree made is p laid well all) = inl (f, t, Asks.suite l is)
 
   pub one_answer : (s s' : Status) (output more text said : List ℕ) → Answer words contents s output text → Answer words contents s' more said → SameAnswer words s s' output more text said
   one_answer s s' output more text said answer other =

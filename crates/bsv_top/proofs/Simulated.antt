@@ -78,13 +78,16 @@ module _ (file : List ℕ) (contents : List ℕ → List ℕ) (top trace : List 
       )
 
   pub simulated_stop : (w next : Writing) (s : Stop) → ((number : ℕ) → s ≡ stop.BadLine number → IsFaultyOf (scheduled_of c) w (contents trace) next number) → ((r : Refusal) → s ≡ stop.Refused r → ⊥)
+      → ((number : ℕ) → s ≡ stop.BadListLine number → ⊥) → ((count : ℕ) → s ≡ stop.BadTraces count → ⊥)
       → ((name : List ℕ) → s ≡ stop.Unread name → name ≡ trace) → IsStopOf words contents w next s
-  simulated_stop w next (stop.Refused r) bad own unread = absurd (own r refl)
-  simulated_stop w next (stop.Unread name) bad own unread =
+  simulated_stop w next (stop.Refused r) bad own listed counted unread = absurd (own r refl)
+  simulated_stop w next (stop.Unread name) bad own listed counted unread =
       subst (λ (n : List ℕ). IsStopOf words contents w next (stop.Unread n)) (sym (unread name refl)) (o.FaultText.of_trace file top tree c.schedule refl planned)
-  simulated_stop w next stop.Unwritable bad own unread = tt
-  simulated_stop w next stop.OutOfMemory bad own unread = tt
-  simulated_stop w next (stop.BadLine number) bad own unread = simulated_bad w next number (bad number refl)
+  simulated_stop w next stop.Unwritable bad own listed counted unread = tt
+  simulated_stop w next stop.OutOfMemory bad own listed counted unread = tt
+  simulated_stop w next (stop.BadLine number) bad own listed counted unread = simulated_bad w next number (bad number refl)
+  simulated_stop w next (stop.BadListLine number) bad own listed counted unread = absurd (listed number refl)
+  simulated_stop w next (stop.BadTraces count) bad own listed counted unread = absurd (counted count refl)
 
   -- ---- how far was read
 

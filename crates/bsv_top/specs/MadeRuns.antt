@@ -35,3 +35,5 @@ IsMadeStop size (stop.Unread name) = ⊥
 IsMadeStop size stop.Unwritable = ⊥
 IsMadeStop size stop.OutOfMemory = Unit {0}
 IsMadeStop size (stop.BadLine number) = ⊥
+IsMadeStop size (stop.BadListLine number) = ⊥
+IsMadeStop size (stop.BadTraces count) = ⊥

@@ -9,13 +9,15 @@ use Rattle.bsv_flow.specs.OneAnswer.{IsSameRefusal}
 use Rattle.bsv_flow.specs.Refusals.{refusal_line}
 use Rattle.bsv_flow.specs.Schedulings.{IsVerilogOf}
 use Rattle.bsv_vtext.specs.Signals.{VModuleData}
-use Rattle.bsv_top.specs.Answers.{sim_words, verilog_words}
+use Rattle.bsv_top.specs.Answers.{sim_words, suite_words, verilog_words}
 use Rattle.bsv_top.specs.LaidOut.{IsLaidOut}
 use Rattle.bsv_top.specs.Made.{IsMade, made_contents, made_file, made_top}
 
 -- where the words ask for a run, what is accepted can be laid out
 pub record LayOut (words : List (List ℕ)) (contents : List ℕ → List ℕ) : Type 0 where
   pub simulated : (file top trace : List ℕ) (tree : TreeData) (made : Schedule) → words ≡ sim_words file top trace
+      → IsPlanned file contents top tree made → IsLaidOut tree
+  pub listed : (file top list : List ℕ) (tree : TreeData) (made : Schedule) → words ≡ suite_words file top list
       → IsPlanned file contents top tree made → IsLaidOut tree
   pub made : (n : ℕ) (tree : TreeData) (made : Schedule) → IsMade words n
       → IsPlanned made_file (made_contents n) made_top tree made → IsLaidOut tree

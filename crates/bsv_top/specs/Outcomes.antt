@@ -1,5 +1,5 @@
 -- What a run leaves, whatever its sources and sinks do.
-use Rattle.std.specs.Prelude.{◌≡◌, ℕ, List, [], Option, Some}
+use Rattle.std.specs.Prelude.{◌≡◌, ℕ, List, [], Contains, Option, Some}
 use Rattle.bsv_io.specs.Faults.{MayFault}
 use Rattle.bsv_io.specs.Reading.{Current, Reading}
 use Rattle.bsv_io.specs.Writing.{Writing, appended, AppendsPrefix}
@@ -10,13 +10,19 @@ use Rattle.bsv_flow.specs.Loads.{Reaches}
 use Rattle.bsv_flow.specs.Schedulings.{subject}
 use Rattle.bsv_top.specs.declared.status.Status.{Status}
 use Rattle.bsv_top.specs.declared.status.Status.TheVariants as status
-use Rattle.bsv_top.specs.Answers.{Answer, Asks, sim_words, cannot_read_line, no_memory_line}
+use Rattle.bsv_top.specs.Answers.{Answer, Asks, sim_words, suite_words, cannot_read_line, no_memory_line}
 use Rattle.bsv_top.specs.Interrupted.{IsInterrupted}
+use Rattle.bsv_suite.specs.Lists.{NamesTraces}
+use Rattle.bsv_suite.specs.Suites.{IsSuiteCut}
 use Rattle.bsv_top.specs.LaidOut.{IsLaidOut}
 
 -- the words ask for no run over a trace
 abbrev pub AsksNoRun : List (List ℕ) → Type 0
 AsksNoRun words = (file top trace : List ℕ) → words ≡ sim_words file top trace → ⊥
+
+-- the words ask for no suite
+abbrev pub AsksNoSuite : List (List ℕ) → Type 0
+AsksNoSuite words = (file top list : List ℕ) → words ≡ suite_words file top list → ⊥
 
 -- the statuses that the words and the contents decide
 abbrev pub IsDecided : Status → Type 0
@@ -83,6 +89,9 @@ pub data FaultText (words : List (List ℕ)) (contents : List ℕ → List ℕ) 
   of_answer : {s : Status} (output : List ℕ) {text : List ℕ} → Answer words contents s output text → FaultText words contents text
   of_source : {file name : List ℕ} (top : List ℕ) → Asks words file top → Reaches file contents name → FaultText words contents (cannot_read_line name)
   of_trace : (file top : List ℕ) {trace : List ℕ} (tree : TreeData) (made : Schedule) → words ≡ sim_words file top trace → IsPlanned file contents top tree made → FaultText words contents (cannot_read_line trace)
+  of_list : (file top : List ℕ) {list : List ℕ} (tree : TreeData) (made : Schedule) → words ≡ suite_words file top list → IsPlanned file contents top tree made → FaultText words contents (cannot_read_line list)
+  of_listed : (file top list : List ℕ) {name : List ℕ} (names : List (List ℕ)) (tree : TreeData) (made : Schedule) → words ≡ suite_words file top list → IsPlanned file contents top tree made
+      → NamesTraces (contents list) names → Contains names name → FaultText words contents (cannot_read_line name)
   of_memory : FaultText words contents no_memory_line
 
 -- a prefix of such a text is put
@@ -98,15 +107,30 @@ pub record StopsReport (file top trace : List ℕ) (contents : List ℕ → List
   pub planned : IsPlanned file contents top tree made
   pub put : IsInterrupted (subject tree) made out (contents trace) at out'
 
+-- the list names traces of which this is one, and what is told of the groups before its own was put
+pub record StopsSuite (file top list name : List ℕ) (contents : List ℕ → List ℕ) (out out' : Writing) : Type 0 where
+  pub tree : TreeData
+  pub made : Schedule
+  pub planned : IsPlanned file contents top tree made
+  pub names : List (List ℕ)
+  pub named : NamesTraces (contents list) names
+  pub cut : IsSuiteCut (subject tree) made contents names name out out'
+
 -- A file of this name could not be read: it is the one that the last failed call was about. It is a file that loading
--- reaches, and then nothing is put to the output; or it is the trace of what is accepted, and then the report is put of the
--- lines that were given whole.
+-- reaches, or the list of what is accepted, and then nothing is put to the output; or it is the trace of what is accepted, and
+-- then the report is put of the lines that were given whole; or it is a trace that the list names, and then what is told of the
+-- groups of traces before its own is put.
 pub data IsUnread (words : List (List ℕ)) (name : List ℕ) (files files' : Reading) (out out' : Writing) : Type 0 where
   source : (file top : List ℕ) → Asks words file top → MayFault files.faults files'.faults → files'.blamed ≡ Some name
       → ((contents : List ℕ → List ℕ) → files.contents ≡ Some contents → Reaches file contents name) → out' ≡ out
       → IsUnread words name files files' out out'
   trace : (file top : List ℕ) → words ≡ sim_words file top name → MayFault files.faults files'.faults → files'.blamed ≡ Some name
       → ((contents : List ℕ → List ℕ) → files.contents ≡ Some contents → StopsReport file top name contents files'.current out out')
+      → IsUnread words name files files' out out'
+  list : (file top : List ℕ) → words ≡ suite_words file top name → MayFault files.faults files'.faults → files'.blamed ≡ Some name
+      → out' ≡ out → IsUnread words name files files' out out'
+  listed : (file top lists : List ℕ) → words ≡ suite_words file top lists → MayFault files.faults files'.faults → files'.blamed ≡ Some name
+      → ((contents : List ℕ → List ℕ) → files.contents ≡ Some contents → StopsSuite file top lists name contents out out')
       → IsUnread words name files files' out out'
 
 -- and its name is told whole

@@ -5,7 +5,8 @@ ghost use Rattle.bsv_flow.specs.Sources.{read_limit};
 ghost use Rattle.bsv_flow.specs.declared.refusal.Refusal.{Refusal as TheRefusal};
 ghost use Rattle.bsv_top.specs.Answers.{sim_words};
 ghost use Rattle.bsv_top.specs.Forms.{words_of};
-ghost use Rattle.bsv_top.specs.Outcomes.{AsksNoRun, IsDoneBy, IsUnread, OutputStarted};
+ghost use Rattle.bsv_top.specs.Outcomes.{AsksNoRun, AsksNoSuite, IsDoneBy, IsUnread};
+ghost use Rattle.bsv_top.specs.Outcomes.{OutputStarted};
 ghost use Rattle.bsv_top.specs.Places.{IsTraceWithin, ReadsWithin};
 ghost use Rattle.bsv_top.specs.Stops.{IsStopOf};
 ghost use Rattle.bsv_top.specs.declared.stop.Stop.{Stop as TheStop};
@@ -15,6 +16,7 @@ use crate::made::make;
 use crate::planning::plan;
 use crate::simulation::simulate;
 use crate::stop::Stop;
+use crate::suite::tell_suite;
 use bsv_io::{Files, Sink};
 use std::alloc::Global;
 use std::thread::Threads;
@@ -49,7 +51,8 @@ pub(crate) fn answer<R: Threads + Sync, F: Files, O: Sink>(
         → MayFault (O.writing out.old).faults (O.writing out.new).faults }
     ensures unchosen { (n : ℕ) → form.entry ≡ Form.Made n
         → F.reading files.new ≡ F.reading files.old }
-    ensures no_output { result ≡ Err Stop.OutOfMemory → O.writing out.new ≡ O.writing out.old }
+    ensures no_output { AsksNoSuite (words_of form.entry) → result ≡ Err Stop.OutOfMemory
+        → O.writing out.new ≡ O.writing out.old }
     ensures sources_within { AsksNoRun (words_of form.entry)
         → read_limit < bytes_given (F.reading files.new)
         → (F.reading files.new).current ≡ (F.reading files.old).current }
@@ -65,6 +68,10 @@ pub(crate) fn answer<R: Threads + Sync, F: Files, O: Sink>(
         → (contents : List ℕ → List ℕ) → (F.reading files.old).contents ≡ Some contents
         → (file top trace : List ℕ) → words_of form.entry ≡ sim_words file top trace
         → IsTraceWithin file top trace contents (F.reading files.new) }
+    ensures no_list_line { (number : ℕ) → result ≡ Err (Stop.BadListLine number)
+        → (file top trace : List ℕ) → words_of form.entry ≡ sim_words file top trace → ⊥ }
+    ensures no_traces { (count : ℕ) → result ≡ Err (Stop.BadTraces count)
+        → (file top trace : List ℕ) → words_of form.entry ≡ sim_words file top trace → ⊥ }
     ensures files_count { (F.reading files.old).faults ≤ (F.reading files.new).faults }
     ensures files_kept { ((name : List ℕ) → result ≡ Err (Stop.Unread name) → ⊥)
         → (F.reading files.new).faults ≡ (F.reading files.old).faults }
@@ -76,5 +83,6 @@ pub(crate) fn answer<R: Threads + Sync, F: Files, O: Sink>(
         Form::Plan(form) => plan(rt, alloc, form, files, out),
         Form::Sim(form) => simulate(rt, alloc, form, files, out),
         Form::Made(size) => make(rt, alloc, size, out),
+        Form::Suite(form) => tell_suite(rt, alloc, form, files, out),
     }
 }

@@ -3,7 +3,7 @@ ghost use Rattle.bsv_io.specs.Faults.{MayFault};
 ghost use Rattle.bsv_io.specs.Writing.{appended, joined, AppendsPrefix};
 ghost use Rattle.bsv_flow.specs.Refusals.{refusal_line};
 ghost use Rattle.bsv_top.specs.Answers.{cannot_read_line, no_memory_line, trace_fault_line};
-ghost use Rattle.bsv_top.specs.Answers.{usage_line};
+ghost use Rattle.bsv_top.specs.Answers.{bad_traces_line, list_fault_line, usage_line};
 ghost use Rattle.bsv_top.specs.Stops.{status_of, text_of};
 
 use crate::status::Status;
@@ -40,7 +40,8 @@ pub(crate) fn tell_usage<E: Sink>(err: &mut E) -> Status
     ensures prefix { AppendsPrefix usage_line (E.writing err.old) (E.writing err.new) }
     ensures count { (E.writing err.old).faults ≤ (E.writing err.new).faults }
 {
-    let line = b"usage: bsvc verilog FILE TOP | schedule FILE TOP | sim FILE TOP TRACE | made N\n";
+    let line =
+        b"usage: bsvc verilog FILE TOP | schedule FILE TOP | sim FILE TOP TRACE | made N | suite FILE TOP LIST\n";
     tell(err, &[line], Status::Usage)
 }
 
@@ -96,6 +97,46 @@ fn tell_bad_line<E: Sink>(err: &mut E, number: u64) -> Status
     )
 }
 
+/// Tells that a line of the list is bad.
+#[tactic(auto, unfolding(crate::specs::Answers::list_fault_line))]
+fn tell_bad_list_line<E: Sink>(err: &mut E, number: u64) -> Status
+    ensures told { (result ≡ Status.WriteFault → ⊥)
+        → (result ≡ Status.TraceFault) × (E.writing err.new
+        ≡ appended (list_fault_line number) (E.writing err.old)) }
+    ensures failed { result ≡ Status.WriteFault
+        → MayFault (E.writing err.old).faults (E.writing err.new).faults }
+    ensures prefix { AppendsPrefix (list_fault_line number) (E.writing err.old)
+        (E.writing err.new) }
+    ensures count { (E.writing err.old).faults ≤ (E.writing err.new).faults }
+{
+    let mut digits = Buffer::new();
+    tell(
+        err,
+        &[b"list line ", digits.format(number).as_bytes(), b"\n"],
+        Status::TraceFault,
+    )
+}
+
+/// Tells how many traces have a bad line.
+#[tactic(auto, unfolding(crate::specs::Answers::bad_traces_line))]
+fn tell_bad_traces<E: Sink>(err: &mut E, count: u64) -> Status
+    ensures told { (result ≡ Status.WriteFault → ⊥)
+        → (result ≡ Status.TraceFault) × (E.writing err.new
+        ≡ appended (bad_traces_line count) (E.writing err.old)) }
+    ensures failed { result ≡ Status.WriteFault
+        → MayFault (E.writing err.old).faults (E.writing err.new).faults }
+    ensures prefix { AppendsPrefix (bad_traces_line count) (E.writing err.old)
+        (E.writing err.new) }
+    ensures count { (E.writing err.old).faults ≤ (E.writing err.new).faults }
+{
+    let mut digits = Buffer::new();
+    tell(
+        err,
+        &[b"bad traces ", digits.format(count).as_bytes(), b"\n"],
+        Status::TraceFault,
+    )
+}
+
 /// Tells why words that have a form are not done. A sink that failed is told of by the status alone.
 #[tactic(auto, unfolding(crate::specs::Answers::no_memory_line))]
 pub(crate) fn tell_stop<E: Sink>(err: &mut E, stop: Stop) -> Status
@@ -113,5 +154,7 @@ pub(crate) fn tell_stop<E: Sink>(err: &mut E, stop: Stop) -> Status
         Stop::Unwritable => Status::WriteFault,
         Stop::OutOfMemory => tell(err, &[b"out of memory\n"], Status::OutOfMemory),
         Stop::BadLine(number) => tell_bad_line(err, number),
+        Stop::BadListLine(number) => tell_bad_list_line(err, number),
+        Stop::BadTraces(count) => tell_bad_traces(err, count),
     }
 }

@@ -1,6 +1,6 @@
 ghost use Rattle.std.specs.Prelude.{◌≡◌, ◌≤◌, ℕ, List, map, string_bytes, decimal};
 ghost use Rattle.std.specs.Prelude.{bytes_eq, Some, IfNone, IfSome};
-ghost use Rattle.bsv_top.specs.Answers.{HasNoForm, sim_words};
+ghost use Rattle.bsv_top.specs.Answers.{HasNoForm, sim_words, suite_words};
 ghost use Rattle.bsv_top.specs.Forms.{planning_words, words_of};
 ghost use Rattle.bsv_top.specs.Made.{made_words};
 ghost use Rattle.bsv_top.specs.Products.{command_of, product_words};
@@ -31,6 +31,14 @@ pub(crate) struct Simulation<'a> {
     pub(crate) trace: &'a str,
 }
 
+/// A command line of the form `suite FILE TOP LIST`.
+#[derive(Clone, Copy)]
+pub(crate) struct Suite<'a> {
+    pub(crate) file: &'a str,
+    pub(crate) top: &'a str,
+    pub(crate) list: &'a str,
+}
+
 /// What the words after the program's name ask for.
 #[derive(Clone, Copy)]
 pub(crate) enum Form<'a> {
@@ -38,6 +46,7 @@ pub(crate) enum Form<'a> {
     Sim(Simulation<'a>),
     /// The made design of this size.
     Made(u32),
+    Suite(Suite<'a>),
 }
 
 /// What the first word asks for, where it asks for no run.
@@ -92,6 +101,26 @@ fn simulation_of(words: &[String]) -> Option<Simulation<'_>>
     })
 }
 
+/// The words after the program's name as a form, where they ask for a suite.
+fn suite_of(words: &[String]) -> Option<Suite<'_>>
+    ensures form { IfSome result (λ form.
+        map string_bytes words.now ≡ suite_words form.file.now form.top.now form.list.now) }
+    ensures none { IfNone result ((file top list : List ℕ)
+        → map string_bytes words.now ≡ suite_words file top list → ⊥) }
+{
+    let [command, file, top, list] = words else {
+        return None;
+    };
+    if command.as_str() != "suite" {
+        return None;
+    }
+    Some(Suite {
+        file: file.as_str(),
+        top: top.as_str(),
+        list: list.as_str(),
+    })
+}
+
 /// Whether the text is the number in decimal, without a leading zero.
 fn is_decimal(text: &str, number: u32) -> bool
     ensures { result ≡ bytes_eq text.now (decimal number) }
@@ -140,6 +169,9 @@ pub(crate) fn form_of(words: &[String]) -> Option<Form<'_>>
     }
     if let Some(form) = simulation_of(words) {
         return Some(Form::Sim(form));
+    }
+    if let Some(form) = suite_of(words) {
+        return Some(Form::Suite(form));
     }
     match size_of(words) {
         Some(size) => Some(Form::Made(size)),

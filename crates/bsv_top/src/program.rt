@@ -6,13 +6,16 @@ ghost use Rattle.bsv_io.specs.Sure.{NoFault};
 ghost use Rattle.bsv_io.specs.Writing.{appended, count_after};
 ghost use Rattle.bsv_top.specs.Answers.{Answer, Asks, HasAnswer, HasNoForm};
 ghost use Rattle.bsv_top.specs.Answers.{no_memory_line, printed};
-ghost use Rattle.bsv_top.specs.Answers.{schedule_words, sim_words, verilog_words};
+ghost use Rattle.bsv_top.specs.Answers.{schedule_words, sim_words, suite_words, verilog_words};
 ghost use Rattle.bsv_design.specs.scheme.Schemes.{Asking};
 ghost use Rattle.bsv_tree.specs.meaning.Schemes.{tree_scheme};
 ghost use Rattle.bsv_tree.specs.tree.Trees.{TreeData};
 ghost use Rattle.bsv_design.specs.declared.schedule.Schedule.{Schedule as TheSchedule};
 ghost use Rattle.bsv_flow.specs.Compilings.{IsPlanned};
-ghost use Rattle.bsv_flow.specs.Schedulings.{IsVerilogOf};
+ghost use Rattle.bsv_flow.specs.Schedulings.{IsVerilogOf, subject};
+ghost use Rattle.bsv_suite.specs.Lists.{NamesTraces};
+ghost use Rattle.bsv_suite.specs.Suites.{AreTold, bad_traces, suite_text};
+ghost use Rattle.bsv_suite.specs.Texts.{Told};
 ghost use Rattle.bsv_flow.specs.Sources.{read_limit};
 ghost use Rattle.bsv_vtext.specs.Signals.{VModuleData};
 ghost use Rattle.bsv_vtext.specs.VText.{vtext};
@@ -20,8 +23,8 @@ ghost use Rattle.bsv_top.specs.OneAnswer.{AsksNoVerilog, HaveModules, IsSameText
 ghost use Rattle.bsv_top.specs.Counts.{CountsAnswer};
 ghost use Rattle.bsv_top.specs.Headline.{Headline};
 ghost use Rattle.bsv_top.specs.Made.{IsMade, made_contents, made_file, made_top, made_words};
-ghost use Rattle.bsv_top.specs.Outcomes.{Accepts, Answered, AsksNoRun, IsDecided, IsFault};
-ghost use Rattle.bsv_top.specs.Outcomes.{OutputStarted, TextStarted, Unreadable};
+ghost use Rattle.bsv_top.specs.Outcomes.{Accepts, Answered, AsksNoRun, AsksNoSuite, IsDecided};
+ghost use Rattle.bsv_top.specs.Outcomes.{IsFault, OutputStarted, TextStarted, Unreadable};
 ghost use Rattle.bsv_top.specs.Places.{IsTraceWithin, ReadsWithin};
 ghost use Rattle.bsv_top.specs.LaidOut.{IsLaidOut};
 ghost use Rattle.bsv_top.specs.Traces.{IsClean};
@@ -39,7 +42,7 @@ use std::thread::Threads;
 /// the output goes to `out`, and a fault text of one line to `err`. The answer is the exit status.
 ///
 /// The clauses that begin with `contents` speak of a source of files that tells its contents.
-/// Want of memory may come as long as nothing is put to the output.
+/// Want of memory may come as long as nothing is put to the output, and for a suite between its groups of traces.
 pub fn run<R: Threads + Sync, F: Files, O: Sink, E: Sink>(
     rt: &R,
     alloc: Global,
@@ -79,15 +82,17 @@ pub fn run<R: Threads + Sync, F: Files, O: Sink, E: Sink>(
         (E.writing err.new) }
 
     // Nothing at all is put to the output where a file is refused, and nothing where memory is
-    // wanting: a run over a trace takes all its memory before it puts the first byte.
+    // wanting, but for a suite: a run over a trace takes all its memory before it puts the first byte,
+    // and a suite takes some for each group of its traces.
     ensures refused { result ≡ Status.Refused → O.writing out.new ≡ O.writing out.old }
     ensures no_memory { result ≡ Status.OutOfMemory
         → (E.writing err.new ≡ appended no_memory_line (E.writing err.old))
         × ((O.writing out.new).faults ≡ (O.writing out.old).faults) }
-    ensures no_output { result ≡ Status.OutOfMemory → O.writing out.new ≡ O.writing out.old }
+    ensures no_output { AsksNoSuite (map string_bytes words.now) → result ≡ Status.OutOfMemory
+        → O.writing out.new ≡ O.writing out.old }
 
-    // No source is read on after one byte more than it may have; where the trace was run, it was
-    // read at most one piece after its first bad line.
+    // No source, no list and no trace of a list is read on after one byte more than a source may have;
+    // where the trace was run, it was read at most one piece after its first bad line.
     ensures sources_within { AsksNoRun (map string_bytes words.now)
         → read_limit < bytes_given (F.reading files.new)
         → (F.reading files.new).current ≡ (F.reading files.old).current }
@@ -169,14 +174,15 @@ pub fn run_surely<R: Threads + Sync>(
 /// but for the place of a `Syntax`. The output is left open where words ask for Verilog: two modules may
 /// carry one tree.
 ///
-/// Words that ask for a run, over a trace or of a made design, have an answer where what is accepted can be
+/// Words that ask for a run, over a trace, over those of a list, or of a made design, have an answer where what is accepted can be
 /// laid out, and words that ask for Verilog where it has a module. The program builds the module that it
 /// puts: so it has built one wherever such words are done, and of a tree that had none it could tell nothing
 /// but want of memory.
 ///
 /// Words that ask for a schedule, and files that have one, have it as their answer; words that ask for
 /// Verilog have the text of every module that carries the tree; and words that ask for a run, files that are
-/// accepted and a trace without a bad line have a report. What is accepted and laid out keeps the headline.
+/// accepted and a trace without a bad line have a report, and words that ask for a suite of such traces have
+/// the text of their sections. What is accepted and laid out keeps the headline.
 pub fn one_answer()
     ensures some { (words : List (List ℕ)) (contents : List ℕ → List ℕ) → LayOut words contents
         → HaveModules words contents → HasAnswer words contents }
@@ -204,6 +210,12 @@ pub fn one_answer()
         → IsPlanned file contents top tree made → IsLaidOut tree
         → IsClean (tree_scheme tree).elements (contents trace) qs
         → (output : List ℕ) × Answer (sim_words file top trace) contents Status.Done output [] }
+    ensures told { (contents : List ℕ → List ℕ) (file top list : List ℕ) (tree : TreeData)
+        (made : TheSchedule) (names : List (List ℕ)) (tolds : List Told)
+        → IsPlanned file contents top tree made → IsLaidOut tree
+        → NamesTraces (contents list) names → AreTold (subject tree) made contents names tolds
+        → bad_traces tolds ≡ 0
+        → Answer (suite_words file top list) contents Status.Done (suite_text tolds) [] }
     ensures made { (contents : List ℕ → List ℕ) (n : ℕ) (tree : TreeData) (made : TheSchedule)
         → IsMade (made_words n) n → IsPlanned made_file (made_contents n) made_top tree made
         → IsLaidOut tree

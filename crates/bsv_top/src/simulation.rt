@@ -139,6 +139,8 @@ fn run_over<F: Files, O: Sink>(
     ensures no_memory { result ≡ Err Stop.OutOfMemory
         → O.writing out.new ≡ O.writing out.old }
     ensures own { (r : TheRefusal) → result ≡ Err (Stop.Refused r) → ⊥ }
+    ensures no_list_line { (number : ℕ) → result ≡ Err (Stop.BadListLine number) → ⊥ }
+    ensures no_traces { (count : ℕ) → result ≡ Err (Stop.BadTraces count) → ⊥ }
     ensures unread { (name : List ℕ) → result ≡ Err (Stop.Unread name) → (name ≡ trace.now)
         × MayFault (F.reading files.old).faults (F.reading files.new).faults
         × ((F.reading files.new).blamed ≡ Some name) }
@@ -199,6 +201,8 @@ pub(crate) fn simulate<R: Threads + Sync, F: Files, O: Sink>(
         → O.writing out.new ≡ O.writing out.old }
     ensures refused { (r : TheRefusal) → result ≡ Err (Stop.Refused r)
         → O.writing out.new ≡ O.writing out.old }
+    ensures no_list_line { (number : ℕ) → result ≡ Err (Stop.BadListLine number) → ⊥ }
+    ensures no_traces { (count : ℕ) → result ≡ Err (Stop.BadTraces count) → ⊥ }
     ensures unread { (name : List ℕ) → result ≡ Err (Stop.Unread name)
         → IsUnread (sim_words form.entry.file.now form.entry.top.now form.entry.trace.now) name
         (F.reading files.old) (F.reading files.new) (O.writing out.old) (O.writing out.new) }

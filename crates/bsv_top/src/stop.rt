@@ -1,9 +1,10 @@
 ghost use Rattle.std.specs.Prelude.{◌≡◌};
-ghost use Rattle.bsv_top.specs.Stops.{stop_of};
+ghost use Rattle.bsv_top.specs.Stops.{stop_of, stop_of_suite};
 ghost use Rattle.bsv_top.specs.declared.stop.Stop.TheVariants as stop;
 
 use bsv_bits::{Name, OutOfMemory};
 use bsv_flow::{CompileFault, Refusal};
+use bsv_suite::SuiteHalt;
 use std::alloc::AllocError;
 
 /// Why words that have a form are not done.
@@ -15,8 +16,12 @@ pub(crate) enum Stop {
     Unread(Name),
     Unwritable,
     OutOfMemory,
-    /// The line of this number is bad.
+    /// The line of the trace that has this number is bad.
     BadLine(u64),
+    /// The line of the list that has this number is bad.
+    BadListLine(u64),
+    /// So many traces of the list have a bad line.
+    BadTraces(u64),
 }
 
 impl From<OutOfMemory> for Stop {
@@ -43,6 +48,18 @@ impl From<CompileFault> for Stop {
             CompileFault::Refused(refusal) => Stop::Refused(refusal),
             CompileFault::ReadFault(name) => Stop::Unread(name),
             CompileFault::OutOfMemory => Stop::OutOfMemory,
+        }
+    }
+}
+
+impl From<SuiteHalt> for Stop {
+    ghost from_gives = { λ halt s. s ≡ stop_of_suite halt };
+
+    fn from(halt: SuiteHalt) -> Stop {
+        match halt {
+            SuiteHalt::Unread(name) => Stop::Unread(name),
+            SuiteHalt::Unwritable => Stop::Unwritable,
+            SuiteHalt::OutOfMemory => Stop::OutOfMemory,
         }
     }
 }

@@ -1,9 +1,12 @@
-ghost use Rattle.std.specs.Prelude.{◌≡◌, ◌<◌, ℕ, All, IsTrue, IfOk, OnOk, Ok, length, map};
+ghost use Rattle.std.specs.Prelude.{◌≡◌, ◌<◌, ◌≤◌, ◌^◌, ℕ, All, IsTrue, IfOk, OnOk, length, map};
+ghost use Rattle.std.specs.List.{flat_map};
 ghost use Rattle.bsv_design.specs.parts.Kinds.{kind_table};
 ghost use Rattle.bsv_design.specs.scheme.Schemes.{design_scheme};
 ghost use Rattle.bsv_design.specs.scheme.Seen.{design_data};
 ghost use Rattle.bsv_schedule.specs.relating.Related as spec;
 ghost use Rattle.bsv_schedule.specs.relating.Related.{names_method};
+ghost use Rattle.bsv_schedule.specs.relating.Blocks as blocks;
+ghost use Rattle.bsv_schedule.specs.relating.Blocks.{AreRowsBetween, AreRowsOfBlock};
 ghost use Rattle.bsv_schedule.specs.relating.Rows.{mark, marks_in, AreMarksOf, AreNotedOf, AreRows, Gains};
 ghost use Rattle.bsv_schedule.specs.relating.Users.{AreUsers, IsUserOf, MeetsUser};
 ghost use Rattle.bsv_schedule.specs.relating.Uses.{AllNamed};
@@ -12,7 +15,7 @@ use crate::relating::related::{Relation, related_by};
 use crate::relating::usage::{Usages, Use, User};
 use crate::relating::uses::usages;
 use bsv_design::{Design, Kind, NamedPart};
-use bsv_io::{Gate, NoGate};
+use bsv_io::{Gate, NoGate, all_made};
 use bsv_prim::Primitive;
 use std::alloc::{AllocError, Global};
 use std::thread::{Threads, map_indices};
@@ -151,7 +154,7 @@ fn marks_of(
     Ok(marks)
 }
 
-// The row of an element, whose worker passes the gate first.
+// The row of an element. Who makes it passes the gate first.
 fn row_of<G: Gate>(
     alloc: Global,
     parts: &[NamedPart],
@@ -171,14 +174,76 @@ fn row_of<G: Gate>(
     Ok(Row { clashes, feeds })
 }
 
-// The rows, where each was made.
-fn made_rows(alloc: Global, mut made: Vec<Result<Row, AllocError>>) -> Result<Vec<Row>, AllocError>
-    ensures { IfOk result (λ rows. made.items ≡ map Ok rows.items) }
+// The rows of the elements from one on, up to another. A worker passes the gate before it makes a row.
+fn rows_between<G: Gate>(
+    alloc: Global,
+    parts: &[NamedPart],
+    usages: &Usages,
+    gate: &G,
+    from: usize,
+    to: usize,
+) -> Result<Vec<Row>, AllocError>
+    requires order { from ≤ to }
+    requires within { to ≤ length usages.now.by_element.items }
+    requires named { AllNamed (map (λ p. p.kind) parts.now) usages.now.by_element.items }
+    requires users { AreUsers usages.now.by_element.items usages.now.by_part.items }
+    ensures { IfOk result (λ rows. AreRowsBetween
+        (map (λ p. p.kind) parts.now) usages.now.by_element.items from to rows.items) }
 {
     let mut rows = Vec::new(alloc);
-    while !made.is_empty() {
-        let row = made.remove(0);
-        rows.push(row?)?;
+    for a in from..to {
+        rows.push(row_of(alloc, parts, usages, gate, a)?)?;
+    }
+    Ok(rows)
+}
+
+// How many blocks so many elements are cut into.
+fn block_count(count: usize) -> usize
+    ensures { result ≡ blocks.block_count count }
+{
+    count.min(16)
+}
+
+// The first element of a block, or the count after the last block.
+fn block_start(count: usize, block: usize) -> usize
+    requires few { count < 2 ^ 32 }
+    requires some { 0 < count }
+    requires block { block ≤ blocks.block_count count }
+    ensures { result ≡ blocks.block_start count block }
+{
+    block * count / block_count(count)
+}
+
+// The rows of a block.
+fn rows_of_block<G: Gate>(
+    alloc: Global,
+    parts: &[NamedPart],
+    usages: &Usages,
+    gate: &G,
+    block: usize,
+) -> Result<Vec<Row>, AllocError>
+    requires few { length usages.now.by_element.items < 2 ^ 32 }
+    requires block { block < blocks.block_count (length usages.now.by_element.items) }
+    requires named { AllNamed (map (λ p. p.kind) parts.now) usages.now.by_element.items }
+    requires users { AreUsers usages.now.by_element.items usages.now.by_part.items }
+    ensures { IfOk result (λ rows. AreRowsOfBlock
+        (map (λ p. p.kind) parts.now) usages.now.by_element.items block rows.items) }
+{
+    let count = usages.by_element.len();
+    let from = block_start(count, block);
+    let to = block_start(count, block + 1);
+    rows_between(alloc, parts, usages, gate, from, to)
+}
+
+// The rows of all blocks, one block after the other.
+fn joined(alloc: Global, mut blocks: Vec<Vec<Row>>) -> Result<Vec<Row>, AllocError>
+    ensures { IfOk result (λ rows. rows.items
+        ≡ flat_map (λ block. block.items) blocks.items) }
+{
+    let mut rows = Vec::new(alloc);
+    while !blocks.is_empty() {
+        let mut block = blocks.remove(0);
+        rows.append(&mut block)?;
     }
     Ok(rows)
 }
@@ -191,14 +256,11 @@ pub(crate) fn rows(alloc: Global, design: &Design) -> Result<Vec<Row>, AllocErro
     let parts = design.parts.as_slice();
     let elements = design.elements.as_slice();
     let usages = usages(alloc, parts, elements)?;
-    let mut rows = Vec::new(alloc);
-    for a in 0..usages.by_element.len() {
-        rows.push(row_of(alloc, parts, &usages, &NoGate, a)?)?;
-    }
-    Ok(rows)
+    rows_between(alloc, parts, &usages, &NoGate, 0, usages.by_element.len())
 }
 
-/// The rows of a design's elements, by a worker each, which passes the gate with the element's position.
+/// The rows of a design's elements, in blocks by a worker each, which passes the gate with the element's position before it
+/// makes a row.
 pub(crate) fn rows_in_parallel<R: Threads + Sync, G: Gate + Sync>(
     rt: &R,
     alloc: Global,
@@ -211,12 +273,12 @@ pub(crate) fn rows_in_parallel<R: Threads + Sync, G: Gate + Sync>(
     let parts = design.parts.as_slice();
     let elements = design.elements.as_slice();
     let usages = usages(alloc, parts, elements)?;
-    let count = usages.by_element.len();
+    let count = block_count(usages.by_element.len());
     let made = map_indices(
         rt,
         alloc,
         count,
-        &|a| row_of(alloc, parts, &usages, gate, a),
+        &|block| rows_of_block(alloc, parts, &usages, gate, block),
     )?;
-    made_rows(alloc, made)
+    joined(alloc, all_made(alloc, made)?)
 }

@@ -1,4 +1,4 @@
-use Rattle.std.proofs.Common.{rules, ◌≡◌, ◌∙◌, ℕ, ◌<◌, IfOk, length, subst, sym, arith}
+use Rattle.std.proofs.Common.{rules, ◌≡◌, ℕ, ◌<◌, IfOk, length, subst, sym, arith}
 use Rattle.std.specs.Prelude.{Result, slice_index_or}
 use Rattle.bsv_bits.specs.declared.memory.OutOfMemory.{OutOfMemory}
 use Rattle.bsv_clock.specs.Subjects.{design_subject}
@@ -22,4 +22,4 @@ returns g c =
     let k = gives.call.met in
     let own : IfOk (slice_index_or results i r) (IsSection s made gives.job.trace) = search rules in
     subst (λ (x : Job). IfOk (slice_index_or results i r) (IsSection s made x.trace)) (sym (gives.job_is j)) own in
-    sections_made s made (λ v. v.items) c.made_sections.result c.args.traces.items jobs results c.in_ok-jobs.ensures long each c.made_sections.ensures
+    sections_made s made (λ v. v.items) c.all_made.result c.args.traces.items jobs results c.in_ok-jobs.ensures long each c.all_made.ensures

@@ -1,4 +1,3 @@
-use Rattle.std.proofs.Common.{refl}
 use Rattle.bsv_suite.proofs.Copied.{copied}
 use Rattle.bsv_suite.proofs.sections.section_of.Goals as goal
 

@@ -1,11 +1,12 @@
 use Rattle.std.proofs.Common.{refl}
 use Rattle.bsv_top.specs.Answers as a
-use Rattle.bsv_top.specs.Answers.{sim_words}
+use Rattle.bsv_top.specs.Answers.{sim_words, suite_words}
 use Rattle.bsv_top.proofs.AllAnswers as all
 use Rattle.bsv_top.proofs.Answering.{clean_answer}
 use Rattle.bsv_top.proofs.Headlined.{headline}
 use Rattle.bsv_top.proofs.MadeRun.{made_answer}
 use Rattle.bsv_top.proofs.OneAnswer as one
+use Rattle.bsv_top.proofs.SuiteAnswers.{told_answer}
 use Rattle.bsv_top.proofs.program.one_answer.Goals as goal
 
 pub returns : goal.returns
@@ -17,6 +18,7 @@ returns c = record {
   planned = λ contents file top tree made p. a.Answer.scheduled tree made refl p;
   verilog = λ contents file top tree made v p has. a.Answer.written tree made v refl p has;
   simulated = λ contents file top trace tree made qs p laid clean. clean_answer (sim_words file top trace) contents file top trace refl tree made p laid qs clean;
+  told = λ contents file top list tree made names tolds p laid named told none. told_answer (suite_words file top list) contents file top list refl tree made p laid names tolds named told none;
   made = λ contents n tree made is p laid. let all = made_answer n tree made p laid in (all.0, a.Answer.made is all.1);
   headline = headline;
 }

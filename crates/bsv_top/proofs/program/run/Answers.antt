@@ -12,7 +12,7 @@ use Rattle.bsv_top.specs.Outcomes.{Accepts, Answered, IsDecided, IsDoneBy, IsUnr
 use Rattle.bsv_top.specs.Stops.{IsStopOf}
 use Rattle.bsv_top.proofs.Headlined.{accepted_headline, accepted_stop, accepts_no_fault, accepts_no_usage}
 use Rattle.bsv_top.proofs.OneAnswer as one
-use Rattle.bsv_top.proofs.Told.{decided_tells, done_answered, has_form, one_status, only_bad, only_memory, stop_answered, stop_complete, stop_text, stop_unreadable, unread_faults, unwritable_or}
+use Rattle.bsv_top.proofs.Told.{TellsBad, decided_tells, done_answered, has_form, one_status, only_bad, only_memory, stop_answered, stop_complete, stop_text, stop_unreadable, unread_faults, unwritable_or}
 use Rattle.bsv_top.proofs.program.run.Goals as goal
 
 -- ---- words without a form
@@ -116,9 +116,9 @@ returns-in-Err-clause-text g c = λ contents told.
     c.tell_stop.ensures.prefix
 
 pub returns-in-Err-clause-no_output : goal.returns-in-Err-clause-no_output
-returns-in-Err-clause-no_output g c = λ is.
+returns-in-Err-clause-no_output g c = λ none is.
     let said = c.tell_stop.ensures.told (λ write. let no_value : ⊥ = cc in no_value) in
-    c.in-Err.ensures.no_output (ap Err (only_memory c.in-Err.stop (sym said.0 ∙ is)))
+    c.in-Err.ensures.no_output (λ file top list words. none file top list (c.in-Some.ensures.form ∙ words)) (ap Err (only_memory c.in-Err.stop (sym said.0 ∙ is)))
 
 pub returns-in-Err-clause-sources_within : goal.returns-in-Err-clause-sources_within
 returns-in-Err-clause-sources_within g c = λ none far.
@@ -131,8 +131,12 @@ returns-in-Err-clause-within g c = λ contents told file top trace words.
 pub returns-in-Err-clause-bad_within : goal.returns-in-Err-clause-bad_within
 returns-in-Err-clause-bad_within g c = λ is contents told file top trace words.
     let said = c.tell_stop.ensures.told (λ write. let no_value : ⊥ = cc in no_value) in
-    let bad = only_bad c.in-Err.stop (sym said.0 ∙ is) in
-    c.in-Err.ensures.bad_within bad.0 (ap Err bad.1) contents told file top trace (sym c.in-Some.ensures.form ∙ words)
+    let spelled = sym c.in-Some.ensures.form ∙ words in
+    elim (only_bad c.in-Err.stop (sym said.0 ∙ is)) [
+      | TellsBad.line number e ↦ c.in-Err.ensures.bad_within number (ap Err e) contents told file top trace spelled
+      | TellsBad.list_line number e ↦ absurd (c.in-Err.ensures.no_list_line number (ap Err e) file top trace spelled)
+      | TellsBad.traces count e ↦ absurd (c.in-Err.ensures.no_traces count (ap Err e) file top trace spelled)
+    ]
 
 pub returns-in-Err-clause-read_fault : goal.returns-in-Err-clause-read_fault
 returns-in-Err-clause-read_fault g c = λ is.

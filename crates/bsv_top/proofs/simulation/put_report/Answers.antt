@@ -1,7 +1,7 @@
 use Rattle.std.proofs.Common.{◌∙◌, inr, length, refl, ap, arith}
 use Rattle.bsv_io.specs.Reading.{Reading, bytes_given, current_name}
 use Rattle.std.proofs.lemmas.Result.{on_ok_weaker}
-use Rattle.bsv_flow.proofs.Sourced.{rest_chosen}
+use Rattle.bsv_io.proofs.Moved.{rest_chosen}
 use Rattle.bsv_top.specs.Running.{its_outlines}
 use Rattle.bsv_run.proofs.Interrupted.{interrupted_at}
 use Rattle.bsv_run.proofs.Opened.{nothing_started, opened, opening_started, shown_here}

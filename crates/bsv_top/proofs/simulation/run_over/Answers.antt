@@ -3,7 +3,7 @@ use Rattle.bsv_lemmas.proofs.Choices.{same_err}
 use Rattle.bsv_run.specs.declared.halt.Halt.TheVariants as halt
 use Rattle.bsv_top.specs.Places.{piece_limit}
 use Rattle.bsv_top.specs.Running.{IsStartedOf, IsDoneOf, IsFaultyOf, IsInterruptedOf, its_outlines}
-use Rattle.bsv_top.proofs.Halted.{halted_bad, halted_memory, halted_read, halted_refused, halted_unread, halted_unwritable, halted_written, not_unreadable}
+use Rattle.bsv_top.proofs.Halted.{halted_bad, halted_counted, halted_listed, halted_memory, halted_read, halted_refused, halted_unread, halted_unwritable, halted_written, not_unreadable}
 use Rattle.bsv_run.specs.Gathered.{lines_ended}
 use Rattle.bsv_run.proofs.Opened.{nothing_started}
 use Rattle.bsv_top.specs.Traces.{trace_limit}
@@ -52,6 +52,12 @@ returns-clause-started g c = λ contents told.
 
 pub returns-clause-own : goal.returns-clause-own
 returns-clause-own g c = λ r h. halted_refused c.stop_for.result c.in-Err.halt c.in_ok-blamed.blamed (c.lines_done.result + 1) c.stop_for.ensures r h
+
+pub returns-clause-no_list_line : goal.returns-clause-no_list_line
+returns-clause-no_list_line g c = λ number h. halted_listed c.stop_for.result c.in-Err.halt c.in_ok-blamed.blamed (c.lines_done.result + 1) c.stop_for.ensures number h
+
+pub returns-clause-no_traces : goal.returns-clause-no_traces
+returns-clause-no_traces g c = λ count h. halted_counted c.stop_for.result c.in-Err.halt c.in_ok-blamed.blamed (c.lines_done.result + 1) c.stop_for.ensures count h
 
 pub returns-clause-unread : goal.returns-clause-unread
 returns-clause-unread g c = λ name h.

@@ -48,7 +48,7 @@ returns-clause-stopped g c = λ s h contents told.
     (λ number e.
     subst (λ (d : ScheduledDesign). IsFaultyOf d (g.O.Sink.writing c.args.out.now) (contents c.args.form.trace.now) (g.O.Sink.writing c.run_over.new.out) number) c.in_ok-started.ensures.scheduled
     (c.run_over.ensures.bad number (h ∙ ap Err e) contents (c.in_ok-compiled.ensures.contents ∙ told)))
-    (λ r e. c.run_over.ensures.own r (h ∙ ap Err e)) (λ name e. (c.run_over.ensures.unread name (h ∙ ap Err e)).0)
+    (λ r e. c.run_over.ensures.own r (h ∙ ap Err e)) (λ number e. c.run_over.ensures.no_list_line number (h ∙ ap Err e)) (λ count e. c.run_over.ensures.no_traces count (h ∙ ap Err e)) (λ name e. (c.run_over.ensures.unread name (h ∙ ap Err e)).0)
 
 pub returns-clause-started : goal.returns-clause-started
 returns-clause-started g c = λ contents told.

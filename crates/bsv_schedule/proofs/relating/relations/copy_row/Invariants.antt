@@ -1,6 +1,6 @@
 use Rattle.std.proofs.Common.{◌≡◌, ◌<◌}
 use Rattle.std.specs.Prelude.{IsTrue}
-use Rattle.bsv_graph.specs.Table.{Adds, side_of}
+use Rattle.bsv_graph.specs.Table.{Adds}
 use Rattle.bsv_schedule.specs.relating.Rows.{mark}
 use Rattle.bsv_schedule.proofs.relating.relations.copy_row.Given as goal
 

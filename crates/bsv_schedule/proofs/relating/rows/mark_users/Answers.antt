@@ -1,7 +1,6 @@
-use Rattle.std.proofs.Common.{◌≡◌, ◌+◌, map, take}
+use Rattle.std.proofs.Common.{◌+◌, map, take}
 use Rattle.std.proofs.lemmas.List.{take_more}
-use Rattle.std.specs.Prelude.{slice_get, slice_index_or}
-use Rattle.bsv_schedule.specs.relating.Related.{related}
+use Rattle.std.specs.Prelude.{slice_index_or}
 use Rattle.bsv_schedule.specs.relating.Rows.{mark}
 use Rattle.bsv_schedule.proofs.MarkLemmas.{user_step}
 use Rattle.bsv_schedule.proofs.relating.rows.mark_users.Goals as goal

@@ -1,4 +1,4 @@
-use Rattle.std.proofs.Common.{◌≡◌, map, take}
+use Rattle.std.proofs.Common.{map, take}
 use Rattle.bsv_schedule.specs.relating.Rows.{Gains}
 use Rattle.bsv_schedule.specs.relating.Users.{MeetsUser}
 use Rattle.bsv_schedule.proofs.relating.rows.mark_users.Given as goal

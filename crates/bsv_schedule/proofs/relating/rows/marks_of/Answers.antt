@@ -7,7 +7,7 @@ use Rattle.bsv_schedule.specs.declared.relating.usage.Use.{Use}
 use Rattle.bsv_schedule.specs.relating.Rows.{AreMarks, Gains}
 use Rattle.bsv_schedule.specs.relating.Users.{MeetsSome, MeetsUser}
 use Rattle.bsv_schedule.specs.relating.Uses.{use_named}
-use Rattle.bsv_schedule.proofs.MarkLemmas.{among_read, none_met, row_met, use_step, users_within, written_back}
+use Rattle.bsv_schedule.proofs.MarkLemmas.{among_read, row_met, use_step, users_within, written_back}
 use Rattle.bsv_schedule.proofs.UsesLemmas.{all_has}
 use Rattle.bsv_schedule.proofs.relating.rows.marks_of.Goals as goal
 

@@ -1,4 +1,4 @@
-use Rattle.std.proofs.Common.{◌≡◌, [], length, map, take}
+use Rattle.std.proofs.Common.{[], length, map, take}
 use Rattle.std.specs.Prelude.{slice_index_or}
 use Rattle.bsv_schedule.specs.relating.Rows.{AreMarks}
 use Rattle.bsv_schedule.specs.relating.Users.{MeetsSome}

@@ -1,6 +1,6 @@
 use Rattle.bsv_schedule.specs.relating.Related.{related_by}
 use Rattle.bsv_schedule.proofs.MarkLemmas.{mark_more}
-use Rattle.std.proofs.Common.{◌≡◌, ℕ, ◌<◌, ◌+◌, ◌∷◌, [], length, arith, length-append, ap}
+use Rattle.std.proofs.Common.{◌∷◌, [], length, arith, length-append, ap}
 use Rattle.bsv_schedule.proofs.relating.rows.related_methods.Goals as goal
 
 pub loop-method-preserved : goal.loop-method-preserved
