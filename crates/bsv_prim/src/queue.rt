@@ -1,5 +1,5 @@
 ghost use Rattle.std.specs.Prelude.{◌≡◌, ◌+◌, ◌<◌, ◌≤◌, ◌∷◌, ◌++◌, [], length, drop};
-ghost use Rattle.std.specs.Prelude.{slice_get, IfOk};
+ghost use Rattle.std.specs.Prelude.{slice_get, slice_set, IfOk};
 
 use bsv_bits::{OutOfMemory, Word};
 use std::alloc::Global;
@@ -87,6 +87,14 @@ impl Queue {
         ensures { slice_get self.now.items number ≡ Some result }
     {
         self.items[number as usize]
+    }
+
+    /// Puts a word in the place of another, counted from the front.
+    pub fn set(&mut self, number: u32, word: Word)
+        requires { number < length self.old.items }
+        ensures { self.new ≡ record self.old { items = slice_set self.old.items number word } }
+    {
+        self.items[number as usize] = word;
     }
 
     /// Takes all words away.
