@@ -2,6 +2,7 @@ pub mod TableLemmas
 pub mod WalkLemmas
 pub mod EdgeLemmas
 pub mod GraphLemmas
+pub mod MarkedLemmas
 pub mod LeastLemmas
 pub mod OrderedLemmas
 pub mod Deciding

@@ -1,9 +1,10 @@
 ghost use Rattle.std.specs.Prelude.{◌≡◌, ◌^◌, ◌<◌, ◌↔◌, ◌++◌, ◌∷◌, []};
 ghost use Rattle.std.specs.Prelude.{List, length, take, All, IsTrue, IfNone, IfSome, IfOk};
 ghost use Rattle.bsv_graph.specs.declared.edge.Edge.{Edge};
-ghost use Rattle.bsv_graph.specs.Edges.{AllBelow};
+ghost use Rattle.bsv_graph.specs.Edges.{AllBelow, edges_from, edges_where};
 ghost use Rattle.bsv_graph.specs.Graphs.{size_of, IsGraphOf, ForEdges, HasNoCycle};
 ghost use Rattle.bsv_graph.specs.Orders.{IsLeastOrder};
+ghost use Rattle.bsv_graph.specs.Table.{side_of, at};
 ghost use Rattle.bsv_graph.specs.Walks.{Closes, Keeps, NoneCloses};
 ghost use Rattle.bsv_graph.specs.Walks.{ClosesFirst, IsAcyclic, LeastOnCycle};
 
@@ -47,15 +48,37 @@ impl Graph {
         }
     }
 
-    /// The graph gains all these edges.
-    pub fn join_all(&mut self, edges: &[Edge])
-        requires { AllBelow (size_of self.old) edges.now }
+    // The graph gains the marks of a row as edges.
+    fn join_row(&mut self, table: &Table, a: usize)
+        requires side { side_of table.now ≡ size_of self.old }
+        requires row { a < side_of table.now }
         ensures size { size_of self.new ≡ size_of self.old }
-        ensures gains { ForEdges self.old (λ es. IsGraphOf (edges.now ++ es) self.new) }
+        ensures gains { ForEdges self.old
+            (λ es. IsGraphOf (edges_from (at table.now) (side_of table.now) a ++ es) self.new) }
     {
-        for edge in edges {
-            self.join(*edge);
+        for b in 0..table.side() {
+            if table.get(a, b) {
+                self.join(Edge {
+                    from: a as u32,
+                    to: b as u32,
+                });
+            }
         }
+    }
+
+    /// The graph whose edges are the marks of the table. The rows are taken from the last one: where edges lead to
+    /// higher numbers, a row is joined to rows that are whole, and few of its edges lead to where it does not lead yet.
+    pub fn of_marks(alloc: Global, table: &Table) -> Result<Graph, OutOfMemory>
+        ensures size { IfOk result (λ g. size_of g ≡ side_of table.now) }
+        ensures edges { IfOk result
+            (λ g. IsGraphOf (edges_where (side_of table.now) (at table.now)) g) }
+    {
+        let side = table.side();
+        let mut graph = Graph::new(alloc, side)?;
+        for done in 0..side {
+            graph.join_row(table, side - 1 - done);
+        }
+        Ok(graph)
     }
 
     /// Whether the edge closes a cycle with those of the graph.

@@ -1,7 +1,7 @@
 //! Graphs on numbers: which edges close a cycle, and the least order that respects them.
 //!
-//! Modules in reading order: `edge` (an edge), `table` (a square of marks), `edges` (the marks as a list of edges),
-//! `graph` (a graph to which edges are added, its cycles, and its least order), `reach` (what an edge adds to where walks
+//! Modules in reading order: `edge` (an edge), `table` (a square of marks), `graph` (a graph
+//! to which edges are added, its cycles, and its least order), `reach` (what an edge adds to where walks
 //! lead), `least` (the least number that is ready).
 //!
 //! The definitions in reading order: `specs/Walks.antt` (walks, cycles, and the edges that close one),
@@ -11,13 +11,11 @@
 #![tactic(auto)]
 
 mod edge;
-mod edges;
 mod graph;
 mod least;
 mod reach;
 mod table;
 
 pub use edge::Edge;
-pub use edges::marked_edges;
 pub use graph::Graph;
 pub use table::Table;
