@@ -1,5 +1,5 @@
 -- The numbers below n: how many there are, and one more.
-use Rattle.std.proofs.Common.{◌≡◌, ◌∙◌, ℕ, zero, suc, ◌+◌, List, [], ◌∷◌, ◌++◌, refl, sym, ap, arith, length}
+use Rattle.std.proofs.Common.{◌≡◌, ◌∙◌, ℕ, zero, suc, ◌+◌, [], ◌∷◌, ◌++◌, refl, ap, arith, length}
 use Rattle.std.proofs.lemmas.List.{length-append}
 use Rattle.bsv_graph.specs.Edges.{numbers_below}
 

@@ -1,4 +1,4 @@
-/// Where each worker of a parallel call passes once, with the number of its row or trace, before it computes.
+/// Where a worker of a parallel call passes before each row or trace that it computes, with the number of that one.
 ///
 /// A pass changes nothing. The program hands in `NoGate`; a test hands in a gate that waits for a second worker.
 pub trait Gate {

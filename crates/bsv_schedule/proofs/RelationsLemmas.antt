@@ -24,6 +24,8 @@ use Rattle.bsv_schedule.specs.declared.relating.related.Relation.TheVariants as 
 use Rattle.bsv_schedule.specs.declared.relating.relations.Relations.{Relations}
 use Rattle.bsv_graph.specs.declared.table.Table.{Table}
 use Rattle.bsv_schedule.specs.declared.relating.usage.Use.{Use}
+use Rattle.bsv_graph.specs.declared.graph.Graph.{Graph}
+use Rattle.bsv_graph.specs.Graphs.{size_of, IsGraphOf}
 use Rattle.bsv_graph.specs.Edges.{AllBelow, edges_where, edges_from, numbers_below}
 use Rattle.bsv_schedule.specs.relating.Elements.{relating, edges_of, edge_of, is_urging, is_ordering, is_preempting, preempts, has_role}
 use Rattle.bsv_graph.specs.Orders.{In}
@@ -349,16 +351,19 @@ where_same n f g h = rows_same n f g (numbers_below n) (λ a b k l. h a b (in_be
 pub at_marked : (t : Table) (a b : ℕ) → a < side_of t → b < side_of t → at t a b ≡ marked t a b
 at_marked t a b h k = ap (λ x. x && at t a b) (sym (and_from (nat_lt a (side_of t)) (nat_lt b (side_of t)) (lt-ltb a (side_of t) h) (lt-ltb b (side_of t) k)))
 
-pub feeds_edges : (r : Relations) (found : Result (List Edge) OutOfMemory) → IfOk found (λ es. es ≡ edges_where (side_of r.feeds) (at r.feeds))
-    → IfOk found (λ es. es ≡ feed_edges (relating_of r))
+feeds_same : (r : Relations) → edges_where (side_of r.feeds) (at r.feeds) ≡ feed_edges (relating_of r)
 unfolding relating_of
-feeds_edges r (Err e) h = h
-feeds_edges r (Ok es) h =
-    h ∙ (ap (λ n. edges_where n (at r.feeds)) r.feeds_side
-    ∙ where_same (length r.roles) (at r.feeds) (marked r.feeds) (λ a b k l. at_marked r.feeds a b (subst (λ n. a < n) (sym r.feeds_side) k) (subst (λ n. b < n) (sym r.feeds_side) l)))
+feeds_same r =
+    ap (λ n. edges_where n (at r.feeds)) r.feeds_side
+    ∙ where_same (length r.roles) (at r.feeds) (marked r.feeds) (λ a b k l. at_marked r.feeds a b (subst (λ n. a < n) (sym r.feeds_side) k) (subst (λ n. b < n) (sym r.feeds_side) l))
 
-pub feeds_below : (r : Relations) (found : Result (List Edge) OutOfMemory) → IfOk found (λ es. AllBelow (side_of r.feeds) es)
-    → IfOk found (λ es. AllBelow (relating_of r).count es)
+pub feeds_edges : (r : Relations) (found : Result Graph OutOfMemory) → IfOk found (λ g. IsGraphOf (edges_where (side_of r.feeds) (at r.feeds)) g)
+    → IfOk found (λ g. IsGraphOf (feed_edges (relating_of r)) g)
+feeds_edges r (Err e) h = h
+feeds_edges r (Ok g) h = subst (λ es. IsGraphOf es g) (feeds_same r) h
+
+pub feeds_size : (r : Relations) (found : Result Graph OutOfMemory) → IfOk found (λ g. size_of g ≡ side_of r.feeds)
+    → IfOk found (λ g. size_of g ≡ (relating_of r).count)
 unfolding relating_of
-feeds_below r (Err e) h = h
-feeds_below r (Ok es) h = subst (λ n. AllBelow n es) r.feeds_side h
+feeds_size r (Err e) h = h
+feeds_size r (Ok g) h = h ∙ r.feeds_side

@@ -24,9 +24,7 @@ fn graph_of_feeds(alloc: Global, relations: &Relations) -> Result<Graph, OrderFa
     ensures ok { IfOk result (λ g. HasFeeds (relating_of relations.now) g) }
     ensures err { IfErr result (λ e. RefusesExecution (relating_of relations.now) e) }
 {
-    let mut graph = Graph::new(alloc, relations.count())?;
-    let feeds = relations.feed_edges(alloc)?;
-    graph.join_all(feeds.as_slice());
+    let graph = relations.feed_graph(alloc)?;
     match graph.least_on_cycle() {
         Some(element) => Err(OrderFault::WireCycle(element)),
         None => Ok(graph),
@@ -81,8 +79,8 @@ fn order_of(alloc: Global, relations: &Relations) -> Result<Items<u32>, OrderFau
 }
 
 /// The execution order of the elements: the least list, compared by positions, that respects the hard edges and those
-/// of the soft ones that are kept. How an element relates to the others is found by a worker for each element, which passes the
-/// gate once, with the element's position.
+/// of the soft ones that are kept. How an element relates to the others is found by workers, of which each has a block of
+/// elements and passes the gate once for each of them, with the element's position.
 pub fn execution<R: Threads + Sync, G: Gate + Sync>(
     rt: &R,
     alloc: Global,

@@ -4,6 +4,7 @@ ghost use Rattle.std.specs.List.{list_all, list_any};
 ghost use Rattle.bsv_design.specs.scheme.Schemes.{design_scheme};
 ghost use Rattle.bsv_design.specs.scheme.Seen.{design_data};
 ghost use Rattle.bsv_graph.specs.Edges.{AllBelow};
+ghost use Rattle.bsv_graph.specs.Graphs.{size_of, IsGraphOf};
 ghost use Rattle.bsv_schedule.specs.relating.Elements as elements;
 ghost use Rattle.bsv_schedule.specs.relating.Elements.{relating};
 ghost use Rattle.bsv_graph.specs.Table.{side_of, at, Adds};
@@ -14,7 +15,7 @@ use crate::relating::related::Relation;
 use crate::relating::rows::{Row, rows, rows_in_parallel};
 use bsv_bits::OutOfMemory;
 use bsv_design::{Attribute, Design, Element, Pair, Role};
-use bsv_graph::{Edge, Table, marked_edges};
+use bsv_graph::{Edge, Graph, Table};
 use bsv_io::Gate;
 use sqlite_items::Items;
 use std::alloc::{AllocError, Global};
@@ -188,7 +189,8 @@ impl Relations {
         Relations::of_rows(alloc, design, rows.as_slice())
     }
 
-    /// The same by a worker for each element, which passes the gate once, with the element's position.
+    /// The same by workers, of which each has a block of elements and passes the gate once for each of them, with the
+    /// element's position.
     pub fn in_parallel<R: Threads + Sync, G: Gate + Sync>(
         rt: &R,
         alloc: Global,
@@ -278,12 +280,12 @@ impl Relations {
         self.urging.as_slice()
     }
 
-    /// The pairs of elements of which the first feeds the second.
-    pub fn feed_edges(&self, alloc: Global) -> Result<Items<Edge>, OutOfMemory>
-        ensures edges { IfOk result (λ edges.
-            edges ≡ relating_words.feed_edges (relating_of self.now)) }
-        ensures below { IfOk result (λ edges. AllBelow (count_of self.now) edges) }
+    /// The graph of the elements whose edges are the pairs of which the first feeds the second.
+    pub fn feed_graph(&self, alloc: Global) -> Result<Graph, OutOfMemory>
+        ensures size { IfOk result (λ g. size_of g ≡ count_of self.now) }
+        ensures edges { IfOk result (λ g.
+            IsGraphOf (relating_words.feed_edges (relating_of self.now)) g) }
     {
-        marked_edges(alloc, &self.feeds)
+        Graph::of_marks(alloc, &self.feeds)
     }
 }

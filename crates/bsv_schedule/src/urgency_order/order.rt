@@ -55,9 +55,7 @@ fn graph_of_urgency(
     ensures ok { IfOk result (λ g. HasUrging (relating_of relations.now) g) }
     ensures err { IfErr result (λ e. RefusesUrgency (relating_of relations.now) pairs.now e) }
 {
-    let mut graph = Graph::new(alloc, relations.count())?;
-    let feeds = relations.feed_edges(alloc)?;
-    graph.join_all(feeds.as_slice());
+    let mut graph = relations.feed_graph(alloc)?;
     match graph.first_closing(relations.urging()) {
         Some(place) => Err(cycle_at(pairs, place)),
         None => Ok(graph),

@@ -1,7 +1,5 @@
 use Rattle.std.proofs.Common.{◌≡◌, ◌<◌, length, arith, ◌∙◌}
-use Rattle.bsv_schedule.specs.relating.Relating.{feed_edges}
 use Rattle.bsv_schedule.specs.relating.Relations.{relating_of}
-use Rattle.bsv_graph.proofs.GraphLemmas.{graph_first}
 use Rattle.bsv_graph.proofs.WalkLemmas.{none_acyclic}
 use Rattle.bsv_schedule.proofs.UrgencyLemmas.{as_many}
 use Rattle.bsv_schedule.proofs.urgency_order.order.graph_of_urgency.Goals as goal
@@ -14,22 +12,17 @@ cycle_at-requires c =
 
 pub returns-in-Some-clause-err : goal.returns-in-Some-clause-err
 returns-in-Some-clause-err c =
-    let r = relating_of c.args.relations.now in
-    let e : c.as_slice.result.now ≡ feed_edges r = c.as_slice.ensures ∙ c.in_ok-feeds.ensures.edges in
-    let m = graph_first c.in_ok-graph.graph c.join_all.new.self c.as_slice.result.now (feed_edges r) c.in_ok-graph.ensures.empty e c.join_all.ensures.gains in
     let p = c.urging.ensures.urging in
     let h = c.cycle_at.ensures in
-    rw h.2 (c.in-Some.place, rw p at (c.in-Some.ensures.some _ m), h.1)
+    rw h.2 (c.in-Some.place, rw p at (c.in-Some.ensures.some _ c.in_ok-graph.ensures.edges), h.1)
 
 pub returns-in-None-clause-ok : goal.returns-in-None-clause-ok
 returns-in-None-clause-ok c =
-    let r = relating_of c.args.relations.now in
-    let e : c.as_slice.result.now ≡ feed_edges r = c.as_slice.ensures ∙ c.in_ok-feeds.ensures.edges in
-    let m = graph_first c.in_ok-graph.graph c.join_all.new.self c.as_slice.result.now (feed_edges r) c.in_ok-graph.ensures.empty e c.join_all.ensures.gains in
     let p = c.urging.ensures.urging in
+    let m = c.in_ok-graph.ensures.edges in
     let n = rw p at (c.in-None.ensures.none _ m) in
     record {
-      size = c.in-None.ensures.size ∙ (c.join_all.ensures.size ∙ (c.in_ok-graph.ensures.size ∙ c.count.ensures.count));
+      size = c.in-None.ensures.size ∙ c.in_ok-graph.ensures.size;
       graph = rw p at (c.in-None.ensures.all _ m);
       pairs = n;
       urging = none_acyclic _ _ c.requires.feeds n;
