@@ -48,6 +48,8 @@ as_many (kind.Pulse k) = refl
 as_many (kind.Plain k) = refl
 as_many (kind.Pipeline k) = refl
 as_many (kind.Bypass k) = refl
+as_many (kind.CReg k) = length-take-le (2 * k.ports) port_names (omega (arith, k.most_ports))
+as_many (kind.RegFile k) = refl
 
 pub no_more_names : (k : Kind) (m : ℕ) → (kind_table k).methods ≤ m → slice_get (method_names k) m ≡ None
 no_more_names k m l = slice_get_past (method_names k) m (subst (λ n. n ≤ m) (sym (as_many k)) l)

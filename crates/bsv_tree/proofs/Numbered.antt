@@ -1,7 +1,7 @@
 -- The names of a kind's methods are as many as its methods.
 use Rattle.std.proofs.Common.{◌≡◌, [], drop, refl}
 use Rattle.bsv_design.specs.declared.kind.Kind.{Kind}
-use Rattle.bsv_design.specs.declared.kind.Kind.TheVariants.{Reg, RegU, Wire, DWire, RWire, Pulse, Plain, Pipeline, Bypass}
+use Rattle.bsv_design.specs.declared.kind.Kind.TheVariants.{Reg, RegU, Wire, DWire, RWire, Pulse, Plain, Pipeline, Bypass, CReg, RegFile}
 use Rattle.bsv_design.specs.parts.Kinds.{kind_table}
 use Rattle.bsv_design.specs.parts.MethodNames.{method_names}
 
@@ -15,5 +15,7 @@ named_all (Pulse k) = refl
 named_all (Plain k) = refl
 named_all (Pipeline k) = refl
 named_all (Bypass k) = refl
+named_all (CReg k) = drop_past (method_names (CReg k)) (kind_table (CReg k)).methods (omega (arith, ports_named k.ports k.most_ports))
+named_all (RegFile k) = refl
 
 pub ruleset numbered = (named_all)
