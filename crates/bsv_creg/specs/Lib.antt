@@ -1,0 +1,4 @@
+pub mod FileLaws
+pub mod Files
+pub mod PortLaws
+pub mod Ports
