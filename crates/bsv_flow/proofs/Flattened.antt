@@ -1,7 +1,8 @@
 -- The design of a tree, and how what is refused of it is told.
-use Rattle.std.proofs.Common.{◌≡◌, ◌∙◌, ℕ, zero, suc, ◌≤◌, List, [], ◌∷◌, map, length, Option, Some, None, refl, sym, ap, subst}
+use Rattle.std.proofs.Common.{◌≡◌, ◌∙◌, ℕ, zero, suc, ◌*◌, ◌≤◌, List, [], ◌∷◌, map, length, Option, Some, None, refl, sym, ap, subst, arith}
 use Rattle.std.specs.Prelude.{slice_get}
 use Rattle.std.proofs.Math.Logic.{∥∥₁_elim, ∥∥₁_prop}
+use Rattle.std.proofs.lemmas.List.{length-take-le}
 use Rattle.std.proofs.lemmas.Option.{slice_get_past}
 use Rattle.bsv_design.specs.declared.design.Design.{Design}
 use Rattle.bsv_design.specs.declared.design.NamedPart.{NamedPart}
@@ -10,7 +11,7 @@ use Rattle.bsv_design.specs.declared.kind.Kind.{Kind}
 use Rattle.bsv_design.specs.declared.kind.Kind.TheVariants as kind
 use Rattle.bsv_design.specs.design.Designs.{DesignData}
 use Rattle.bsv_design.specs.parts.Kinds.{kind_table}
-use Rattle.bsv_design.specs.parts.MethodNames.{method_names}
+use Rattle.bsv_design.specs.parts.MethodNames.{method_names, port_names}
 use Rattle.bsv_design.specs.scheme.Relations.{KeepsTheRule}
 use Rattle.bsv_design.specs.scheme.Schemes.{Outline, outline, design_scheme, AreAlike}
 use Rattle.bsv_clock.specs.Subjects.{element_name, outline_name}

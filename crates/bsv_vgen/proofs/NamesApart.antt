@@ -10,6 +10,7 @@ use Rattle.std.proofs.lemmas.Option.{slice_get_within, same_Some}
 use Rattle.bsv_lemmas.proofs.Places.{mapped_at}
 use Rattle.bsv_ast.specs.Names.{is_lower}
 use Rattle.bsv_types.specs.Names.{distinct}
+use Rattle.bsv_design.specs.declared.design.NamedPart.{NamedPart}
 use Rattle.bsv_design.specs.design.Designs.{DesignData, IsDesign}
 use Rattle.bsv_design.specs.scheme.Schemes.{outline}
 use Rattle.bsv_vtext.specs.declared.tree.VMethod.{VMethod}
@@ -18,7 +19,7 @@ use Rattle.bsv_vtext.specs.declared.tree.VWire.{VWire}
 use Rattle.bsv_vtext.specs.Modules.{Signal, Clock, Reset, Enable, Argument, Ready, Result, Register, Wire, signal_name, name_of_enable, name_of_argument, name_of_result}
 use Rattle.bsv_vtext.specs.Signals.{VModuleData, argument_name, enable_name, ready_name, fire_name}
 use Rattle.bsv_vgen.specs.Interfaces.{IsModuleOf, argument_of}
-use Rattle.bsv_vgen.specs.Names.{verilog_name, part_names, numbered_from, fire_wires}
+use Rattle.bsv_vgen.specs.Names.{verilog_name, suffixes, part_names, numbered_from, fire_wires}
 use Rattle.bsv_vgen.proofs.VerilogPaths.{path_told, dotted_route, verilog_same}
 use Rattle.bsv_vgen.proofs.Places.{Found, in_first, in_second, made_of, before, fires_before, fire_at}
 use Rattle.bsv_vgen.proofs.Spellings.{Sort, Clocks, Resets, Enables, Arguments, Readies, Results, Registers, Wires, sort, clock_sort, reset_sort, enable_sort, argument_sort, ready_sort, result_sort, register_sort, numbered_sort, fire_sort, argument_told, numbered_or_fire}
