@@ -37,11 +37,6 @@ leaves m (Number w) args e = refl
 leaves m (Held o) args e = refl
 leaves m (Queue q) args e = ap (λ (xs : List Bits). Queue (record q { items = xs })) (leaves_items m q.items args e)
 
--- where a method is not called later, its last call stays
-pub latest_none : (m : ℕ) (o : Option (List Bits)) (cs : List Call) → AllByRecursion (λ c. nat_eq c.method m ≡ false) cs → latest m o cs ≡ o
-latest_none m o [] h = refl
-latest_none m o (c ∷ cs) h = rw h.0 (latest_none m o cs h.1)
-
 -- what was called stays called
 pub latest_some : (m : ℕ) (args : List Bits) (cs : List Call) → latest m (Some args) cs ≡ None → ⊥
 latest_some m args [] h = cc

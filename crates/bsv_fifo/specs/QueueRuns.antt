@@ -9,14 +9,14 @@ use Rattle.std.proofs.lemmas.Bool.Decides.{nat_tests}
 use Rattle.bsv_bits.specs.Words.{Bits}
 use Rattle.bsv_prim.specs.Table.{Table, Call, ArgsFit, word_at, goes_before}
 use Rattle.bsv_prim.specs.Calls.{IsOrderly, IsReadyInLooks, after_calls, seen_by, latest}
-use Rattle.bsv_prim.specs.CallLists.{all_weaker}
+use Rattle.bsv_prim.specs.CallLists.{all_weaker, latest_none}
 use Rattle.bsv_prim.specs.declared.part.Part.{Part}
 use Rattle.bsv_prim.specs.declared.part.Part.TheVariants.{Number, Held, Queue}
 use Rattle.bsv_fifo.specs.declared.method.Method.{Method}
 use Rattle.bsv_fifo.specs.declared.method.Method.TheVariants.{Enq, Deq, First, NotFull, NotEmpty, Clear}
 use Rattle.bsv_fifo.specs.Queues.{queue_method, queue_guard, changed, items_of, queue_apply, FitsQueue}
 use Rattle.bsv_fifo.specs.QueueTable.{QueueRow, queue_table}
-use Rattle.bsv_fifo.specs.QueueLists.{items_after, items-apply, latest_none, latest_some, drop_with, words_append, words_drop, length_drop, with_item, without_front, after_clear, closed, cleared_latest}
+use Rattle.bsv_fifo.specs.QueueLists.{items_after, items-apply, latest_some, drop_with, words_append, words_drop, length_drop, with_item, without_front, after_clear, closed, cleared_latest}
 
 -- at most one `enq` and one `deq`, and nothing comes after a `clear`
 pub record IsOnce (row : QueueRow) : Type 0 where

@@ -1,19 +1,11 @@
 ghost use Rattle.std.specs.Prelude.{◌≡◌, ◌≤◌, IfOk};
 ghost use Rattle.bsv_prim.specs.Shape.{shape_of};
-ghost use Rattle.bsv_prim.specs.Registers.{always};
 ghost use Rattle.bsv_fifo.specs.QueueTable.{number, has_room, has_item, newest_item};
 
 use crate::method::count_width_of;
 use bsv_bits::{Operator, OutOfMemory, Word};
 use bsv_prim::Piece;
 use std::alloc::Global;
-
-/// The bit that is always 1.
-pub(crate) fn always_piece() -> Piece
-    ensures { shape_of result ≡ always }
-{
-    Piece::constant(Word::bit(true))
-}
 
 /// A number as wide as the count of the items.
 pub(crate) fn number_piece(depth: u32, value: u32) -> Piece

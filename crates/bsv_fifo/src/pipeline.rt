@@ -4,9 +4,9 @@ ghost use Rattle.bsv_fifo.specs.Pipeline.{has_or_gets_room, pipeline_next_piece}
 
 use crate::meaning::{change, fits_queue, guard_of, register_of, result_of};
 use crate::method::Method;
-use crate::pieces::{always_piece, item_piece, newest_piece, number_piece, room_piece};
+use crate::pieces::{item_piece, newest_piece, number_piece, room_piece};
 use bsv_bits::{Operator, OutOfMemory, Word};
-use bsv_prim::{Part, Piece, Primitive, Queue, RegisterInfo, Rel};
+use bsv_prim::{Part, Piece, Primitive, Queue, RegisterInfo, Rel, always_piece};
 use std::alloc::Global;
 
 /// A queue of depth 1 that takes an item in the clock in which its item goes.

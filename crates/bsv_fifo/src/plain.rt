@@ -4,9 +4,9 @@ ghost use Rattle.bsv_fifo.specs.Plain.{count_with, count_without, next_count, fi
 
 use crate::meaning::{change, fits_queue, guard_of, register_of, result_of};
 use crate::method::Method;
-use crate::pieces::{always_piece, item_piece, number_piece, room_piece};
+use crate::pieces::{item_piece, number_piece, room_piece};
 use bsv_bits::{Operator, OutOfMemory, Word};
-use bsv_prim::{Part, Piece, Primitive, Queue, RegisterInfo, Rel};
+use bsv_prim::{Part, Piece, Primitive, Queue, RegisterInfo, Rel, always_piece};
 use std::alloc::Global;
 
 /// A queue whose methods see no call of the same clock.

@@ -1,10 +1,11 @@
--- Lists of calls that are seen whole.
+-- Lists of calls that are seen whole, and the last call of a method.
 -- Proof alone: it is in specs/ since the `laws` of an impl may cite nothing of proofs/.
-use Rattle.std.proofs.Common.{◌≡◌, ℕ, Bool, true, false, List, [], ◌∷◌, refl, ap, sym, ◌∙◌, inl, inr}
-use Rattle.std.specs.Prelude.{◌⊎◌, cond, filter}
+use Rattle.std.proofs.Common.{◌≡◌, ℕ, Bool, true, false, List, [], ◌∷◌, Option, refl, ap, sym, ◌∙◌, inl, inr}
+use Rattle.std.specs.Prelude.{◌⊎◌, cond, filter, nat_eq}
 use Rattle.std.specs.List.{AllByRecursion}
+use Rattle.bsv_bits.specs.Words.{Bits}
 use Rattle.bsv_prim.specs.Table.{Table, Call}
-use Rattle.bsv_prim.specs.Calls.{after_call, after_calls, look, seen_by}
+use Rattle.bsv_prim.specs.Calls.{after_call, after_calls, latest, look, seen_by}
 use Rattle.bsv_prim.specs.declared.part.Part.{Part}
 
 -- nothing passes the test that always fails
@@ -28,3 +29,8 @@ look_whole t y p (c ∷ cs) h =
     cases true e s seen unseen = seen
     cases false e (inl s) seen unseen = cc
     cases false e (inr s) seen unseen = unseen ∙ sym (ap (λ (q : Part). after_calls t q cs) (s p))
+
+-- where a method is not called later, its last call stays
+pub latest_none : (m : ℕ) (o : Option (List Bits)) (cs : List Call) → AllByRecursion (λ c. nat_eq c.method m ≡ false) cs → latest m o cs ≡ o
+latest_none m o [] h = refl
+latest_none m o (c ∷ cs) h = rw h.0 (latest_none m o cs h.1)

@@ -11,7 +11,7 @@ use bsv_bits::{OutOfMemory, Word};
 use std::alloc::Global;
 
 /// Whether the part is a number of so many bits.
-pub(crate) fn fits_number(width: u32, part: &Part) -> bool
+pub fn fits_number(width: u32, part: &Part) -> bool
     ensures { IsTrue result ↔ FitsNumber width part.now }
 {
     match part {
@@ -21,7 +21,7 @@ pub(crate) fn fits_number(width: u32, part: &Part) -> bool
 }
 
 /// The number of a register's part; 0 where the part is another.
-pub(crate) fn number_of(width: u32, part: &Part) -> Word
+pub fn number_of(width: u32, part: &Part) -> Word
     requires some { 1 ≤ width }
     requires most { width ≤ 128 }
     ensures { result ≡ number_in width part.now }
@@ -103,7 +103,7 @@ pub(crate) fn no_register() -> RegisterInfo
 }
 
 /// The bit that is always 1.
-pub(crate) fn always_piece() -> Piece
+pub fn always_piece() -> Piece
     ensures { shape_of result ≡ always }
 {
     Piece::constant(Word::bit(true))

@@ -22,6 +22,7 @@ mod rwire;
 mod serial;
 mod wire;
 
+pub use cells::{always_piece, fits_number, number_of};
 pub use dwire::DWireKind;
 pub use part::Part;
 pub use piece::Piece;

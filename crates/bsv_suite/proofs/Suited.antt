@@ -7,7 +7,7 @@ use Rattle.std.specs.Prelude.{◌==◌, if◌then◌else◌, slice_index_or, Boo
 use Rattle.bsv_design.specs.declared.schedule.Schedule.{Schedule}
 use Rattle.bsv_io.specs.Reading.{Current, Reading, bytes_given, given_of}
 use Rattle.bsv_io.specs.Writing.{Writing, appended, AppendsPrefix}
-use Rattle.bsv_io.proofs.Appended.{AppendsPrefix-more, AppendsPrefix-then, appended-append, appended-nil, nothing_put, whole_put}
+use Rattle.bsv_io.proofs.Appended.{prefix_after, AppendsPrefix-more, AppendsPrefix-then, appended-append, appended-nil, nothing_put, whole_put}
 use Rattle.bsv_clock.specs.Subjects.{Subject}
 use Rattle.bsv_suite.specs.declared.sections.Section.{Section}
 use Rattle.bsv_suite.specs.declared.sections.Trace.{Trace}
@@ -61,10 +61,6 @@ some_left n b is none =
     ]
 
 -- ---- texts
-
--- a prefix of a text that comes after another one
-pub prefix_after : (a b : List ℕ) (first second third : Writing) → second ≡ appended a first → AppendsPrefix b second third → AppendsPrefix (a ++ b) first third
-prefix_after a b first second third put more = AppendsPrefix-then a [] b first second third (whole_put a first second put) (appended-nil second ∙ put) more
 
 pub text_append : (ts us : List Told) → suite_text (ts ++ us) ≡ suite_text ts ++ suite_text us
 text_append [] us = refl
