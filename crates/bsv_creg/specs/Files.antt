@@ -4,7 +4,7 @@
 --
 --   `sub(a)`: word a; `upd(a, v)`, rank 1: word a becomes v; both are always ready
 --   `sub` CF `sub`; `sub` SB `upd`; `upd` C `upd`; nothing is seen
-use Rattle.std.specs.Prelude.{◌≡◌, ℕ, zero, suc, ◌-◌, ◌^◌, ◌<◌, Bool, true, false, List, [], length, replicate, slice_set, slice_index_or}
+use Rattle.std.specs.Prelude.{◌≡◌, ℕ, zero, suc, ◌-◌, ◌^◌, ◌<◌, true, false, List, [], length, replicate, slice_set, slice_index_or}
 use Rattle.bsv_bits.specs.Words.{Bits, zero_word}
 use Rattle.bsv_bits.specs.declared.operator.Operator.TheVariants.{And, Same}
 use Rattle.bsv_prim.specs.QueueState.{QueueState}
@@ -56,6 +56,9 @@ abbrev pub file_argument_width : ℕ → ℕ → ℕ → ℕ
 file_argument_width width address zero = address
 file_argument_width width address (suc k) = width
 
+abbrev pub file_rank : ℕ → ℕ
+file_rank = read_or_write 0 1
+
 abbrev pub file_relation : ℕ → ℕ → Rel
 file_relation zero zero = Cf
 file_relation zero (suc n) = Sb
@@ -92,7 +95,7 @@ file_table width address = record {
   guard = λ m p. true;
   result = λ m p args. word_named width (words_of p) args;
   apply = file_apply;
-  rank = read_or_write 0 1;
+  rank = file_rank;
   relation = file_relation;
   sees = λ m n. false;
   registers = 2 ^ address;

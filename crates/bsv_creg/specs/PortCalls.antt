@@ -10,7 +10,7 @@ use Rattle.bsv_bits.specs.Words.{Bits, bit}
 use Rattle.bsv_prim.specs.Signals.{Signals, is_one, word_of}
 use Rattle.bsv_prim.specs.Table.{Table, Call, word_at, goes_before}
 use Rattle.bsv_prim.specs.Calls.{IsOrderly, MayPrecede, Tells, after_calls, latest}
-use Rattle.bsv_prim.specs.CallLists.{all_weaker}
+use Rattle.bsv_prim.specs.CallLists.{all_weaker, latest_none}
 use Rattle.bsv_prim.specs.Registers.{number_in}
 use Rattle.bsv_prim.specs.declared.part.Part.{Part}
 use Rattle.bsv_prim.specs.declared.primitive.Rel.TheVariants.{Sb, Sa, C}
@@ -37,11 +37,6 @@ abbrev pub IsBelow : ℕ → Call → Type 0
 IsBelow n c = (k : ℕ) → c.method ≡ 2 * k + 1 → k < n
 
 -- ---- lists of calls
-
--- where a method is not called later, its last call stays
-latest_none : (m : ℕ) (o : Option (List Bits)) (cs : List Call) → AllByRecursion (λ c. nat_eq c.method m ≡ false) cs → latest m o cs ≡ o
-latest_none m o [] h = refl
-latest_none m o (c ∷ cs) h = rw h.0 (latest_none m o cs h.1)
 
 fewer_above : (n m : ℕ) → m ≤ n → (cs : List Call) → AllByRecursion (IsAbove n) cs → AllByRecursion (IsAbove m) cs
 fewer_above n m l cs h =

@@ -1,6 +1,6 @@
 -- A register with ports keeps the laws.
 -- Proof alone: it is in specs/ since the `laws` of an impl may cite nothing of proofs/.
-use Rattle.std.proofs.Common.{◌≡◌, ℕ, zero, suc, ◌+◌, ◌*◌, ◌<◌, ◌≤◌, Bool, true, false, List, [], ◌∷◌, refl, ap, sym, ◌∙◌, subst, arith, inl, inr}
+use Rattle.std.proofs.Common.{◌≡◌, ℕ, zero, suc, ◌+◌, ◌*◌, ◌<◌, ◌≤◌, Bool, true, false, List, refl, ap, sym, ◌∙◌, subst, arith, inl, inr}
 use Rattle.std.specs.Prelude.{◌⊎◌, nat_eq, nat_lt, if◌then◌else◌}
 use Rattle.std.specs.List.{AllByRecursion}
 use Rattle.std.proofs.lemmas.Bool.{ltb-true, lt-ltb}
@@ -19,7 +19,7 @@ use Rattle.bsv_prim.specs.declared.part.Part.TheVariants.{Number, Held, Queue}
 use Rattle.bsv_prim.specs.declared.primitive.Rel.TheVariants.{Cf, Sb, Sa, C}
 use Rattle.bsv_creg.specs.declared.method.Method.{Method}
 use Rattle.bsv_creg.specs.declared.method.Method.TheVariants.{Read, Write}
-use Rattle.bsv_creg.specs.Ports.{port_method, port_arity, writes, port_apply, port_relation, port_sees, port_of, number_below, creg_table}
+use Rattle.bsv_creg.specs.Ports.{port_method, writes, port_apply, port_relation, port_sees, port_of, number_below, creg_table}
 use Rattle.bsv_creg.specs.PortRules.{decoded, write_number, creg_rules}
 use Rattle.bsv_creg.specs.PortCalls.{IsBelow, run, told, within, has_argument}
 

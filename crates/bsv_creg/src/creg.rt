@@ -1,11 +1,10 @@
-ghost use Rattle.std.specs.Prelude.{◌≡◌, ◌≤◌, ◌↔◌, IsTrue};
-ghost use Rattle.bsv_prim.specs.Registers.{FitsNumber, number_in};
+ghost use Rattle.std.specs.Prelude.{◌≤◌};
 ghost use Rattle.bsv_prim.specs.Table.{IsWordOf};
 
 use crate::method::Method;
-use crate::pieces::{always_piece, number_piece};
+use crate::pieces::number_piece;
 use bsv_bits::{OutOfMemory, Word};
-use bsv_prim::{Part, Piece, Primitive, RegisterInfo, Rel};
+use bsv_prim::{Part, Piece, Primitive, RegisterInfo, Rel, always_piece, fits_number, number_of};
 use std::alloc::Global;
 
 /// A register with several ports: a read gives what was written through the ports below its own.
@@ -17,28 +16,6 @@ pub struct CRegKind {
     ghost in_range: { IsWordOf width start },
     ghost some_ports: { 2 ≤ ports },
     ghost most_ports: { ports ≤ 5 },
-}
-
-/// Whether the part is a number of so many bits.
-fn fits_number(width: u32, part: &Part) -> bool
-    ensures { IsTrue result ↔ FitsNumber width part.now }
-{
-    match part {
-        Part::Number(word) => word.width() == width,
-        _ => false,
-    }
-}
-
-/// The number of the part; 0 where the part is another.
-fn number_of(width: u32, part: &Part) -> Word
-    requires some { 1 ≤ width }
-    requires most { width ≤ 128 }
-    ensures { result ≡ number_in width part.now }
-{
-    match part {
-        Part::Number(word) => *word,
-        _ => Word::zero(width),
-    }
 }
 
 impl Primitive for CRegKind {

@@ -68,18 +68,10 @@ impl Method {
         match (self, other) {
             (Method::Read(_), Method::Read(_)) => Rel::Cf,
             (Method::Read(reader), Method::Write(writer)) => {
-                if writer < reader {
-                    Rel::Sa
-                } else {
-                    Rel::Sb
-                }
+                if writer < reader { Rel::Sa } else { Rel::Sb }
             }
             (Method::Write(writer), Method::Read(reader)) => {
-                if writer < reader {
-                    Rel::Sb
-                } else {
-                    Rel::Sa
-                }
+                if writer < reader { Rel::Sb } else { Rel::Sa }
             }
             (Method::Write(first), Method::Write(second)) => {
                 if first == second {

@@ -1,19 +1,11 @@
 ghost use Rattle.std.specs.Prelude.{◌≡◌, ◌≤◌, ◌<◌, ◌^◌, IfOk};
 ghost use Rattle.bsv_prim.specs.Shape.{shape_of};
-ghost use Rattle.bsv_prim.specs.Registers.{always};
 ghost use Rattle.bsv_creg.specs.Ports.{number_below};
 ghost use Rattle.bsv_creg.specs.Files.{names, named_register, next_word};
 
 use bsv_bits::{Operator, OutOfMemory, Word};
 use bsv_prim::Piece;
 use std::alloc::Global;
-
-/// The bit that is always 1.
-pub(crate) fn always_piece() -> Piece
-    ensures { shape_of result ≡ always }
-{
-    Piece::constant(Word::bit(true))
-}
 
 /// What is written through the highest port below this one, or else the register's number.
 pub(crate) fn number_piece(alloc: Global, ports: u32) -> Result<Piece, OutOfMemory>

@@ -1,9 +1,9 @@
 ghost use Rattle.std.specs.Prelude.{◌≤◌};
 
-use crate::pieces::{always_piece, named_piece, next_word_piece};
+use crate::pieces::{named_piece, next_word_piece};
 use crate::words::{count_of, fits_file, put_word, word_in, zeros};
 use bsv_bits::{OutOfMemory, Word};
-use bsv_prim::{Part, Piece, Primitive, RegisterInfo, Rel};
+use bsv_prim::{Part, Piece, Primitive, RegisterInfo, Rel, always_piece};
 use std::alloc::Global;
 
 /// A register file: as many words of a width as an address of a width names.
@@ -44,11 +44,7 @@ impl Primitive for RegFileKind {
     }
 
     fn opening(&self, alloc: Global) -> Result<Part, OutOfMemory> {
-        Ok(Part::Queue(zeros(
-            alloc,
-            self.width,
-            count_of(self.address),
-        )?))
+        Ok(Part::Queue(zeros(alloc, self.width, count_of(self.address))?))
     }
 
     fn fits(&self, part: &Part) -> bool {
@@ -114,8 +110,6 @@ impl Primitive for RegFileKind {
         next_word_piece(alloc, self.address, register)
     }
 
-    ghost laws = {
-        λ kind. file_laws kind.width kind.address kind.some_width kind.most_width
-            kind.some_address kind.most_address
-    };
+    ghost laws = { λ kind. file_laws kind.width kind.address kind.some_width kind.most_width
+        kind.some_address kind.most_address };
 }

@@ -3,7 +3,6 @@
 -- nothing of proofs/.
 use Rattle.std.proofs.Common.{◌≡◌, ℕ, zero, suc, ◌<◌, ◌≤◌, Bool, true, false, List, [], ◌∷◌, ◌++◌, length, drop, refl, ap, sym, arith, Option, Some, None}
 use Rattle.std.specs.Prelude.{nat_eq, nat_lt, if◌then◌else◌}
-use Rattle.std.specs.List.{AllByRecursion}
 use Rattle.bsv_bits.specs.Words.{Bits}
 use Rattle.bsv_prim.specs.Table.{Call, IsWordOf, word_at}
 use Rattle.bsv_prim.specs.Calls.{latest}

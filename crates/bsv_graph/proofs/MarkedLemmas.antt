@@ -82,6 +82,7 @@ module _ (test : ℕ → ℕ → Bool) where
       there x y h =
           let p = where_of (from_row 0) n x y h in
           where_has test n x y p.0 p.1 (and_parts (nat_le 0 x) (test x y) p.2).1
+
       back : (x y : ℕ) → HasEdge (edges_where n test) x y → HasEdge (edges_where n (from_row 0)) x y
       back x y h =
           let p = where_of test n x y h in
@@ -99,6 +100,7 @@ module _ (test : ℕ → ℕ → Bool) where
             let r : a + 1 ≤ x = leb-true (a + 1) x q.0 in
             where_has (from_row a) n x y p.0 p.1 (and_from (nat_le a x) (test x y) (le-leb a x (omega arith)) q.1)
       ]
+
       back : (x y : ℕ) → HasEdge (edges_where n (from_row a)) x y → HasEdge (edges_from test n a ++ edges_where n (from_row (a + 1))) x y
       back x y h =
           let p = where_of (from_row a) n x y h in

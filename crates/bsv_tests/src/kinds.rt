@@ -425,7 +425,10 @@ fn ports(rt: HostRuntime) -> Result<(), Fail> {
         start: byte(0),
     });
     let last = Name::new(rt.alloc(), b"_write4")?;
-    assert_eq!(rt; (most.method_number(&last), kind.method_number(&last)), (Some(9), None));
+    assert_eq!(rt;
+        (most.method_number(&last), kind.method_number(&last)),
+        (Some(9), None)
+    );
     Ok(())
 }
 
@@ -449,7 +452,10 @@ fn files(rt: HostRuntime) -> Result<(), Fail> {
     walk(&rt, rt.alloc(), &kind, &file_sheet())?;
     check_names(&rt, rt.alloc(), &kind, &["sub", "upd"])?;
     check_guards(&rt, &kind, &kind.opening(rt.alloc())?, [true; 6]);
-    assert_eq!(rt; (kind.argument_width(1, 0), kind.argument_width(1, 1)), (2, 8));
+    assert_eq!(rt;
+        (kind.argument_width(1, 0), kind.argument_width(1, 1)),
+        (2, 8)
+    );
     assert_eq!(rt; kind.registers(), 4);
     let last = kind.register(3);
     assert!(rt; last.width == 8 && last.start == byte(0) && last.resets);
@@ -459,7 +465,10 @@ fn files(rt: HostRuntime) -> Result<(), Fail> {
     }
     if kind.fits(&part) {
         assert_eq!(rt;
-            (kind.result(0, &part, &[address(2)]), kind.result(0, &part, &[address(1)])),
+            (
+                kind.result(0, &part, &[address(2)]),
+                kind.result(0, &part, &[address(1)])
+            ),
             (byte(7), byte(0))
         );
     }

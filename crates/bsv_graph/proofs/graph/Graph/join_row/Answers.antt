@@ -15,17 +15,17 @@ loop-b-preserved c =
     let up : suc b ≡ b + 1 = omega arith in
     elim c.if-get.branch [
       | then-get w ↦ (
-          ap (λ g. g.reach.side) w.self-is ∙ (w.join.ensures.size ∙ c.loop-b.invariant.0),
-          λ es m. subst (λ g. Marks (passing test a (numbers_below (b + 1)) ++ es) g.reach) (sym w.self-is)
-              (subst (λ k. Marks (passing test a (numbers_below k) ++ es) w.join.new.self.reach) up
-              (row_gains test a b es w.join.new.self.reach (sym c.get.ensures ∙ w.if-get.true) (w.join.ensures.gains _ (c.loop-b.invariant.1 es m)))),
-        )
+        ap (λ g. g.reach.side) w.self-is ∙ (w.join.ensures.size ∙ c.loop-b.invariant.0),
+        λ es m. subst (λ g. Marks (passing test a (numbers_below (b + 1)) ++ es) g.reach) (sym w.self-is)
+            (subst (λ k. Marks (passing test a (numbers_below k) ++ es) w.join.new.self.reach) up
+            (row_gains test a b es w.join.new.self.reach (sym c.get.ensures ∙ w.if-get.true) (w.join.ensures.gains _ (c.loop-b.invariant.1 es m)))),
+      )
       | else-get w ↦ (
-          ap (λ g. g.reach.side) w.self-is ∙ c.loop-b.invariant.0,
-          λ es m. subst (λ g. Marks (passing test a (numbers_below (b + 1)) ++ es) g.reach) (sym w.self-is)
-              (subst (λ k. Marks (passing test a (numbers_below k) ++ es) c.loop-b.self.reach) up
-              (row_skips test a b es c.loop-b.self.reach (sym c.get.ensures ∙ w.if-get.false) (c.loop-b.invariant.1 es m))),
-        )
+        ap (λ g. g.reach.side) w.self-is ∙ c.loop-b.invariant.0,
+        λ es m. subst (λ g. Marks (passing test a (numbers_below (b + 1)) ++ es) g.reach) (sym w.self-is)
+            (subst (λ k. Marks (passing test a (numbers_below k) ++ es) c.loop-b.self.reach) up
+            (row_skips test a b es c.loop-b.self.reach (sym c.get.ensures ∙ w.if-get.false) (c.loop-b.invariant.1 es m))),
+      )
     ]
 
 pub returns-clause-gains : goal.returns-clause-gains

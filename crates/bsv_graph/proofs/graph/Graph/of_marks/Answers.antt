@@ -8,8 +8,7 @@ use Rattle.bsv_graph.proofs.graph.Graph.of_marks.Goals as goal
 pub loop-done-init : goal.loop-done-init
 loop-done-init c =
     let n = side_of c.args.table.now in
-    let e : n ≡ n - 0 = omega arith in
-    (
+    let e : n ≡ n - 0 = omega arith in (
       c.in_ok-graph.ensures.size ∙ c.side-side.ensures,
       subst (λ k. Marks (edges_where n (from_row (at c.args.table.now) k)) c.in_ok-graph.graph.reach) e (no_row (at c.args.table.now) n c.in_ok-graph.graph.reach c.in_ok-graph.ensures.empty),
     )
@@ -25,8 +24,7 @@ loop-done-preserved c =
     let below : n - (done + 1) < n = omega (arith, less) in
     let m = c.join_row.ensures.gains _ c.loop-done.invariant.1 in
     let named = subst (λ k. Marks (edges_from test n (n - (done + 1)) ++ edges_where n (from_row test k)) c.join_row.new.self.reach) after
-        (subst (λ k. Marks (edges_from test n k ++ edges_where n (from_row test (n - done))) c.join_row.new.self.reach) row m) in
-    (
+    (subst (λ k. Marks (edges_from test n k ++ edges_where n (from_row test (n - done))) c.join_row.new.self.reach) row m) in (
       c.join_row.ensures.size ∙ c.loop-done.invariant.0,
       row_more test n c.join_row.new.self.reach (n - (done + 1)) below named,
     )
