@@ -3,3 +3,4 @@ pub mod Named
 pub mod Dotted
 pub mod Bodies
 pub mod Elements
+pub mod MethodNames
