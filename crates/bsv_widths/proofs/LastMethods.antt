@@ -1,5 +1,5 @@
 -- The numbers of a kind's methods.
-use Rattle.std.proofs.Common.{◌≡◌, ℕ, zero, suc, ◌-◌, ◌<◌, ◌≤◌, ◌%◌, Bool, true, false, refl, sym, arith}
+use Rattle.std.proofs.Common.{◌≡◌, ℕ, zero, suc, ◌-◌, ◌<◌, ◌≤◌, ◌%◌, Bool, true, false, refl, sym, ap, ◌∙◌, inl, inr, arith}
 use Rattle.std.specs.Prelude.{nat_eq}
 use Rattle.bsv_design.specs.declared.kind.Kind.{Kind}
 use Rattle.bsv_design.specs.declared.kind.Kind.TheVariants.{Reg, RegU, Wire, DWire, RWire, Pulse, Plain, Pipeline, Bypass, CReg, RegFile}
@@ -8,6 +8,7 @@ use Rattle.bsv_fifo.specs.Queues.{changes, queue_method}
 use Rattle.bsv_prim.specs.Registers.{read_or_write}
 use Rattle.bsv_prim.specs.WireTables.{write_or_read}
 use Rattle.bsv_creg.specs.Ports.{port_method, writes}
+use Rattle.bsv_creg.specs.PortRules.{decoded}
 
 pub some_methods : (k : Kind) → 0 < (kind_table k).methods
 some_methods (Reg k) = omega arith
@@ -40,7 +41,10 @@ queue_last (suc (suc (suc (suc (suc m))))) h = refl
 
 -- of a register with ports every second method acts
 pub second_acts : (m : ℕ) → writes (port_method m) ≡ nat_eq (m % 2) 1
-second_acts m = ?
+second_acts m = elim (decoded m) [
+  | inl h ↦ ap writes h.2 ∙ sym (ap (λ n. nat_eq n 1) (let e : m % 2 ≡ 0 = omega (arith, h.1) in e))
+  | inr h ↦ ap writes h.2 ∙ sym (ap (λ n. nat_eq n 1) (let e : m % 2 ≡ 1 = omega (arith, h.1) in e))
+]
 
 abbrev pub has_ports : Kind → Bool
 has_ports (CReg k) = true
