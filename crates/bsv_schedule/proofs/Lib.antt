@@ -15,3 +15,4 @@ pub mod PlaceLemmas
 pub mod UrgencyLemmas
 pub mod OneUrgency
 pub mod BlockLemmas
+pub mod Noted
