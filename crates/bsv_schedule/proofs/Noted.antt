@@ -1,5 +1,5 @@
 -- What is noted of a use of a part.
-use Rattle.std.proofs.Common.{◌≡◌, ◌<◌, ℕ, Bool, true, List, Option, Some, None, Result, Ok, Err, length, map, ap, sym, ◌∙◌, subst, arith}
+use Rattle.std.proofs.Common.{◌≡◌, ◌<◌, ℕ, Bool, true, List, Some, None, Result, Ok, Err, length, ap, sym, ◌∙◌, subst, arith}
 use Rattle.std.specs.Prelude.{slice_get, IsTrue, IfOk}
 use Rattle.std.proofs.lemmas.Bool.{ltb-true}
 use Rattle.bsv_design.specs.declared.kind.Kind.{Kind}

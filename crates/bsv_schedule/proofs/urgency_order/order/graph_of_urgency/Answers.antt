@@ -1,5 +1,4 @@
-use Rattle.std.proofs.Common.{◌≡◌, ◌<◌, length, arith, ◌∙◌}
-use Rattle.bsv_schedule.specs.relating.Relations.{relating_of}
+use Rattle.std.proofs.Common.{◌<◌, length, arith, ◌∙◌}
 use Rattle.bsv_graph.proofs.WalkLemmas.{none_acyclic}
 use Rattle.bsv_schedule.proofs.UrgencyLemmas.{as_many}
 use Rattle.bsv_schedule.proofs.urgency_order.order.graph_of_urgency.Goals as goal
