@@ -3,4 +3,3 @@ pub mod Named
 pub mod Dotted
 pub mod Bodies
 pub mod Elements
-pub mod MethodNames

@@ -2,11 +2,8 @@ ghost use Rattle.std.specs.Prelude.{◌≡◌, ◌<◌, ◌↔◌, ℕ, Some, If
 ghost use Rattle.bsv_design.specs.parts.Kinds.{kind_table};
 ghost use Rattle.bsv_design.specs.parts.MethodNames.{method_names};
 
-use crate::names::{
-    file_name, port_name, pulse_name, queue_name, register_name, rwire_name, wire_name,
-};
+use crate::names::{pulse_name, queue_name, register_name, rwire_name, wire_name};
 use bsv_bits::{Name, OutOfMemory, Word};
-use bsv_creg::{CRegKind, RegFileKind};
 use bsv_fifo::{BypassKind, PipelineKind, PlainKind};
 use bsv_prim::{
     DWireKind, Part, Piece, Primitive, PulseKind, RWireKind, RegKind, RegUKind, RegisterInfo, Rel,
@@ -26,8 +23,6 @@ pub enum Kind {
     Plain(PlainKind),
     Pipeline(PipelineKind),
     Bypass(BypassKind),
-    CReg(CRegKind),
-    RegFile(RegFileKind),
 }
 
 impl Kind {
@@ -42,8 +37,6 @@ impl Kind {
             Kind::RWire(_) => rwire_name(method),
             Kind::Pulse(_) => pulse_name(method),
             Kind::Plain(_) | Kind::Pipeline(_) | Kind::Bypass(_) => queue_name(method),
-            Kind::CReg(_) => port_name(method),
-            Kind::RegFile(_) => file_name(method),
         }
     }
 
@@ -78,8 +71,6 @@ impl Primitive for Kind {
             Kind::Plain(kind) => kind.methods(),
             Kind::Pipeline(kind) => kind.methods(),
             Kind::Bypass(kind) => kind.methods(),
-            Kind::CReg(kind) => kind.methods(),
-            Kind::RegFile(kind) => kind.methods(),
         }
     }
 
@@ -94,8 +85,6 @@ impl Primitive for Kind {
             Kind::Plain(kind) => kind.arity(method),
             Kind::Pipeline(kind) => kind.arity(method),
             Kind::Bypass(kind) => kind.arity(method),
-            Kind::CReg(kind) => kind.arity(method),
-            Kind::RegFile(kind) => kind.arity(method),
         }
     }
 
@@ -110,8 +99,6 @@ impl Primitive for Kind {
             Kind::Plain(kind) => kind.argument_width(method, argument),
             Kind::Pipeline(kind) => kind.argument_width(method, argument),
             Kind::Bypass(kind) => kind.argument_width(method, argument),
-            Kind::CReg(kind) => kind.argument_width(method, argument),
-            Kind::RegFile(kind) => kind.argument_width(method, argument),
         }
     }
 
@@ -126,8 +113,6 @@ impl Primitive for Kind {
             Kind::Plain(kind) => kind.is_action(method),
             Kind::Pipeline(kind) => kind.is_action(method),
             Kind::Bypass(kind) => kind.is_action(method),
-            Kind::CReg(kind) => kind.is_action(method),
-            Kind::RegFile(kind) => kind.is_action(method),
         }
     }
 
@@ -142,8 +127,6 @@ impl Primitive for Kind {
             Kind::Plain(kind) => kind.opening(alloc),
             Kind::Pipeline(kind) => kind.opening(alloc),
             Kind::Bypass(kind) => kind.opening(alloc),
-            Kind::CReg(kind) => kind.opening(alloc),
-            Kind::RegFile(kind) => kind.opening(alloc),
         }
     }
 
@@ -158,8 +141,6 @@ impl Primitive for Kind {
             Kind::Plain(kind) => kind.fits(part),
             Kind::Pipeline(kind) => kind.fits(part),
             Kind::Bypass(kind) => kind.fits(part),
-            Kind::CReg(kind) => kind.fits(part),
-            Kind::RegFile(kind) => kind.fits(part),
         }
     }
 
@@ -174,8 +155,6 @@ impl Primitive for Kind {
             Kind::Plain(kind) => kind.emptied(part),
             Kind::Pipeline(kind) => kind.emptied(part),
             Kind::Bypass(kind) => kind.emptied(part),
-            Kind::CReg(kind) => kind.emptied(part),
-            Kind::RegFile(kind) => kind.emptied(part),
         }
     }
 
@@ -190,8 +169,6 @@ impl Primitive for Kind {
             Kind::Plain(kind) => kind.guarded(method),
             Kind::Pipeline(kind) => kind.guarded(method),
             Kind::Bypass(kind) => kind.guarded(method),
-            Kind::CReg(kind) => kind.guarded(method),
-            Kind::RegFile(kind) => kind.guarded(method),
         }
     }
 
@@ -206,8 +183,6 @@ impl Primitive for Kind {
             Kind::Plain(kind) => kind.guard(method, part),
             Kind::Pipeline(kind) => kind.guard(method, part),
             Kind::Bypass(kind) => kind.guard(method, part),
-            Kind::CReg(kind) => kind.guard(method, part),
-            Kind::RegFile(kind) => kind.guard(method, part),
         }
     }
 
@@ -222,8 +197,6 @@ impl Primitive for Kind {
             Kind::Plain(kind) => kind.result(method, part, args),
             Kind::Pipeline(kind) => kind.result(method, part, args),
             Kind::Bypass(kind) => kind.result(method, part, args),
-            Kind::CReg(kind) => kind.result(method, part, args),
-            Kind::RegFile(kind) => kind.result(method, part, args),
         }
     }
 
@@ -238,8 +211,6 @@ impl Primitive for Kind {
             Kind::Plain(kind) => kind.apply(method, part, args),
             Kind::Pipeline(kind) => kind.apply(method, part, args),
             Kind::Bypass(kind) => kind.apply(method, part, args),
-            Kind::CReg(kind) => kind.apply(method, part, args),
-            Kind::RegFile(kind) => kind.apply(method, part, args),
         }
     }
 
@@ -254,8 +225,6 @@ impl Primitive for Kind {
             Kind::Plain(kind) => kind.rank(method),
             Kind::Pipeline(kind) => kind.rank(method),
             Kind::Bypass(kind) => kind.rank(method),
-            Kind::CReg(kind) => kind.rank(method),
-            Kind::RegFile(kind) => kind.rank(method),
         }
     }
 
@@ -270,8 +239,6 @@ impl Primitive for Kind {
             Kind::Plain(kind) => kind.relation(first, second),
             Kind::Pipeline(kind) => kind.relation(first, second),
             Kind::Bypass(kind) => kind.relation(first, second),
-            Kind::CReg(kind) => kind.relation(first, second),
-            Kind::RegFile(kind) => kind.relation(first, second),
         }
     }
 
@@ -286,8 +253,6 @@ impl Primitive for Kind {
             Kind::Plain(kind) => kind.sees(seen, by),
             Kind::Pipeline(kind) => kind.sees(seen, by),
             Kind::Bypass(kind) => kind.sees(seen, by),
-            Kind::CReg(kind) => kind.sees(seen, by),
-            Kind::RegFile(kind) => kind.sees(seen, by),
         }
     }
 
@@ -302,8 +267,6 @@ impl Primitive for Kind {
             Kind::Plain(kind) => kind.registers(),
             Kind::Pipeline(kind) => kind.registers(),
             Kind::Bypass(kind) => kind.registers(),
-            Kind::CReg(kind) => kind.registers(),
-            Kind::RegFile(kind) => kind.registers(),
         }
     }
 
@@ -318,8 +281,6 @@ impl Primitive for Kind {
             Kind::Plain(kind) => kind.register(number),
             Kind::Pipeline(kind) => kind.register(number),
             Kind::Bypass(kind) => kind.register(number),
-            Kind::CReg(kind) => kind.register(number),
-            Kind::RegFile(kind) => kind.register(number),
         }
     }
 
@@ -334,8 +295,6 @@ impl Primitive for Kind {
             Kind::Plain(kind) => kind.guard_piece(alloc, method),
             Kind::Pipeline(kind) => kind.guard_piece(alloc, method),
             Kind::Bypass(kind) => kind.guard_piece(alloc, method),
-            Kind::CReg(kind) => kind.guard_piece(alloc, method),
-            Kind::RegFile(kind) => kind.guard_piece(alloc, method),
         }
     }
 
@@ -350,8 +309,6 @@ impl Primitive for Kind {
             Kind::Plain(kind) => kind.result_piece(alloc, method),
             Kind::Pipeline(kind) => kind.result_piece(alloc, method),
             Kind::Bypass(kind) => kind.result_piece(alloc, method),
-            Kind::CReg(kind) => kind.result_piece(alloc, method),
-            Kind::RegFile(kind) => kind.result_piece(alloc, method),
         }
     }
 
@@ -366,8 +323,6 @@ impl Primitive for Kind {
             Kind::Plain(kind) => kind.next_piece(alloc, register),
             Kind::Pipeline(kind) => kind.next_piece(alloc, register),
             Kind::Bypass(kind) => kind.next_piece(alloc, register),
-            Kind::CReg(kind) => kind.next_piece(alloc, register),
-            Kind::RegFile(kind) => kind.next_piece(alloc, register),
         }
     }
 

@@ -1,7 +1,7 @@
 //! The kinds of primitives of a hardware design, as one type, and the design of flat bodies over them.
 //!
 //! Modules in reading order: `computing` (the words that operators give), `names` (the names of the methods), `kind` (the
-//! eleven kinds), `printed` (what is printed of a part), `paths` (the text of a path), `node` and `element` (an element as a
+//! nine kinds), `printed` (what is printed of a part), `paths` (the text of a path), `node` and `element` (an element as a
 //! flat body), `attributes` (what attributes ask of rules), `design` (the design of such bodies, and what holds of it),
 //! `state`, `requests`, `fired` and `schedule` (what a clock takes and gives). The tables are in `specs/parts/Kinds.antt`,
 //! the names in `specs/parts/MethodNames.antt`, and what all later definitions speak of in `specs/scheme/Schemes.antt`.

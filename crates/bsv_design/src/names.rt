@@ -1,7 +1,6 @@
 ghost use Rattle.std.specs.Prelude.{◌≡◌, ◌<◌, Some, slice_get};
 ghost use Rattle.bsv_design.specs.parts.MethodNames.{register_names, wire_names, rwire_names};
 ghost use Rattle.bsv_design.specs.parts.MethodNames.{pulse_names, queue_names};
-ghost use Rattle.bsv_design.specs.parts.MethodNames.{port_names, file_names};
 
 /// The name of a register's method.
 pub(crate) fn register_name(method: u32) -> &'static str
@@ -48,31 +47,4 @@ pub(crate) fn queue_name(method: u32) -> &'static str
         4 => "notEmpty",
         _ => "clear",
     }
-}
-
-/// The name of a method of a register with ports.
-pub(crate) fn port_name(method: u32) -> &'static str
-    requires { method < 10 }
-    ensures { slice_get port_names method ≡ Some result.now }
-{
-    match method {
-        0 => "_read0",
-        1 => "_write0",
-        2 => "_read1",
-        3 => "_write1",
-        4 => "_read2",
-        5 => "_write2",
-        6 => "_read3",
-        7 => "_write3",
-        8 => "_read4",
-        _ => "_write4",
-    }
-}
-
-/// The name of a register file's method.
-pub(crate) fn file_name(method: u32) -> &'static str
-    requires { method < 2 }
-    ensures { slice_get file_names method ≡ Some result.now }
-{
-    if method == 0 { "sub" } else { "upd" }
 }

@@ -5,7 +5,6 @@ ghost use Rattle.bsv_design.specs.parts.Printed.{ShowPart, items_in, word_of, wo
 
 use crate::kind::Kind;
 use bsv_bits::Word;
-use bsv_prim::Primitive;
 
 /// The word of a register.
 fn register_at(registers: &[Word], place: usize) -> Word
@@ -27,14 +26,13 @@ impl Kind {
             Kind::Plain(_) | Kind::Pipeline(_) | Kind::Bypass(_) => {
                 u32::try_from(register_at(registers, 0).value()).ok()
             }
-            Kind::RegFile(kind) => Some(kind.registers()),
-            Kind::Reg(_) | Kind::RegU(_) | Kind::CReg(_) => None,
+            Kind::Reg(_) | Kind::RegU(_) => None,
             Kind::Wire(_) | Kind::DWire(_) | Kind::RWire(_) | Kind::Pulse(_) => None,
         }
     }
 
     /// Of an instance whose registers have these words, the word of a number that is printed: that of a register is
-    /// number 0, those of a queue are its items from the front, and those of a register file its words.
+    /// number 0, and those of a queue are its items from the front.
     pub fn item(&self, registers: &[Word], number: u32) -> Word
         ensures { (p : ThePart) → ShowPart self.now registers.now p → number < words_in p
             → result ≡ word_of p number }
@@ -43,8 +41,7 @@ impl Kind {
             Kind::Plain(_) | Kind::Pipeline(_) | Kind::Bypass(_) => {
                 register_at(registers, number as usize + 1)
             }
-            Kind::RegFile(_) => register_at(registers, number as usize),
-            Kind::Reg(_) | Kind::RegU(_) | Kind::CReg(_) => register_at(registers, 0),
+            Kind::Reg(_) | Kind::RegU(_) => register_at(registers, 0),
             Kind::Wire(_) | Kind::DWire(_) | Kind::RWire(_) | Kind::Pulse(_) => Word::bit(false),
         }
     }

@@ -1,7 +1,8 @@
 -- The design of a tree, and how what is refused of it is told.
-use Rattle.std.proofs.Common.{◌≡◌, ◌∙◌, ℕ, zero, suc, ◌*◌, ◌≤◌, List, [], ◌∷◌, map, length, Option, Some, None, refl, sym, ap, subst}
+use Rattle.std.proofs.Common.{◌≡◌, ◌∙◌, ℕ, zero, suc, ◌≤◌, List, [], ◌∷◌, map, length, Option, Some, None, refl, sym, ap, subst}
 use Rattle.std.specs.Prelude.{slice_get}
 use Rattle.std.proofs.Math.Logic.{∥∥₁_elim, ∥∥₁_prop}
+use Rattle.std.proofs.lemmas.Option.{slice_get_past}
 use Rattle.bsv_design.specs.declared.design.Design.{Design}
 use Rattle.bsv_design.specs.declared.design.NamedPart.{NamedPart}
 use Rattle.bsv_design.specs.declared.element.Element.{Element}
@@ -10,7 +11,6 @@ use Rattle.bsv_design.specs.declared.kind.Kind.TheVariants as kind
 use Rattle.bsv_design.specs.design.Designs.{DesignData}
 use Rattle.bsv_design.specs.parts.Kinds.{kind_table}
 use Rattle.bsv_design.specs.parts.MethodNames.{method_names}
-use Rattle.bsv_design.proofs.MethodNames.{no_more_names}
 use Rattle.bsv_design.specs.scheme.Relations.{KeepsTheRule}
 use Rattle.bsv_design.specs.scheme.Schemes.{Outline, outline, design_scheme, AreAlike}
 use Rattle.bsv_clock.specs.Subjects.{element_name, outline_name}
@@ -36,6 +36,21 @@ pub names_same : (es : List Element) (n : ℕ) → outline_name (slice_get (map 
 names_same [] n = refl
 names_same (e ∷ es) zero = refl
 names_same (e ∷ es) (suc n) = names_same es n
+
+-- a kind has a name for each method, and no more
+as_many : (k : Kind) → length (method_names k) ≡ (kind_table k).methods
+as_many (kind.Reg k) = refl
+as_many (kind.RegU k) = refl
+as_many (kind.Wire k) = refl
+as_many (kind.DWire k) = refl
+as_many (kind.RWire k) = refl
+as_many (kind.Pulse k) = refl
+as_many (kind.Plain k) = refl
+as_many (kind.Pipeline k) = refl
+as_many (kind.Bypass k) = refl
+
+pub no_more_names : (k : Kind) (m : ℕ) → (kind_table k).methods ≤ m → slice_get (method_names k) m ≡ None
+no_more_names k m l = slice_get_past (method_names k) m (subst (λ n. n ≤ m) (sym (as_many k)) l)
 
 module _ (h : TreeData) (b : DesignData) (alike : AreAlike (tree_scheme h) (design_scheme b)) (parts : b.parts ≡ parts_among h.instances) where
   element_same : (n : ℕ) → element_name (design_scheme b) n ≡ element_name (tree_scheme h) n

@@ -19,22 +19,12 @@ fn queue_word(queue: &Queue, number: u32, width: u32) -> Option<Word> {
     }
 }
 
-/// The word of a place of a register file.
-fn file_word(file: &Queue, number: u32) -> Option<Word> {
-    if number < file.len() {
-        Some(file.item(number))
-    } else {
-        None
-    }
-}
-
 /// The word of a register of a part. A wire has no register.
-fn register_word(kind: &Kind, part: &Part, number: u32, width: u32) -> Option<Word> {
-    match (kind, part) {
-        (_, Part::Number(word)) => Some(*word),
-        (_, Part::Held(_)) => None,
-        (Kind::RegFile(_), Part::Queue(file)) => file_word(file, number),
-        (_, Part::Queue(queue)) => queue_word(queue, number, width),
+fn register_word(part: &Part, number: u32, width: u32) -> Option<Word> {
+    match part {
+        Part::Number(word) => Some(*word),
+        Part::Held(_) => None,
+        Part::Queue(queue) => queue_word(queue, number, width),
     }
 }
 
@@ -42,7 +32,7 @@ fn register_word(kind: &Kind, part: &Part, number: u32, width: u32) -> Option<Wo
 fn push_words(words: &mut Vec<Option<Word>>, kind: &Kind, part: &Part) -> Result<(), OutOfMemory> {
     for number in 0..kind.registers() {
         let width = kind.register(number).width;
-        words.push(register_word(kind, part, number, width))?;
+        words.push(register_word(part, number, width))?;
     }
     Ok(())
 }

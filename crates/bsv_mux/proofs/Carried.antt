@@ -13,7 +13,7 @@ use Rattle.bsv_prim.specs.Table.{word_at}
 use Rattle.bsv_prim.specs.declared.part.Part.{Part}
 use Rattle.bsv_design.specs.declared.design.Design.{Design}
 use Rattle.bsv_design.specs.declared.kind.Kind.{Kind}
-use Rattle.bsv_design.specs.declared.kind.Kind.TheVariants.{Reg, RegU, Wire, DWire, RWire, Pulse, Plain, Pipeline, Bypass, CReg, RegFile}
+use Rattle.bsv_design.specs.declared.kind.Kind.TheVariants.{Reg, RegU, Wire, DWire, RWire, Pulse, Plain, Pipeline, Bypass}
 use Rattle.bsv_design.specs.declared.schedule.Schedule.{Schedule}
 use Rattle.bsv_design.specs.design.Bodies.{Target, at}
 use Rattle.bsv_design.specs.design.Designs.{DesignData, IsDesign}
@@ -331,8 +331,6 @@ shows_prop (Pulse k) p r = hlevel
 shows_prop (Plain k) p r = hlevel bits_set
 shows_prop (Pipeline k) p r = hlevel bits_set
 shows_prop (Bypass k) p r = hlevel bits_set
-shows_prop (CReg k) p r = hlevel bits_set
-shows_prop (RegFile k) p r = hlevel bits_set
 
 all_prop : (ks : List Kind) (ps : List Part) (ws : List Bits) → IsProp (Shows ks ps ws)
 all_prop [] [] ws = hlevel

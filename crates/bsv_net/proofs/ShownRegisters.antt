@@ -6,7 +6,7 @@ use Rattle.bsv_prim.specs.Table.{word_at}
 use Rattle.bsv_prim.specs.declared.part.Part.{Part}
 use Rattle.bsv_prim.specs.declared.part.Part.TheVariants.{Number, Held, Queue}
 use Rattle.bsv_design.specs.declared.kind.Kind.{Kind}
-use Rattle.bsv_design.specs.declared.kind.Kind.TheVariants.{Reg, RegU, Wire, DWire, RWire, Pulse, Plain, Pipeline, Bypass, CReg, RegFile}
+use Rattle.bsv_design.specs.declared.kind.Kind.TheVariants.{Reg, RegU, Wire, DWire, RWire, Pulse, Plain, Pipeline, Bypass}
 use Rattle.bsv_design.specs.parts.Kinds.{kind_table}
 use Rattle.bsv_fifo.specs.Queues.{ShowsItems, FitsQueue, items_of}
 use Rattle.bsv_clock.specs.Shows.{Shows}
@@ -34,8 +34,6 @@ shows_same (Pulse k) p f g fits same h = tt
 shows_same (Plain k) p f g fits same h = shows_queue k.width k.depth p f g fits same h
 shows_same (Pipeline k) p f g fits same h = shows_queue k.width 1 p f g fits same h
 shows_same (Bypass k) p f g fits same h = shows_queue k.width 1 p f g fits same h
-shows_same (CReg k) p f g fits same h = sym (same 0 (omega arith)) ∙ h
-shows_same (RegFile k) p f g fits same h = λ r l. sym (same r l) ∙ h r l
 
 word_before : (xs ys : List Bits) (r : ℕ) → r < length xs → word_at xs r ≡ word_at (xs ++ ys) r
 word_before [] ys r l = absurd (omega arith)

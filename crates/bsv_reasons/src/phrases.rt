@@ -30,10 +30,6 @@ fn deed(kind: &Kind, method: u32) -> &'static [u8] {
         Kind::Pulse(_) if first => b"sends it",
         Kind::Wire(_) | Kind::DWire(_) | Kind::Pulse(_) => b"reads it",
         Kind::Plain(_) | Kind::Pipeline(_) | Kind::Bypass(_) => queue_deed(method),
-        Kind::CReg(_) if method % 2 == 0 => b"reads it",
-        Kind::CReg(_) => b"writes it",
-        Kind::RegFile(_) if first => b"reads a word",
-        Kind::RegFile(_) => b"writes a word",
     }
 }
 

@@ -1,7 +1,6 @@
 ghost use Rattle.std.specs.Prelude.{◌≡◌};
 
 use bsv_bits::{Name, OutOfMemory, Word};
-use bsv_creg::{CRegKind, RegFileKind};
 use bsv_design::{Kind, path_of};
 use bsv_fifo::{BypassKind, PipelineKind, PlainKind};
 use bsv_prim::{
@@ -20,10 +19,6 @@ const SA: Rel = Rel::Sa;
 const SBR: Rel = Rel::Sbr;
 
 const C: Rel = Rel::C;
-
-const PORT_NAMES: [&str; 6] = [
-    "_read0", "_write0", "_read1", "_write1", "_read2", "_write2",
-];
 
 const QUEUE_NAMES: [&str; 6] = ["enq", "deq", "first", "notFull", "notEmpty", "clear"];
 
@@ -138,41 +133,6 @@ fn bypass_sheet() -> Sheet {
     );
     sheet.sees[0] = [false, true, true, false, true, false];
     sheet
-}
-
-/// A register with three ports: a read and a write of each.
-fn ports_sheet() -> Sheet {
-    let mut sees = [[false; 6]; 6];
-    sees[1] = [false, false, true, false, true, false];
-    sees[3] = [false, false, false, false, true, false];
-    Sheet {
-        methods: 6,
-        arity: [0, 1, 0, 1, 0, 1],
-        actions: [false, true, false, true, false, true],
-        ranks: [0, 1, 0, 2, 0, 3],
-        guarded: [false; 6],
-        relations: [
-            [CF, SB, CF, SB, CF, SB],
-            [SA, C, SB, SB, SB, SB],
-            [CF, SA, CF, SB, CF, SB],
-            [SA, SA, SA, C, SB, SB],
-            [CF, SA, CF, SA, CF, SB],
-            [SA, SA, SA, SA, SA, C],
-        ],
-        sees,
-    }
-}
-
-fn file_sheet() -> Sheet {
-    Sheet {
-        methods: 2,
-        arity: [1, 2, 0, 0, 0, 0],
-        actions: [false, true, false, false, false, false],
-        ranks: [0, 1, 0, 0, 0, 0],
-        guarded: [false; 6],
-        relations: pair([CF, SB], [SA, C]),
-        sees: [[false; 6]; 6],
-    }
 }
 
 fn needs_threads<T: Send + Sync>(_value: &T) {}
@@ -401,77 +361,6 @@ fn wires(rt: HostRuntime) -> Result<(), Fail> {
         wire.registers() + dwire.registers() + rwire.registers() + pulse.registers(),
         0
     );
-    Ok(())
-}
-
-#[test]
-fn ports(rt: HostRuntime) -> Result<(), Fail> {
-    let kind = Kind::CReg(CRegKind {
-        width: 8,
-        ports: 3,
-        start: byte(0x0c),
-    });
-    walk(&rt, rt.alloc(), &kind, &ports_sheet())?;
-    check_names(&rt, rt.alloc(), &kind, &PORT_NAMES)?;
-    check_guards(&rt, &kind, &kind.opening(rt.alloc())?, [true; 6]);
-    let register = kind.register(0);
-    assert!(rt; register.width == 8 && register.start == byte(0x0c) && register.resets);
-    let mut part = kind.opening(rt.alloc())?;
-    kind.apply(3, &mut part, &[byte(0xc1)]);
-    assert_eq!(rt; kind.result(0, &part, &[]), byte(0xc1));
-    let most = Kind::CReg(CRegKind {
-        width: 8,
-        ports: 5,
-        start: byte(0),
-    });
-    let last = Name::new(rt.alloc(), b"_write4")?;
-    assert_eq!(rt;
-        (most.method_number(&last), kind.method_number(&last)),
-        (Some(9), None)
-    );
-    Ok(())
-}
-
-/// An address of two bits.
-fn address(value: u8) -> Word
-    requires { value < 4 }
-    ensures { result ≡ record { width = 2; value = value } }
-{
-    match Word::new(2, u128::from(value)) {
-        Some(word) => word,
-        None => unreachable!(),
-    }
-}
-
-#[test]
-fn files(rt: HostRuntime) -> Result<(), Fail> {
-    let kind = Kind::RegFile(RegFileKind {
-        width: 8,
-        address: 2,
-    });
-    walk(&rt, rt.alloc(), &kind, &file_sheet())?;
-    check_names(&rt, rt.alloc(), &kind, &["sub", "upd"])?;
-    check_guards(&rt, &kind, &kind.opening(rt.alloc())?, [true; 6]);
-    assert_eq!(rt;
-        (kind.argument_width(1, 0), kind.argument_width(1, 1)),
-        (2, 8)
-    );
-    assert_eq!(rt; kind.registers(), 4);
-    let last = kind.register(3);
-    assert!(rt; last.width == 8 && last.start == byte(0) && last.resets);
-    let mut part = kind.opening(rt.alloc())?;
-    if kind.fits(&part) {
-        kind.apply(1, &mut part, &[address(2), byte(7)]);
-    }
-    if kind.fits(&part) {
-        assert_eq!(rt;
-            (
-                kind.result(0, &part, &[address(2)]),
-                kind.result(0, &part, &[address(1)])
-            ),
-            (byte(7), byte(0))
-        );
-    }
     Ok(())
 }
 

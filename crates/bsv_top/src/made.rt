@@ -104,8 +104,8 @@ fn number_of(kind: Kind, registers: &[Word]) -> Option<Word>
     ensures { (p : ThePart) → ShowPart kind registers.now p → result ≡ spec.number_of p }
 {
     match kind {
-        Kind::Reg(_) | Kind::RegU(_) | Kind::CReg(_) => Some(kind.item(registers, 0)),
-        Kind::Plain(_) | Kind::Pipeline(_) | Kind::Bypass(_) | Kind::RegFile(_) => None,
+        Kind::Reg(_) | Kind::RegU(_) => Some(kind.item(registers, 0)),
+        Kind::Plain(_) | Kind::Pipeline(_) | Kind::Bypass(_) => None,
         Kind::Wire(_) | Kind::DWire(_) | Kind::RWire(_) | Kind::Pulse(_) => None,
     }
 }

@@ -36,7 +36,7 @@ list_line head named places = head ++ names named places ++ line_feed
 
 -- ---- states
 
--- registers, register files and queues have a line, wires have none
+-- registers and queues have a line, wires have none
 abbrev pub has_line : Kind → Bool
 has_line (kind.Reg k) = true
 has_line (kind.RegU k) = true
@@ -47,8 +47,6 @@ has_line (kind.Pulse k) = false
 has_line (kind.Plain k) = true
 has_line (kind.Pipeline k) = true
 has_line (kind.Bypass k) = true
-has_line (kind.CReg k) = true
-has_line (kind.RegFile k) = true
 
 -- the words from the front, as `[8'h05 8'h06]`
 unfoldable pub queue_text : List Bits → List ℕ

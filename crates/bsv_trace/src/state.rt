@@ -8,13 +8,12 @@ use bsv_design::{Kind, NamedPart};
 use bsv_io::{Failed, PutBuffer, Sink, add, add_constant};
 use bsv_prim::{Part, Queue};
 
-/// Whether the state of an instance of the kind has a line: registers, register files and queues have one, wires have none.
+/// Whether the state of an instance of the kind has a line: registers and queues have one, wires have none.
 pub(crate) fn has_line(kind: Kind) -> bool
     ensures { result ≡ texts.has_line kind }
 {
     match kind {
-        Kind::Reg(_) | Kind::RegU(_) | Kind::CReg(_) | Kind::RegFile(_) => true,
-        Kind::Plain(_) | Kind::Pipeline(_) | Kind::Bypass(_) => true,
+        Kind::Reg(_) | Kind::RegU(_) | Kind::Plain(_) | Kind::Pipeline(_) | Kind::Bypass(_) => true,
         Kind::Wire(_) | Kind::DWire(_) | Kind::RWire(_) | Kind::Pulse(_) => false,
     }
 }

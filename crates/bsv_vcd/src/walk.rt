@@ -196,26 +196,6 @@ impl<'a> Look<'a> {
         walk.listing.close()
     }
 
-    /// Adds a register file, the instance of a place: its words, which are so many registers.
-    fn add_file(
-        self,
-        place: u32,
-        name: &[u8],
-        registers: u32,
-        walk: &mut Walk,
-    ) -> Result<(), OutOfMemory> {
-        let first = walk.passed;
-        let width = self.register_width(first);
-        let ty = self.type_of(walk.open.last().copied(), name, width);
-        walk.listing.open(Scope::Parts, Title::Instance(place))?;
-        for number in 0..registers {
-            let source = Source::Register(first.saturating_add(number));
-            let title = Title::Item(number);
-            self.add_held(source, title, ty, width, &mut walk.listing)?;
-        }
-        walk.listing.close()
-    }
-
     /// Adds an instance of a primitive. A wire holds nothing between two clocks, and has no signal.
     fn add_primitive(
         self,
@@ -226,11 +206,10 @@ impl<'a> Look<'a> {
     ) -> Result<(), OutOfMemory> {
         let registers = kind.registers();
         match kind {
-            Kind::Reg(_) | Kind::RegU(_) | Kind::CReg(_) => self.add_register(place, name, walk)?,
+            Kind::Reg(_) | Kind::RegU(_) => self.add_register(place, name, walk)?,
             Kind::Plain(_) | Kind::Pipeline(_) | Kind::Bypass(_) => {
                 self.add_queue(place, name, registers, walk)?;
             }
-            Kind::RegFile(_) => self.add_file(place, name, registers, walk)?,
             Kind::Wire(_) | Kind::DWire(_) | Kind::RWire(_) | Kind::Pulse(_) => {}
         }
         walk.passed = walk.passed.saturating_add(registers);

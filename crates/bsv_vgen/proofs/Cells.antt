@@ -1,5 +1,5 @@
 -- The registers of the module: one for each register of the net, by the names of the parts.
-use Rattle.std.proofs.Common.{◌≡◌, ◌∙◌, ℕ, zero, suc, ◌+◌, ◌^◌, List, [], ◌∷◌, ◌++◌, length, map, Some, refl, sym, ap, ap₂, subst, arith, length-append}
+use Rattle.std.proofs.Common.{◌≡◌, ◌∙◌, ℕ, zero, suc, ◌+◌, List, [], ◌∷◌, ◌++◌, length, map, Some, refl, sym, ap, ap₂, subst, arith, length-append}
 use Rattle.std.specs.Prelude.{slice_get, option_map}
 use Rattle.std.specs.List.{flat_map}
 use Rattle.std.proofs.lemmas.List.{length-map}
@@ -8,7 +8,7 @@ use Rattle.bsv_bits.specs.Words.{IsWord}
 use Rattle.bsv_prim.specs.declared.primitive.RegisterInfo.{RegisterInfo}
 use Rattle.bsv_design.specs.declared.design.NamedPart.{NamedPart}
 use Rattle.bsv_design.specs.declared.kind.Kind.{Kind}
-use Rattle.bsv_design.specs.declared.kind.Kind.TheVariants.{Reg, RegU, Wire, DWire, RWire, Pulse, Plain, Pipeline, Bypass, CReg, RegFile}
+use Rattle.bsv_design.specs.declared.kind.Kind.TheVariants.{Reg, RegU, Wire, DWire, RWire, Pulse, Plain, Pipeline, Bypass}
 use Rattle.bsv_design.specs.parts.Kinds.{kind_table}
 use Rattle.bsv_graph.specs.Edges.{numbers_below}
 use Rattle.bsv_clock.specs.Shows as carrying
@@ -16,16 +16,13 @@ use Rattle.bsv_clock.specs.Shows.{Cell, cell_of, cells_in, cells_of}
 use Rattle.bsv_vtext.specs.declared.tree.VRegister.{VRegister}
 use Rattle.bsv_vgen.specs.Interfaces.{cell}
 use Rattle.bsv_vgen.specs.Modules.{register_of, registers_of}
-use Rattle.bsv_vgen.specs.Names.{verilog_name, item_suffix, item_suffixes, queue_suffixes, suffixes, part_names, register_names}
+use Rattle.bsv_vgen.specs.Names.{verilog_name, item_suffix, queue_suffixes, suffixes, part_names, register_names}
 use Rattle.bsv_graph.proofs.Below.{count_below}
 
 -- ---- as many names as registers
 
-item_count : (count : ℕ) → length (item_suffixes count) ≡ count
-item_count count = length-map (numbers_below count) item_suffix ∙ count_below count
-
 queue_count : (depth : ℕ) → length (queue_suffixes depth) ≡ depth + 1
-queue_count depth = omega (arith, item_count depth)
+queue_count depth = let e = length-map (numbers_below depth) item_suffix ∙ count_below depth in omega (arith, e)
 
 suffix_count : (k : Kind) → length (suffixes k) ≡ (kind_table k).registers
 suffix_count (Reg k) = refl
@@ -37,8 +34,6 @@ suffix_count (Pulse k) = refl
 suffix_count (Plain k) = queue_count k.depth
 suffix_count (Pipeline k) = queue_count 1
 suffix_count (Bypass k) = queue_count 1
-suffix_count (CReg k) = refl
-suffix_count (RegFile k) = item_count (2 ^ k.address)
 
 part_count : (p : NamedPart) → length (part_names p) ≡ length (cells_in p.kind)
 part_count p =

@@ -10,7 +10,6 @@ use Rattle.std.proofs.lemmas.Option.{slice_get_within, same_Some}
 use Rattle.bsv_lemmas.proofs.Places.{mapped_at}
 use Rattle.bsv_ast.specs.Names.{is_lower}
 use Rattle.bsv_types.specs.Names.{distinct}
-use Rattle.bsv_design.specs.declared.design.NamedPart.{NamedPart}
 use Rattle.bsv_design.specs.design.Designs.{DesignData, IsDesign}
 use Rattle.bsv_design.specs.scheme.Schemes.{outline}
 use Rattle.bsv_vtext.specs.declared.tree.VMethod.{VMethod}
@@ -19,11 +18,11 @@ use Rattle.bsv_vtext.specs.declared.tree.VWire.{VWire}
 use Rattle.bsv_vtext.specs.Modules.{Signal, Clock, Reset, Enable, Argument, Ready, Result, Register, Wire, signal_name, name_of_enable, name_of_argument, name_of_result}
 use Rattle.bsv_vtext.specs.Signals.{VModuleData, argument_name, enable_name, ready_name, fire_name}
 use Rattle.bsv_vgen.specs.Interfaces.{IsModuleOf, argument_of}
-use Rattle.bsv_vgen.specs.Names.{verilog_name, suffixes, part_names, numbered_from, fire_wires}
+use Rattle.bsv_vgen.specs.Names.{verilog_name, part_names, numbered_from, fire_wires}
 use Rattle.bsv_vgen.proofs.VerilogPaths.{path_told, dotted_route, verilog_same}
 use Rattle.bsv_vgen.proofs.Places.{Found, in_first, in_second, made_of, before, fires_before, fire_at}
 use Rattle.bsv_vgen.proofs.Spellings.{Sort, Clocks, Resets, Enables, Arguments, Readies, Results, Registers, Wires, sort, clock_sort, reset_sort, enable_sort, argument_sort, ready_sort, result_sort, register_sort, numbered_sort, fire_sort, argument_told, numbered_or_fire}
-use Rattle.bsv_vgen.proofs.Suffixes.{first_item, suffix_at, suffix_same}
+use Rattle.bsv_vgen.proofs.Suffixes.{suffix_at, suffix_same}
 use Rattle.bsv_vgen.proofs.NamesRight.{method_of, method_right, argument_right, RegisterOf, register_at, register_small, register_after, wire_at, wire_numbered, wire_route}
 use Rattle.bsv_types.proofs.Distinct.{distinct_places}
 
@@ -209,11 +208,9 @@ module _ (b : DesignData) (right : IsDesign b) (m : VModuleData) (made : IsModul
       (dotted_route p.part.path (right.paths p.number p.part p.at)) x.capital y.capital (first ∙ same ∙ sym second) in
       let number = right.parts_apart o.number p.number o.part p.part o.at p.at parts.0 in
       let suffix : o.suffix ≡ p.suffix = x.is ∙ ap (λ (t : List ℕ). 36 ∷ t) parts.1 ∙ sym y.is in
-      let part : p.part ≡ o.part = same_Some p.part o.part (sym p.at ∙ ap (slice_get b.parts) (sym number) ∙ o.at) in
-      let has = subst (λ (q : NamedPart). slice_get (suffixes q.kind) p.inner ≡ Some p.suffix) part p.has in
-      let inner = suffix_same (first_item o.part.kind) o.inner p.inner p.suffix (register_small b right m made few_registers few_wires k r e o)
+      let inner = suffix_same o.inner p.inner p.suffix (register_small b right m made few_registers few_wires k r e o)
       (register_small b right m made few_registers few_wires l s f p)
-      (suffix_at o.part.kind o.inner p.suffix (o.has ∙ ap Some suffix)) (suffix_at o.part.kind p.inner p.suffix has) in
+      (suffix_at o.part.kind o.inner p.suffix (o.has ∙ ap Some suffix)) (suffix_at p.part.kind p.inner p.suffix p.has) in
       o.place ∙ ap₂ (λ (n i : ℕ). before part_names b.parts n + i) number inner ∙ sym p.place
 
   wires_apart : (k l : ℕ) (v w : VWire) → k < 2 ^ 64 → l < 2 ^ 64 → Found (numbered_from 0 made.widths) (fire_wires (map outline b.elements)) k v

@@ -26,7 +26,7 @@ use Rattle.bsv_vgen.specs.Names.{register_names, part_names, suffixes, verilog_n
 use Rattle.bsv_vgen.proofs.VerilogPaths.{IsRoute, lower_route, dotted_route, lower_stays}
 use Rattle.bsv_vgen.proofs.Spellings.{fire_named, numbered_named, register_named, numbered_or_fire}
 use Rattle.bsv_vgen.proofs.Places.{Found, in_first, in_second, found, made_of, before, from_one, numbered_at, IsFire, fire_at, fire_of}
-use Rattle.bsv_vgen.proofs.Suffixes.{first_item, suffix_at, IsAfter, suffix_after}
+use Rattle.bsv_vgen.proofs.Suffixes.{suffix_at, IsAfter, suffix_after}
 
 -- ---- elements
 
@@ -112,7 +112,7 @@ module _ (b : DesignData) (right : IsDesign b) (m : VModuleData) (made : IsModul
   register_small k r e o = omega (arith, o.place, slice_get_within m.registers k r e)
 
   pub register_after : (k : ℕ) (r : VRegister) → slice_get m.registers k ≡ Some r → (o : RegisterOf b.parts k r.name) → IsAfter o.suffix
-  register_after k r e o = suffix_after (first_item o.part.kind) o.inner o.suffix (register_small k r e o) (suffix_at o.part.kind o.inner o.suffix o.has)
+  register_after k r e o = suffix_after o.inner o.suffix (register_small k r e o) (suffix_at o.part.kind o.inner o.suffix o.has)
 
   pub register_right : (k : ℕ) (r : VRegister) → slice_get m.registers k ≡ Some r → IsTrue (is_signal_name r.name)
   register_right k r e =

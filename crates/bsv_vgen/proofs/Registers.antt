@@ -6,7 +6,7 @@ use Rattle.bsv_bits.specs.Words.{Bits}
 use Rattle.bsv_prim.specs.Table.{word_at}
 use Rattle.bsv_prim.specs.declared.part.Part.{Part}
 use Rattle.bsv_design.specs.declared.kind.Kind.{Kind}
-use Rattle.bsv_design.specs.declared.kind.Kind.TheVariants.{Reg, RegU, Wire, DWire, RWire, Pulse, Plain, Pipeline, Bypass, CReg, RegFile}
+use Rattle.bsv_design.specs.declared.kind.Kind.TheVariants.{Reg, RegU, Wire, DWire, RWire, Pulse, Plain, Pipeline, Bypass}
 use Rattle.bsv_design.specs.parts.Kinds.{kind_table, kind_laws}
 use Rattle.bsv_design.specs.scheme.States.{FitsKinds, opening}
 use Rattle.bsv_graph.specs.Edges.{numbers_below}
@@ -68,8 +68,6 @@ resets_are (Pulse k) r l = absurd (omega (arith, l))
 resets_are (Plain k) r l = refl
 resets_are (Pipeline k) r l = refl
 resets_are (Bypass k) r l = refl
-resets_are (CReg k) r l = refl
-resets_are (RegFile k) r l = refl
 
 -- ---- the start
 

@@ -1,11 +1,11 @@
 -- The names of a design in Verilog: those of its registers, and of the wires that tell what fires. A dot of a path is
 -- written as `$` (IEEE 1364-2005, 3.7: a name has letters, digits, `_` and `$`).
-use Rattle.std.specs.Prelude.{ℕ, ◌+◌, ◌^◌, ◌==◌, List, [], ◌∷◌, ◌++◌, map, cond, codes, decimal, if◌then◌else◌}
+use Rattle.std.specs.Prelude.{ℕ, ◌+◌, ◌==◌, List, [], ◌∷◌, ◌++◌, map, cond, codes, decimal, if◌then◌else◌}
 use Rattle.std.specs.List.{flat_map}
 use Rattle.bsv_graph.specs.Edges.{numbers_below}
 use Rattle.bsv_design.specs.declared.design.NamedPart.{NamedPart}
 use Rattle.bsv_design.specs.declared.kind.Kind.{Kind}
-use Rattle.bsv_design.specs.declared.kind.Kind.TheVariants.{Reg, RegU, Wire, DWire, RWire, Pulse, Plain, Pipeline, Bypass, CReg, RegFile}
+use Rattle.bsv_design.specs.declared.kind.Kind.TheVariants.{Reg, RegU, Wire, DWire, RWire, Pulse, Plain, Pipeline, Bypass}
 use Rattle.bsv_design.specs.design.Roles.{is_value}
 use Rattle.bsv_design.specs.scheme.Schemes.{Outline}
 use Rattle.bsv_vtext.specs.declared.tree.VWire.{VWire}
@@ -20,16 +20,12 @@ verilog_name path = map written path
 
 -- ---- registers: after the path of their part
 
+-- a queue has the number of its items, and then its items
 abbrev pub item_suffix : ℕ → List ℕ
 item_suffix k = codes "$D" ++ decimal k
 
--- a register file has its words
-abbrev pub item_suffixes : ℕ → List (List ℕ)
-item_suffixes count = map item_suffix (numbers_below count)
-
--- a queue has the number of its items, and then its items
 abbrev pub queue_suffixes : ℕ → List (List ℕ)
-queue_suffixes depth = codes "$N" ∷ item_suffixes depth
+queue_suffixes depth = codes "$N" ∷ map item_suffix (numbers_below depth)
 
 abbrev pub suffixes : Kind → List (List ℕ)
 suffixes (Reg k) = codes "$Q" ∷ []
@@ -41,8 +37,6 @@ suffixes (Pulse k) = []
 suffixes (Plain k) = queue_suffixes k.depth
 suffixes (Pipeline k) = queue_suffixes 1
 suffixes (Bypass k) = queue_suffixes 1
-suffixes (CReg k) = codes "$Q" ∷ []
-suffixes (RegFile k) = item_suffixes (2 ^ k.address)
 
 abbrev pub part_names : NamedPart → List (List ℕ)
 part_names p = map (λ s. verilog_name p.path ++ s) (suffixes p.kind)

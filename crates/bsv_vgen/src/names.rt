@@ -4,7 +4,6 @@ ghost use Rattle.bsv_vtext.specs.Signals.{fire_name};
 
 use bsv_bits::{Name, OutOfMemory};
 use bsv_design::{Kind, NamedPart};
-use bsv_prim::Primitive;
 use itoa::Buffer;
 use sqlite_items::Items;
 use std::alloc::Global;
@@ -61,30 +60,13 @@ fn register_name(alloc: Global, path: &[u8], suffix: &[u8]) -> Result<Name, OutO
     Name::new(alloc, text.as_slice())
 }
 
-/// The name of the register of an item of a queue, or of a word of a register file.
+/// The name of the register of an item of a queue.
 fn item_name(alloc: Global, path: &[u8], number: u32) -> Result<Name, OutOfMemory>
     ensures { IfOk result (λ name. name
         ≡ spec.verilog_name path.now ++ spec.item_suffix number) }
 {
     let suffix = with_number(alloc, b"$D", number)?;
     register_name(alloc, path, suffix.bytes())
-}
-
-/// Adds the names of the registers of so many items.
-fn add_items(
-    alloc: Global,
-    names: &mut Items<Name>,
-    path: &[u8],
-    count: u32,
-) -> Result<(), OutOfMemory>
-    ensures { OnOk result (names.new ≡ names.old
-        ++ map (λ s. spec.verilog_name path.now ++ s) (spec.item_suffixes count)) }
-{
-    for number in 0..count {
-        let item = item_name(alloc, path, number)?;
-        names.push(item)?;
-    }
-    Ok(())
 }
 
 /// Adds the names of the registers of a queue.
@@ -99,7 +81,11 @@ fn add_queue(
 {
     let count = register_name(alloc, path, b"$N")?;
     names.push(count)?;
-    add_items(alloc, names, path, depth)
+    for number in 0..depth {
+        let item = item_name(alloc, path, number)?;
+        names.push(item)?;
+    }
+    Ok(())
 }
 
 /// Adds the names of the registers of a part.
@@ -108,14 +94,13 @@ fn add_part(alloc: Global, names: &mut Items<Name>, part: &NamedPart) -> Result<
 {
     let path = part.path.bytes();
     match part.kind {
-        Kind::Reg(_) | Kind::RegU(_) | Kind::CReg(_) => {
+        Kind::Reg(_) | Kind::RegU(_) => {
             let name = register_name(alloc, path, b"$Q")?;
             names.push(name)?;
             Ok(())
         }
         Kind::Plain(queue) => add_queue(alloc, names, path, queue.depth),
         Kind::Pipeline(_) | Kind::Bypass(_) => add_queue(alloc, names, path, 1),
-        Kind::RegFile(file) => add_items(alloc, names, path, file.registers()),
         Kind::Wire(_) | Kind::DWire(_) | Kind::RWire(_) | Kind::Pulse(_) => Ok(()),
     }
 }

@@ -26,20 +26,14 @@ pub(crate) fn answer_width(kind: &Kind, method: u32) -> u32
         Kind::Plain(kind) => queue_answer_width(kind.width, method),
         Kind::Pipeline(kind) => queue_answer_width(kind.width, method),
         Kind::Bypass(kind) => queue_answer_width(kind.width, method),
-        Kind::CReg(kind) => kind.width,
-        Kind::RegFile(kind) => kind.width,
     }
 }
 
-/// Whether a method acts. Of a register with ports every second one does; of another kind a number after the last method
-/// stands for the last one.
-#[tactic(auto, using(crate::proofs::LastMethods::some_methods, crate::proofs::LastMethods::last_stands, crate::proofs::LastMethods::second_acts))]
+/// Whether a method acts. A number after the last method stands for the last one.
+#[tactic(auto, using(crate::proofs::LastMethods::some_methods, crate::proofs::LastMethods::last_stands))]
 pub(crate) fn acts(kind: &Kind, method: u32) -> bool
     ensures { result ≡ (kind_table kind.now).is_action method }
 {
-    if let Kind::CReg(_) = kind {
-        return method % 2 == 1;
-    }
     let methods = kind.methods();
     if method < methods {
         kind.is_action(method)

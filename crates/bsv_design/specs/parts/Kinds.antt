@@ -13,12 +13,8 @@ use Rattle.bsv_fifo.specs.Pipeline.{pipeline_table}
 use Rattle.bsv_fifo.specs.PipelineLaws.{pipeline_laws}
 use Rattle.bsv_fifo.specs.Bypass.{bypass_table}
 use Rattle.bsv_fifo.specs.BypassLaws.{bypass_laws}
-use Rattle.bsv_creg.specs.Ports.{creg_table}
-use Rattle.bsv_creg.specs.PortLaws.{creg_laws}
-use Rattle.bsv_creg.specs.Files.{file_table}
-use Rattle.bsv_creg.specs.FileLaws.{file_laws}
 use Rattle.bsv_design.specs.declared.kind.Kind.{Kind}
-use Rattle.bsv_design.specs.declared.kind.Kind.TheVariants.{Reg, RegU, Wire, DWire, RWire, Pulse, Plain, Pipeline, Bypass, CReg, RegFile}
+use Rattle.bsv_design.specs.declared.kind.Kind.TheVariants.{Reg, RegU, Wire, DWire, RWire, Pulse, Plain, Pipeline, Bypass}
 
 abbrev pub kind_table : Kind → Table
 kind_table (Reg k) = reg_table k.width k.start
@@ -30,8 +26,6 @@ kind_table (Pulse k) = wire_table pulse_row
 kind_table (Plain k) = plain_table k.width k.depth
 kind_table (Pipeline k) = pipeline_table k.width
 kind_table (Bypass k) = bypass_table k.width
-kind_table (CReg k) = creg_table k.width k.ports k.start
-kind_table (RegFile k) = file_table k.width k.address
 
 pub kind_laws : (kind : Kind) → Laws (kind_table kind)
 kind_laws (Reg k) = reg_laws k.width k.start k.in_range
@@ -43,5 +37,3 @@ kind_laws (Pulse k) = pulse_kind_laws
 kind_laws (Plain k) = plain_laws k.width k.depth k.some_width k.most_width k.some_depth k.most_depth
 kind_laws (Pipeline k) = pipeline_laws k.width k.some_width k.most_width
 kind_laws (Bypass k) = bypass_laws k.width k.some_width k.most_width
-kind_laws (CReg k) = creg_laws k.width k.ports k.start k.in_range
-kind_laws (RegFile k) = file_laws k.width k.address k.some_width k.most_width k.some_address k.most_address

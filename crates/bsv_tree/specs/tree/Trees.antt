@@ -73,8 +73,6 @@ held_width (kinds.Pulse k) = 1
 held_width (kinds.Plain k) = k.width
 held_width (kinds.Pipeline k) = k.width
 held_width (kinds.Bypass k) = k.width
-held_width (kinds.CReg k) = k.width
-held_width (kinds.RegFile k) = k.width
 
 abbrev pub interface_of : Option Module → Option Sort
 interface_of None = None
